@@ -1,0 +1,81 @@
+-- One test implies another, as a record, so that `search mono` finds the way through `&&`, `||`, `cond` and the orders; and
+-- what a test that holds or fails says of its parts.
+use mathlib.Core.Bool.{Bool, true, false, cond, not, _&&_, _||_}
+use mathlib.Core.Logic.{_⊎_, inl, inr}
+use mathlib.Core.Path.{_≡_, refl}
+use Prim.Native.Nat.{ℕ, _*_, _≤_, zero-le}
+use native.Mathlib.Nat.{le-refl, mul-le-mul-left, mul-le-mul-right}
+use native.Mathlib.Omega.{arith}
+use lib.Dec.{T, ltb, leb, ltb→lt, lt→ltb, leb→le, le→leb}
+
+infix 20 _⇒_
+pub record _⇒_ (a b : Bool) : Type 0 where
+  pub give : T a → T b
+
+pub keep : (a : Bool) → a ⇒ a
+keep a = record { give = λ t. t }
+
+pub and-mono : {a b a′ b′ : Bool} → a ⇒ a′ → b ⇒ b′ → (a && b) ⇒ (a′ && b′)
+and-mono {a} {b} {a′} {b′} f g = record { give = go a a′ (f .give) (g .give) }
+  where
+    go : (x x′ : Bool) → (T x → T x′) → (T b → T b′) → T (x && b) → T (x′ && b′)
+    go true true f g t = g t
+    go true false f g t = absurd (f tt)
+    go false x′ f g t = absurd t
+
+pub or-mono : {a b a′ b′ : Bool} → a ⇒ a′ → b ⇒ b′ → (a || b) ⇒ (a′ || b′)
+or-mono {a} {b} {a′} {b′} f g = record { give = go a a′ (f .give) (g .give) }
+  where
+    go : (x x′ : Bool) → (T x → T x′) → (T b → T b′) → T (x || b) → T (x′ || b′)
+    go x true f g t = tt
+    go true false f g t = absurd (f tt)
+    go false false f g t = g t
+
+pub ltb-mono : (m : ℕ) {n n′ : ℕ} → n ≤ n′ → ltb m n ⇒ ltb m n′
+ltb-mono m {n} {n′} g = record { give = λ t. omega (arith, ltb→lt, lt→ltb) }
+
+pub leb-mono : (m : ℕ) {n n′ : ℕ} → n ≤ n′ → leb m n ⇒ leb m n′
+leb-mono m {n} {n′} g = record { give = λ t. omega (arith, leb→le, le→leb) }
+
+-- one choice, made by the same test in both
+pub cond-mono : (b : Bool) {x y x′ y′ : Bool} → (T b → x ⇒ x′) → (T (not b) → y ⇒ y′) → cond b x y ⇒ cond b x′ y′
+cond-mono true f g = f tt
+cond-mono false f g = g tt
+
+-- a larger amount, counted where a test passes that passes more often
+pub count-le : {p q : Bool} {x y : ℕ} → p ⇒ q → x ≤ y → cond p x 0 ≤ cond q y 0
+count-le {p} {q} {x} {y} f h = go p q (f .give)
+  where
+    go : (p q : Bool) → (T p → T q) → cond p x 0 ≤ cond q y 0
+    go true true f = h
+    go true false f = absurd (f tt)
+    go false q f = zero-le
+
+pub ruleset mono = (or-mono, and-mono, keep, ltb-mono, leb-mono, le-refl, mul-le-mul-left, mul-le-mul-right)
+
+-- a test as an equation
+pub T→true : (b : Bool) → T b → b ≡ true
+T→true true t = refl
+T→true false t = absurd t
+
+pub true→T : (b : Bool) → b ≡ true → T b
+true→T b e = rw e tt
+
+-- the parts of an && that holds, and of an || that fails
+pub and-l : (x y : Bool) → (x && y) ≡ true → x ≡ true
+and-l true y h = refl
+and-l false y h = h
+
+pub and-r : (x y : Bool) → (x && y) ≡ true → y ≡ true
+and-r true y h = h
+and-r false true h = refl
+and-r false false h = h
+
+pub or-l : (x y : Bool) → (x || y) ≡ false → x ≡ false
+or-l true y h = h
+or-l false y h = refl
+
+pub or-r : (x y : Bool) → (x || y) ≡ false → y ≡ false
+or-r true true h = h
+or-r true false h = refl
+or-r false y h = h

@@ -1,0 +1,5 @@
+pub mod Implies
+pub mod BoundedLaws
+pub mod MaskLaws
+pub mod ByteLaws
+pub mod WordLaws

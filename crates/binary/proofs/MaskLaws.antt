@@ -1,0 +1,85 @@
+-- Masks: a mask is below 2 ^ n, bit i of the mask of p is p i, and one turn of the loop that builds a mask.
+use Prim.Native.Nat.{ℕ, zero, suc, _+_, _-_, _*_, _/_, _%_, _^_, _≤_, _<_, zero-le}
+use mathlib.Core.Bool.{Bool, true, false, cond}
+use mathlib.Core.Path.{_≡_, refl, sym, ap, ap₂, subst, _∙_}
+use mathlib.Core.Logic.{⊎-elim}
+use native.Mathlib.Numerals.{add-one}
+use native.Mathlib.Omega.{arith}
+use native.Mathlib.Nat.{add-zero, mul-comm, div-eq-of-lt, add-div-right, add-mul-div-left, add-mul-mod-self-left, pow-suc, le-refl, lt-of-lt-of-le, eq-or-lt-of-le, le-of-suc-le-suc, not-suc-le-zero}
+use lib.Dec.{eqb, lit<}
+use lib.Pow.{pow-pos, pow-add, pow-mono}
+use Rattle.binary.specs.Bounded.{maskTo, bitOf}
+
+pub mask-none : (p : ℕ → Bool) → 0 ≡ maskTo 0 p
+unfolding maskTo
+mask-none p = refl
+
+pub mask-more : (n : ℕ) (p : ℕ → Bool) → maskTo (n + 1) p ≡ maskTo n p + cond (p n) (2 ^ n) 0
+unfolding maskTo
+mask-more n p = rw add-one
+
+pub mask-same : (n : ℕ) (p q : ℕ → Bool) → ((i : ℕ) → i < n → p i ≡ q i) → maskTo n p ≡ maskTo n q
+unfolding maskTo
+mask-same zero p q h = refl
+mask-same (suc n) p q h =
+    ap₂ (λ (m : ℕ) (t : Bool). m + cond t (2 ^ n) 0) (mask-same n p q (λ i l. h i (omega arith))) (h n (omega arith))
+
+cond-le : (c : Bool) (x : ℕ) → cond c x 0 ≤ x
+cond-le true x = le-refl x
+cond-le false x = zero-le
+
+pub mask-lt : (n : ℕ) (p : ℕ → Bool) → maskTo n p < 2 ^ n
+unfolding maskTo
+mask-lt zero p = lit< tt
+mask-lt (suc n) p = omega (arith, mask-lt n p, cond-le (p n) (2 ^ n), pow-suc 2 n)
+
+-- a bit past the width is not set
+pub bit-past : (n mask i : ℕ) → mask < 2 ^ n → n ≤ i → bitOf mask i ≡ false
+unfolding bitOf
+bit-past n mask i m l = rw (div-eq-of-lt (lt-of-lt-of-le m (pow-mono {i = n} l)))
+
+-- a multiple of 2 ^ (i + 1) does not touch bit i
+below-kept : (m i k : ℕ) → (m + 2 ^ (i + suc k)) / 2 ^ i % 2 ≡ m / 2 ^ i % 2
+below-kept m i k =
+    let e : 2 ^ (i + suc k) ≡ 2 ^ i * (2 * 2 ^ k) = pow-add 2 i (suc k) ∙ ap (λ (x : ℕ). 2 ^ i * x) (pow-suc 2 k ∙ mul-comm (2 ^ k) 2) in
+    rw (e, add-mul-div-left m (2 * 2 ^ k) (pow-pos i)) (add-mul-mod-self-left (m / 2 ^ i) 2 (2 ^ k))
+
+top : (m n : ℕ) (b : Bool) → m < 2 ^ n → eqb ((m + cond b (2 ^ n) 0) / 2 ^ n % 2) 1 ≡ b
+top m n true l = rw (add-div-right m (pow-pos n), div-eq-of-lt l)
+top m n false l = rw (add-zero m, div-eq-of-lt l)
+
+kept : (m i n : ℕ) (b : Bool) → i < n → eqb ((m + cond b (2 ^ n) 0) / 2 ^ i % 2) 1 ≡ eqb (m / 2 ^ i % 2) 1
+kept m i n true l =
+    let e : n ≡ i + suc (n - suc i) = omega arith in
+    ap (λ (x : ℕ). eqb x 1) (subst (λ (j : ℕ). (m + 2 ^ j) / 2 ^ i % 2 ≡ m / 2 ^ i % 2) (sym e) (below-kept m i (n - suc i)))
+kept m i n false l = rw (add-zero m)
+
+pub bit-mask : (n i : ℕ) (p : ℕ → Bool) → i < n → bitOf (maskTo n p) i ≡ p i
+unfolding maskTo bitOf
+bit-mask zero i p l = absurd (not-suc-le-zero l)
+bit-mask (suc n) i p l =
+    ⊎-elim
+    (λ q. subst (λ (k : ℕ). eqb ((maskTo n p + cond (p n) (2 ^ n) 0) / 2 ^ k % 2) 1 ≡ p k) (sym q) (top (maskTo n p) n (p n) (mask-lt n p)))
+    (λ k. kept (maskTo n p) i n (p n) k ∙ bit-mask n i p k)
+    (eq-or-lt-of-le (le-of-suc-le-suc l))
+
+-- one turn of the loop that builds a mask of at most 31 bits with a weight that doubles
+pub record MaskTurn (i mask weight x : ℕ) (p : ℕ → Bool) : Type 0 where
+  pub mask-fits : mask + x < 4294967296
+  pub weight-fits : weight * 2 < 4294967296
+  pub weight-next : weight * 2 ≡ 2 ^ (i + 1)
+  pub mask-next : mask + x ≡ maskTo (i + 1) p
+
+weight-more : (i : ℕ) → 2 ^ i * 2 ≡ 2 ^ (i + 1)
+weight-more i = sym (rw add-one (pow-suc 2 i))
+
+pub mask-turn : (i mask weight x : ℕ) (p : ℕ → Bool)
+    → i < 31 → weight ≡ 2 ^ i → mask ≡ maskTo i p → x ≡ cond (p i) weight 0 → MaskTurn i mask weight x p
+mask-turn i mask weight x p lt w m e =
+    let small : 2 ^ i ≤ 1073741824 = pow-mono {j = 30} (le-of-suc-le-suc lt) in
+    record {
+      mask-fits = omega (arith, mask-lt i p, cond-le (p i) weight);
+      weight-fits = omega arith;
+      weight-next = ap (λ (k : ℕ). k * 2) w ∙ weight-more i;
+      mask-next = rw (mask-more, e, m, w);
+    }
