@@ -4,7 +4,7 @@ use Prim.Native.Nat.{ℕ, zero, suc, _+_, _*_, _≤_, _<_, zero-le}
 use mathlib.Core.Bool.{Bool, true, false, cond, _&&_, _||_, and-false, or-true}
 use mathlib.Core.Logic.{⊎-elim}
 use mathlib.Core.Path.{_≡_, refl, sym, ap, ap₂, subst, _∙_}
-use native.Mathlib.Nat.{le-refl, add-le-add, eq-or-lt-of-le, le-of-suc-le-suc, not-suc-le-zero}
+use native.Mathlib.Nat.{le-refl, add-le-add, mul-le-mul, eq-or-lt-of-le, le-of-suc-le-suc, not-suc-le-zero}
 use native.Mathlib.Numerals.{add-one}
 use native.Mathlib.Omega.{arith}
 use lib.Dec.{ltb}
@@ -121,6 +121,10 @@ all-mono zero p q h = keep true
 all-mono (suc n) p q h = and-mono (all-mono n p q (λ i l. h i (omega arith))) (h n (omega arith))
 
 -- ---- bounds
+
+-- with both bounds written out, as omega wants them
+pub product-bound : (x y m n : ℕ) → x ≤ m → y ≤ n → x * y ≤ m * n
+product-bound x y m n p q = mul-le-mul p q
 
 pub sum-bound : (n : ℕ) (f : ℕ → ℕ) (b : ℕ) → ((i : ℕ) → i < n → f i ≤ b) → sumTo n f ≤ n * b
 unfolding sumTo

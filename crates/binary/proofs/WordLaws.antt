@@ -1,11 +1,12 @@
 -- Bounds of the two parts of a signed word, and what its range says.
-use Prim.Native.Nat.{ℕ, _+_, _-_, _^_, _≤_, _<_, zero-le}
+use Prim.Native.Nat.{ℕ, suc, _-_, _*_, _^_, _≤_, _<_, zero-le}
 use mathlib.Core.Bool.{Bool, true, false, cond, _&&_}
-use mathlib.Core.Path.{_≡_, refl}
-use native.Mathlib.Nat.{le-refl}
+use mathlib.Core.Path.{_≡_, refl, ap, _∙_}
+use native.Mathlib.Nat.{le-refl, pow-suc}
 use native.Mathlib.Omega.{arith}
 use lib.Dec.{ltb, leb}
-use borrow.Author.Tests.{leb-true}
+use lib.Pow.{pow-pos}
+use borrow.Author.Tests.{ltb-true, ltb-false, leb-true}
 use Rattle.binary.specs.Word.{positivePart, negativePart, within}
 use Rattle.binary.proofs.Implies.{and-l, and-r}
 
@@ -16,6 +17,25 @@ positive-le bits w = go (ltb w (2 ^ (bits - 1)))
     go : (b : Bool) → cond b w 0 ≤ w
     go true = le-refl w
     go false = zero-le
+
+pub positive-lt : (bits w : ℕ) → positivePart bits w < 2 ^ (bits - 1)
+unfolding positivePart
+positive-lt bits w = go (ltb w (2 ^ (bits - 1))) refl
+  where
+    go : (b : Bool) → ltb w (2 ^ (bits - 1)) ≡ b → cond b w 0 < 2 ^ (bits - 1)
+    go true e = ltb-true w (2 ^ (bits - 1)) e
+    go false e = pow-pos (bits - 1)
+
+pub negative-le : (bits w : ℕ) → 0 < bits → negativePart bits w ≤ 2 ^ (bits - 1)
+unfolding negativePart
+negative-le bits w h = go (ltb w (2 ^ (bits - 1))) refl
+  where
+    double : 2 ^ bits ≡ 2 ^ (bits - 1) * 2
+    double = let e : bits ≡ suc (bits - 1) = omega arith in ap (λ (n : ℕ). 2 ^ n) e ∙ pow-suc 2 (bits - 1)
+
+    go : (b : Bool) → ltb w (2 ^ (bits - 1)) ≡ b → cond b 0 (2 ^ bits - w) ≤ 2 ^ (bits - 1)
+    go true e = zero-le
+    go false e = omega (arith, ltb-false w (2 ^ (bits - 1)) e, double)
 
 pub within-positive : (bits n w : ℕ) → within bits n w ≡ true → positivePart bits w ≤ n
 unfolding within

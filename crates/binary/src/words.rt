@@ -42,3 +42,12 @@ pub fn is_within(n: u32, w: u32) -> bool
     let down = negative_part(w);
     (up <= n) & (down <= n)
 }
+
+// The same of a word of 64 bits.
+pub fn is_within_u64(n: u64, w: u64) -> bool
+    ensures { λ r. ⌜ r ≡ within 64 n w ⌝ }
+{
+    let up = positive_part_u64(w);
+    let down = negative_part_u64(w);
+    (up <= n) & (down <= n)
+}

@@ -1,0 +1,12 @@
+use borrow.Author.Needs.{needs}
+use Rattle.tariff.specs.Calls.{badReference}
+use Rattle.tariff.proofs.calls.bad_reference.Statement.{statement}
+use Rattle.tariff.proofs.calls.bad_reference.Tie as tie
+
+pub bad-reference-spec : {M : Type 1} → statement M
+unfolding badReference
+bad-reference-spec =
+    tie.close
+    (tie.spec
+    (λ c κs. search needs)
+    (λ c. rw (c .reference-in-range .ensures)))

@@ -1,0 +1,16 @@
+use borrow.Author.Needs.{needs}
+use Rattle.tariff.specs.Calls.{bidAnswer}
+use Rattle.tariff.proofs.calls.bid_fails.Statement.{statement}
+use Rattle.tariff.proofs.calls.bid_fails.Tie as tie
+
+pub bid-fails-spec : {M : Type 1} → statement M
+unfolding bidAnswer
+bid-fails-spec =
+    tie.close
+    (tie.spec
+    (λ c κs. search needs)
+    (λ c κs. search needs)
+    (λ c κs. search needs)
+    (λ c κs. search needs)
+    (λ c κs. search needs)
+    (λ c. rw (c .verdict-of .ensures, c .before .bid-test .ensures, c .before .before .bad-unit .ensures, c .before .before .before .bad-bid .ensures, c .before .before .before .before .bad-reference .ensures)))

@@ -1,0 +1,16 @@
+use borrow.Author.Needs.{needs}
+use Rattle.tariff.specs.Calls.{inForceAnswer}
+use Rattle.tariff.proofs.calls.bid_in_force.Statement.{statement}
+use Rattle.tariff.proofs.calls.bid_in_force.Tie as tie
+
+pub bid-in-force-spec : {M : Type 1} → statement M
+unfolding inForceAnswer
+bid-in-force-spec =
+    tie.close
+    (tie.spec
+    (λ c κs. search needs)
+    (λ c κs. search needs)
+    (λ c κs. search needs)
+    (λ c. search needs)
+    (λ c κs. search needs)
+    (λ c. rw (c .figure-of .ensures, c .before .in-force .ensures, c .before .before .bad-bid .ensures, c .before .before .before .bad-reference .ensures)))

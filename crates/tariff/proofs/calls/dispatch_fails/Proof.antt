@@ -1,0 +1,13 @@
+use borrow.Author.Needs.{needs}
+use Rattle.tariff.specs.Calls.{dispatchAnswer}
+use Rattle.tariff.proofs.calls.dispatch_fails.Statement.{statement}
+use Rattle.tariff.proofs.calls.dispatch_fails.Tie as tie
+
+pub dispatch-fails-spec : {M : Type 1} → statement M
+unfolding dispatchAnswer
+dispatch-fails-spec =
+    tie.close
+    (tie.spec
+    (λ c κs. search needs)
+    (λ c κs. search needs)
+    (λ c. rw (c .verdict-of .ensures, c .before .dispatch-test .ensures)))

@@ -1,0 +1,13 @@
+use borrow.Author.Needs.{needs}
+use Rattle.tariff.specs.Calls.{fuelDayAnswer}
+use Rattle.tariff.proofs.calls.fuel_day_counts.Statement.{statement}
+use Rattle.tariff.proofs.calls.fuel_day_counts.Tie as tie
+
+pub fuel-day-counts-spec : {M : Type 1} → statement M
+unfolding fuelDayAnswer
+fuel-day-counts-spec =
+    tie.close
+    (tie.spec
+    (λ c κs. search needs)
+    (λ c κs. search needs)
+    (λ c. rw (c .verdict-of .ensures, c .before .fuel-day-counts .ensures)))

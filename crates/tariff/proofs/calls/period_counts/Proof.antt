@@ -1,0 +1,13 @@
+use borrow.Author.Needs.{needs}
+use Rattle.tariff.specs.Calls.{periodAnswer}
+use Rattle.tariff.proofs.calls.period_counts.Statement.{statement}
+use Rattle.tariff.proofs.calls.period_counts.Tie as tie
+
+pub period-counts-spec : {M : Type 1} → statement M
+unfolding periodAnswer
+period-counts-spec =
+    tie.close
+    (tie.spec
+    (λ c κs. search needs)
+    (λ c κs. search needs)
+    (λ c. rw (c .verdict-of .ensures, c .before .period-counts .ensures)))

@@ -1,0 +1,14 @@
+use borrow.Author.Needs.{needs}
+use Rattle.tariff.specs.Conduct.{dispatchTest}
+use Rattle.tariff.proofs.conduct.dispatch_test.Statement.{statement}
+use Rattle.tariff.proofs.conduct.dispatch_test.Tie as tie
+
+pub dispatch-test-spec : {M : Type 1} → statement M
+unfolding dispatchTest
+dispatch-test-spec =
+    tie.close
+    (tie.spec
+    (λ c κs. search needs)
+    (λ c κs. search needs)
+    (λ c. search needs)
+    (λ c. rw (c .group-limit .ensures, c .before .unit-limit .ensures)))

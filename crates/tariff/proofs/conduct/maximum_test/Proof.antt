@@ -1,0 +1,15 @@
+use borrow.Author.Needs.{needs}
+use Rattle.tariff.specs.Conduct.{maximumTest}
+use Rattle.tariff.proofs.conduct.maximum_test.Statement.{statement}
+use Rattle.tariff.proofs.conduct.maximum_test.Tie as tie
+
+pub maximum-test-spec : {M : Type 1} → statement M
+unfolding maximumTest
+maximum-test-spec =
+    tie.close
+    (tie.spec
+    (λ c κs. search needs)
+    (λ c. search needs)
+    (λ c. search needs)
+    (λ c κs. search needs)
+    (λ c. rw (c .product .ensures .0, c .before .positive-part .ensures)))

@@ -1,0 +1,13 @@
+use borrow.Author.Needs.{needs}
+use Rattle.tariff.specs.Conduct.{percentTest}
+use Rattle.tariff.proofs.conduct.percent_test.Statement.{statement}
+use Rattle.tariff.proofs.conduct.percent_test.Tie as tie
+
+pub percent-test-spec : {M : Type 1} → statement M
+unfolding percentTest
+percent-test-spec =
+    tie.close
+    (tie.spec
+    (λ c κs. search needs)
+    (λ c. search needs)
+    (λ c. rw (c .product .ensures .0)))

@@ -1,0 +1,12 @@
+use borrow.Author.Needs.{needs}
+use Rattle.tariff.specs.DefaultBids.{atMost}
+use Rattle.tariff.proofs.default_bids.at_most.Statement.{statement}
+use Rattle.tariff.proofs.default_bids.at_most.Tie as tie
+
+pub at-most-spec : {M : Type 1} → statement M
+unfolding atMost
+at-most-spec =
+    tie.close
+    (tie.spec
+    (λ c κs. search needs)
+    (λ c. rw (c .positive-part .ensures)))

@@ -1,0 +1,14 @@
+use borrow.Author.Needs.{needs}
+use Rattle.tariff.specs.DefaultBids.{defaultBid}
+use Rattle.tariff.proofs.default_bids.default_bid.Statement.{statement}
+use Rattle.tariff.proofs.default_bids.default_bid.Tie as tie
+
+pub default-bid-spec : {M : Type 1} → statement M
+unfolding defaultBid
+default-bid-spec =
+    tie.close
+    (tie.spec
+    (λ c κs. search needs)
+    (λ c κs. search needs)
+    (λ c κs. search needs)
+    (λ c. rw (c .choose-u32 .ensures, c .before .lesser .ensures, c .before .before .greater .ensures)))

@@ -1,0 +1,13 @@
+use borrow.Author.Needs.{needs}
+use Rattle.tariff.specs.DefaultBids.{greater}
+use Rattle.tariff.proofs.default_bids.greater.Statement.{statement}
+use Rattle.tariff.proofs.default_bids.greater.Tie as tie
+
+pub greater-spec : {M : Type 1} → statement M
+unfolding greater
+greater-spec =
+    tie.close
+    (tie.spec
+    (λ c κs. search needs)
+    (λ c κs. search needs)
+    (λ c. rw (c .choose-u32 .ensures, c .before .at-most .ensures)))

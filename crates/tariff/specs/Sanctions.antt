@@ -1,0 +1,37 @@
+-- Multipliers in halves and penalties in cents, on plain numbers (document 01, Multipliers and penalties; tariff 23.4.3).
+use Prim.Native.Nat.{ℕ, _+_, _-_, _*_, _/_}
+use mathlib.Core.Bool.{Bool, cond, _&&_}
+use lib.Dec.{ltb, leb}
+
+-- "Money is rounded once, at the end, halves up to the cent": x is in that many parts of a cent
+unfoldable pub cents : (parts x : ℕ) → ℕ
+cents parts x = (x + parts / 2) / parts
+
+-- the capability-period window: period q is p or one of the k before it
+unfoldable pub periodCounts : (k p q : ℕ) → Bool
+periodCounts k p q = leb q p && leb p (q + k)
+
+-- the multiplier in halves
+unfoldable pub ladder : (N3 N2 : ℕ) → ℕ
+ladder N3 N2 = cond (leb 4 N2) 6 (cond (leb 3 N3) 4 2)
+
+-- amount is the sum over flagged hours of a × (b, or 0 if negative), in tenths of a cent
+unfoldable pub withheldPenalty : (multiplier amount : ℕ) → ℕ
+withheldPenalty multiplier amount = cents 20 (multiplier * amount)
+
+-- 3 halves of the flagged hours' b
+unfoldable pub dispatchPenalty : (revenue : ℕ) → ℕ
+dispatchPenalty revenue = cents 2 (3 * revenue)
+
+-- the fuel window: day e is 1 to 183 days before day d
+unfoldable pub fuelDayCounts : (d e : ℕ) → Bool
+fuelDayCounts d e = ltb e d && leb d (e + 183)
+
+-- X = M × E + 20 × T in twentieths of a cent, or 0 if negative; E is gain less loss
+unfoldable pub fuelCharge : (M gain loss T : ℕ) → ℕ
+fuelCharge M gain loss T = M * gain + 20 * T - M * loss
+
+-- "Below 10,000,000 ($5,000) the penalty is 0"
+unfoldable pub fuelPenalty : (M gain loss T : ℕ) → ℕ
+fuelPenalty M gain loss T =
+    cond (ltb (fuelCharge M gain loss T) 10000000) 0 (cents 20 (fuelCharge M gain loss T))
