@@ -51,3 +51,10 @@ pub fn product(x: u32, y: u32) -> u64
 {
     (x as u64) * (y as u64)
 }
+
+// A number of 32 bits as one of 64.
+pub fn wide(x: u32) -> u64
+    ensures { λ r. ⌜ (r ≡ x) × (r ≤ 4294967295) ⌝ }
+{
+    x as u64
+}

@@ -1,20 +1,53 @@
 -- What an argument list that is not refused says of its numbers.
-use Prim.Native.Nat.{ℕ, _≤_}
-use mathlib.Core.Bool.{Bool, true, false, not, _||_}
+use Prim.Native.Nat.{ℕ, _≤_, _<_}
+use mathlib.Core.Bool.{Bool, false, not, _||_}
+use mathlib.Core.List.{List}
 use mathlib.Core.Path.{_≡_}
-use borrow.Author.Tests.{ltb-false, not-false}
+use borrow.Author.Tests.{ltb-false, eqb-true, not-false}
 use lib.Dec.{ltb, eqb}
+use lib.ListN.{length, getD}
+use Rattle.binary.specs.Bounded.{anyTo}
 use Rattle.binary.specs.Word.{positivePart, negativePart, within}
+use Rattle.binary.proofs.BoundedLaws.{any-at, product-bound}
 use Rattle.binary.proofs.Implies.{or-l, or-r}
 use Rattle.binary.proofs.WordLaws.{within-positive, within-negative}
-use Rattle.tariff.specs.Calls.{badWithheldHour, badFuel}
+use Rattle.tariff.specs.Sanctions.{hourAmount}
+use Rattle.tariff.specs.Calls.{badHour, badHours, amountAt, badRevenue, badRevenues, revenueAt, badFuel}
 
-pub withheld-hour : (a b multiplier : ℕ) → badWithheldHour a b multiplier ≡ false → (a ≤ 50000) × (positivePart 32 b ≤ 1000000)
-unfolding badWithheldHour
-withheld-hour a b multiplier h =
-    let p : ltb 50000 a ≡ false = search (or-l, or-r) in
-    let q : not (within 32 1000000 b) ≡ false = search (or-l, or-r) in
-    (ltb-false _ _ p, within-positive 32 1000000 b (not-false _ q))
+hour-amount : (a b : List ℕ) (h : ℕ) → badHour a b h ≡ false → amountAt a b h ≤ 50000000000
+unfolding badHour amountAt hourAmount
+hour-amount a b h e =
+    let p : ltb 50000 (getD a h 0) ≡ false = search (or-l, or-r) in
+    let q : not (within 32 1000000 (getD b h 0)) ≡ false = search (or-l, or-r) in
+    product-bound _ _ 50000 1000000 (ltb-false _ _ p) (within-positive 32 1000000 (getD b h 0) (not-false _ q))
+
+pub record Hours (a b : List ℕ) : Type 0 where
+  pub same : length a ≡ length b
+  pub few : length a ≤ 24
+  pub amount : (h : ℕ) → h < length a → amountAt a b h ≤ 50000000000
+
+pub fine-hours : (a b : List ℕ) → badHours a b ≡ false → Hours a b
+unfolding badHours
+fine-hours a b e =
+    let p : not (eqb (length a) (length b)) ≡ false = search (or-l, or-r) in
+    let q : ltb 24 (length a) ≡ false = search (or-l, or-r) in
+    let r : anyTo (length a) (badHour a b) ≡ false = search (or-l, or-r) in
+    record {
+      same = eqb-true _ _ (not-false _ p);
+      few = ltb-false _ _ q;
+      amount = λ h l. hour-amount a b h (any-at (length a) h (badHour a b) l r);
+    }
+
+pub record Revenues (b : List ℕ) : Type 0 where
+  pub few : length b ≤ 24
+  pub revenue : (h : ℕ) → h < length b → revenueAt b h ≤ 100000000
+
+pub fine-revenues : (b : List ℕ) → badRevenues b ≡ false → Revenues b
+unfolding badRevenues badRevenue revenueAt
+fine-revenues b e =
+    let q : ltb 24 (length b) ≡ false = search (or-l, or-r) in
+    let r : anyTo (length b) (badRevenue b) ≡ false = search (or-l, or-r) in
+    record { few = ltb-false _ _ q; revenue = λ h l. ltb-false _ _ (any-at (length b) h (badRevenue b) l r) }
 
 pub record FuelArguments (E T M : ℕ) : Type 0 where
   pub gain : positivePart 64 E ≤ 100000000000000

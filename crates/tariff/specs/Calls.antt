@@ -1,14 +1,16 @@
 -- The smaller public calls (document 01, What a case can break, last paragraph): each answers first 7, then 10, then its figure.
-use Prim.Native.Nat.{ℕ, _+_, _*_}
+use Prim.Native.Nat.{ℕ, _+_}
 use mathlib.Core.Bool.{Bool, false, not, _&&_, _||_}
+use mathlib.Core.List.{List}
 use lib.Dec.{ltb, leb, eqb}
-use Rattle.binary.specs.Bounded.{bitOf}
+use lib.ListN.{length, getD}
+use Rattle.binary.specs.Bounded.{anyTo, bitOf, sumTo}
 use Rattle.binary.specs.Word.{positivePart, negativePart, within}
 use Rattle.tariff.specs.Answer.{Answer, TimeAnswer, answer, timeAnswered, bit}
 use Rattle.tariff.specs.Ranges.{referenceInRange, bidInRange}
 use Rattle.tariff.specs.Threshold.{thresholdOf}
 use Rattle.tariff.specs.Conduct.{bidTest, timeTest, withheldTest, dispatchTest}
-use Rattle.tariff.specs.Sanctions.{ladder, withheldPenalty, dispatchPenalty, fuelPenalty, fuelDayCounts, periodCounts}
+use Rattle.tariff.specs.Sanctions.{ladder, hourAmount, withheldPenalty, dispatchPenalty, fuelPenalty, fuelDayCounts, periodCounts}
 use Rattle.tariff.specs.DefaultBids.{hours, spanMask, inForce, correctedInForce, hourMakeUp, makeUp}
 
 -- 7: the component exists and the reference is out of its range
@@ -54,20 +56,37 @@ dispatchAnswer a rate S tight =
 unfoldable pub multiplierAnswer : (N3 N2 : ℕ) → Answer
 multiplierAnswer N3 N2 = answer false (ltb N3 1 || ltb 456 N3 || ltb N2 1 || ltb N3 N2) (ladder N3 N2)
 
--- 10: the multiplier is 0, 2, 4 or 6 halves
-unfoldable pub badWithheldHour : (a b multiplier : ℕ) → Bool
-badWithheldHour a b multiplier =
-    ltb 50000 a || not (within 32 1000000 b)
-    || not (eqb multiplier 0 || eqb multiplier 2 || eqb multiplier 4 || eqb multiplier 6)
+-- 10: the flagged hours' a and b are as many, at most a day's; the multiplier is 0, 2, 4 or 6 halves
+unfoldable pub badMultiplier : (multiplier : ℕ) → Bool
+badMultiplier multiplier = not (eqb multiplier 0 || eqb multiplier 2 || eqb multiplier 4 || eqb multiplier 6)
 
--- one flagged hour at the price b
-unfoldable pub withheldPenaltyAnswer : (a b multiplier : ℕ) → Answer
-withheldPenaltyAnswer a b multiplier =
-    answer false (badWithheldHour a b multiplier) (withheldPenalty multiplier (a * positivePart 32 b))
+unfoldable pub badHour : (a b : List ℕ) → ℕ → Bool
+badHour a b h = ltb 50000 (getD a h 0) || not (within 32 1000000 (getD b h 0))
 
--- one flagged hour's added revenue
-unfoldable pub dispatchPenaltyAnswer : (revenue : ℕ) → Answer
-dispatchPenaltyAnswer revenue = answer false (ltb 100000000 revenue) (dispatchPenalty revenue)
+unfoldable pub badHours : (a b : List ℕ) → Bool
+badHours a b = not (eqb (length a) (length b)) || ltb hours (length a) || anyTo (length a) (badHour a b)
+
+-- the sum over the flagged hours of a × (b, or 0 if negative)
+unfoldable pub amountAt : (a b : List ℕ) → ℕ → ℕ
+amountAt a b h = hourAmount (getD a h 0) (getD b h 0)
+
+unfoldable pub withheldPenaltyAnswer : (multiplier : ℕ) (a b : List ℕ) → Answer
+withheldPenaltyAnswer multiplier a b =
+    answer false (badMultiplier multiplier || badHours a b)
+    (withheldPenalty multiplier (sumTo (length a) (amountAt a b)))
+
+-- 10: the flagged hours' b
+unfoldable pub badRevenue : (b : List ℕ) → ℕ → Bool
+badRevenue b h = ltb 100000000 (getD b h 0)
+
+unfoldable pub badRevenues : (b : List ℕ) → Bool
+badRevenues b = ltb hours (length b) || anyTo (length b) (badRevenue b)
+
+unfoldable pub revenueAt : (b : List ℕ) → ℕ → ℕ
+revenueAt b h = getD b h 0
+
+unfoldable pub dispatchPenaltyAnswer : (b : List ℕ) → Answer
+dispatchPenaltyAnswer b = answer false (badRevenues b) (dispatchPenalty (sumTo (length b) (revenueAt b)))
 
 -- 10: E is a signed word of 64 bits; M is 2 or 3
 unfoldable pub badFuel : (E T M : ℕ) → Bool

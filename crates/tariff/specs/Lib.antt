@@ -5,3 +5,4 @@ pub mod Conduct
 pub mod Sanctions
 pub mod DefaultBids
 pub mod Calls
+pub mod Pencil

@@ -1,10 +1,14 @@
 // The smaller public calls: first 7 for a reference out of its component's range, then 10 for any other argument.
 ghost use mathlib.Core.Path.{_≡_};
+ghost use mathlib.Core.Bool.{false};
+ghost use Prim.Native.Nat.{_<_, _≤_};
+ghost use lib.ListN.{length};
+ghost use Rattle.binary.specs.Bounded.{anyTo, sumTo};
 ghost use Rattle.binary.specs.Word.{positivePart};
 ghost use Rattle.tariff.specs.Threshold.{thresholdOf};
 ghost use Rattle.tariff.specs.Conduct.{timeTest};
 ghost use Rattle.tariff.specs.Answer.{verdictAnswer, figureAnswer, timeAnswer};
-ghost use Rattle.tariff.specs.Calls.{badReference, badBid, badUnit, badWithheldHour, badFuel, timeTotal, bidAnswer, timesAnswer, withheldAnswer, dispatchAnswer, multiplierAnswer, withheldPenaltyAnswer, dispatchPenaltyAnswer, fuelPenaltyAnswer, fuelDayAnswer, periodAnswer, spanAnswer, inForceAnswer, correctedInForceAnswer, makeUpAnswer};
+ghost use Rattle.tariff.specs.Calls.{badReference, badBid, badUnit, badMultiplier, badHour, badHours, amountAt, badRevenue, badRevenues, revenueAt, badFuel, timeTotal, bidAnswer, timesAnswer, withheldAnswer, dispatchAnswer, multiplierAnswer, withheldPenaltyAnswer, dispatchPenaltyAnswer, fuelPenaltyAnswer, fuelDayAnswer, periodAnswer, spanAnswer, inForceAnswer, correctedInForceAnswer, makeUpAnswer};
 use crate::answer::Figure;
 use crate::answer::TimeVerdict;
 use crate::answer::Verdict;
@@ -17,6 +21,8 @@ use crate::ranges;
 use crate::sanctions;
 use crate::threshold::Threshold;
 use binary::numbers::choose_u32;
+use binary::numbers::product;
+use binary::numbers::wide;
 use binary::words::is_within;
 use binary::words::is_within_u64;
 use binary::words::negative_part_u64;
@@ -135,31 +141,139 @@ pub fn multiplier(n3: u32, n2: u32) -> Figure
     )
 }
 
-fn bad_withheld_hour(a: u32, price: u32, multiplier: u8) -> bool
-    ensures { λ r. ⌜ r ≡ badWithheldHour a price multiplier ⌝ }
+fn bad_multiplier(multiplier: u8) -> bool
+    ensures { λ r. ⌜ r ≡ badMultiplier multiplier ⌝ }
 {
-    let priced = is_within(1000000, price);
-    let known = (multiplier == 0) | (multiplier == 2) | (multiplier == 4) | (multiplier == 6);
-    (50000 < a) | !priced | !known
+    !((multiplier == 0) | (multiplier == 2) | (multiplier == 4) | (multiplier == 6))
 }
 
-// One flagged hour's penalty for withheld megawatts, in cents.
-pub fn withheld_penalty(a: u32, price: u32, multiplier: u8) -> Figure
-    ensures { λ r. ⌜ figureAnswer r ≡ withheldPenaltyAnswer a price multiplier ⌝ }
+fn bad_hour(a: &[u32], b: &[u32], h: usize) -> bool
+    requires { ⌜ (h < length (now a)) × (h < length (now b)) ⌝ }
+    ensures { λ r. ⌜ r ≡ badHour (now (a .entry)) (now (b .entry)) h ⌝ }
 {
-    if bad_withheld_hour(a, price, multiplier) {
+    let megawatts = a[h];
+    let priced = is_within(1000000, b[h]);
+    (50000 < megawatts) | !priced
+}
+
+fn any_bad_hour(a: &[u32], b: &[u32]) -> bool
+    requires { ⌜ length (now a) ≡ length (now b) ⌝ }
+    ensures { λ r. ⌜ r ≡ anyTo (length (now (a .entry))) (badHour (now (a .entry)) (now (b .entry))) ⌝ }
+{
+    let n = a.len();
+    let mut any = false;
+    let mut h = 0;
+    while h < n {
+        any = any | bad_hour(a, b, h);
+        h += 1;
+    }
+    any
+}
+
+fn bad_hours(a: &[u32], b: &[u32]) -> bool
+    ensures { λ r. ⌜ r ≡ badHours (now (a .entry)) (now (b .entry)) ⌝ }
+{
+    if a.len() != b.len() {
+        return true;
+    }
+    let any = any_bad_hour(a, b);
+    (24 < a.len()) | any
+}
+
+fn amount_at(a: &[u32], b: &[u32], h: usize) -> u64
+    requires { ⌜ (h < length (now a)) × (h < length (now b)) ⌝ }
+    ensures { λ r. ⌜ r ≡ amountAt (now (a .entry)) (now (b .entry)) h ⌝ }
+{
+    let price = positive_part(b[h]);
+    product(a[h], price)
+}
+
+// The sum over the flagged hours of a × (b, or 0 if negative).
+fn amount_of(a: &[u32], b: &[u32]) -> u64
+    requires { ⌜ badHours (now a) (now b) ≡ false ⌝ }
+    ensures { λ r. ⌜ (r ≡ sumTo (length (now (a .entry))) (amountAt (now (a .entry)) (now (b .entry)))) × (r ≤ 1200000000000) ⌝ }
+{
+    let n = a.len();
+    let mut sum: u64 = 0;
+    let mut h = 0;
+    while h < n {
+        sum += amount_at(a, b, h);
+        h += 1;
+    }
+    sum
+}
+
+// The penalty in cents for the megawatts withheld in the flagged hours, at their prices.
+pub fn withheld_penalty(multiplier: u8, a: &[u32], b: &[u32]) -> Figure
+    ensures { λ r. ⌜ figureAnswer r ≡ withheldPenaltyAnswer multiplier (now (a .entry)) (now (b .entry)) ⌝ }
+{
+    let unknown = bad_multiplier(multiplier);
+    let hours = bad_hours(a, b);
+    if unknown | hours {
         return Figure::Refused(10);
     }
-    let b = positive_part(price);
-    Figure::Value(sanctions::withheld_penalty(multiplier, (a as u64) * (b as u64)))
+    Figure::Value(sanctions::withheld_penalty(multiplier, amount_of(a, b)))
 }
 
-// One flagged hour's penalty for undelivered megawatts, in cents.
-pub fn dispatch_penalty(revenue: u32) -> Figure
-    ensures { λ r. ⌜ figureAnswer r ≡ dispatchPenaltyAnswer revenue ⌝ }
+fn bad_revenue(b: &[u32], h: usize) -> bool
+    requires { ⌜ h < length (now b) ⌝ }
+    ensures { λ r. ⌜ r ≡ badRevenue (now (b .entry)) h ⌝ }
 {
-    let value = sanctions::dispatch_penalty(revenue as u64);
-    figure_of(false, 100000000 < revenue, value)
+    let revenue = b[h];
+    100000000 < revenue
+}
+
+fn any_bad_revenue(b: &[u32]) -> bool
+    ensures { λ r. ⌜ r ≡ anyTo (length (now (b .entry))) (badRevenue (now (b .entry))) ⌝ }
+{
+    let n = b.len();
+    let mut any = false;
+    let mut h = 0;
+    while h < n {
+        any = any | bad_revenue(b, h);
+        h += 1;
+    }
+    any
+}
+
+fn bad_revenues(b: &[u32]) -> bool
+    ensures { λ r. ⌜ r ≡ badRevenues (now (b .entry)) ⌝ }
+{
+    let any = any_bad_revenue(b);
+    (24 < b.len()) | any
+}
+
+fn revenue_at(b: &[u32], h: usize) -> u64
+    requires { ⌜ h < length (now b) ⌝ }
+    ensures { λ r. ⌜ r ≡ revenueAt (now (b .entry)) h ⌝ }
+{
+    let revenue = b[h];
+    wide(revenue)
+}
+
+// The flagged hours' added revenue.
+fn revenue_of(b: &[u32]) -> u64
+    requires { ⌜ badRevenues (now b) ≡ false ⌝ }
+    ensures { λ r. ⌜ (r ≡ sumTo (length (now (b .entry))) (revenueAt (now (b .entry)))) × (r ≤ 2400000000) ⌝ }
+{
+    let n = b.len();
+    let mut sum: u64 = 0;
+    let mut h = 0;
+    while h < n {
+        sum += revenue_at(b, h);
+        h += 1;
+    }
+    sum
+}
+
+// The penalty in cents for the megawatts not delivered in the flagged hours, by their added revenue.
+pub fn dispatch_penalty(b: &[u32]) -> Figure
+    ensures { λ r. ⌜ figureAnswer r ≡ dispatchPenaltyAnswer (now (b .entry)) ⌝ }
+{
+    if bad_revenues(b) {
+        return Figure::Refused(10);
+    }
+    Figure::Value(sanctions::dispatch_penalty(revenue_of(b)))
 }
 
 fn bad_fuel(e: u64, t: u64, m: u8) -> bool

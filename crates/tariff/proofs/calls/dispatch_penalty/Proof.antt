@@ -1,4 +1,6 @@
+use mathlib.Core.Path.{_∙_, sym}
 use borrow.Author.Needs.{needs}
+use native.Mathlib.Omega.{arith}
 use Rattle.tariff.specs.Calls.{dispatchPenaltyAnswer}
 use Rattle.tariff.proofs.calls.dispatch_penalty.Statement.{statement}
 use Rattle.tariff.proofs.calls.dispatch_penalty.Tie as tie
@@ -8,6 +10,13 @@ unfolding dispatchPenaltyAnswer
 dispatch-penalty-spec =
     tie.close
     (tie.spec
-    (λ c κs. search needs)
-    (λ c κs. search needs)
-    (λ c. rw (c .figure-of .ensures, c .before .dispatch-penalty .ensures)))
+    (λ c κs. tt)
+    (λ c. simp (sym (c .before .bad-revenues .ensures) ∙ c .if1 .taken))
+    (λ c κs. sym (c .before .bad-revenues .ensures) ∙ c .if1 .left)
+    (λ c κs. omega (arith, c .revenue-of .ensures .1))
+    (λ c.
+    simp (
+      c .dispatch-penalty .ensures,
+      c .before .revenue-of .ensures .0,
+      sym (c .before .before .before .bad-revenues .ensures) ∙ c .before .before .if1 .left,
+    )))

@@ -1,0 +1,31 @@
+use Prim.Native.Nat.{_≤_, _-_}
+use borrow.Author.Needs.{needs}
+use mathlib.Core.Path.{_≡_}
+use native.Mathlib.Omega.{arith}
+use lib.ListN.{length}
+use Rattle.binary.specs.Bounded.{anyTo}
+use Rattle.binary.proofs.BoundedLaws.{any-none, any-more}
+use Rattle.tariff.specs.Calls.{badRevenue}
+use Rattle.tariff.proofs.calls.any_bad_revenue.Statement.{statement}
+use Rattle.tariff.proofs.calls.any_bad_revenue.Tie as tie
+
+abbrev Inv-loop : tie.InvT-loop
+Inv-loop b n any₀ h₀ any h = (h ≤ length b) × (any ≡ anyTo h (badRevenue b))
+
+abbrev μ-loop : tie.MeasureT-loop
+μ-loop b n any₀ h₀ any h = length b - h
+
+pub any-bad-revenue-spec : {M : Type 1} → statement M
+any-bad-revenue-spec =
+    tie.close
+    (tie.spec
+    Inv-loop
+    μ-loop
+    (λ c. (omega arith, any-none _))
+    (λ c κs. search needs)
+    (λ c. omega arith)
+    (λ c. omega arith)
+    (λ c. (omega arith, rw (c .before .before .loop .inv .1, c .bad-revenue .ensures, any-more)))
+    (λ c.
+    let e : c .before .loop .h ≡ length (c .before .before .before .args .b .now) = omega arith in
+    rw (c .before .loop .inv .1, e)))
