@@ -1,4 +1,3 @@
-use borrow.Author.Needs.{needs}
 use Rattle.tariff.specs.Calls.{badBid}
 use Rattle.tariff.proofs.calls.bad_bid.Statement.{statement}
 use Rattle.tariff.proofs.calls.bad_bid.Tie as tie
@@ -8,5 +7,5 @@ unfolding badBid
 bad-bid-spec =
     tie.close
     (tie.spec
-    (λ c κs. search needs)
+    (λ c κs. tt)
     (λ c. rw (c .bid-in-range .ensures)))

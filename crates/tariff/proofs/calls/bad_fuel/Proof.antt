@@ -1,4 +1,3 @@
-use borrow.Author.Needs.{needs}
 use Rattle.tariff.specs.Calls.{badFuel}
 use Rattle.tariff.proofs.calls.bad_fuel.Statement.{statement}
 use Rattle.tariff.proofs.calls.bad_fuel.Tie as tie
@@ -8,5 +7,5 @@ unfolding badFuel
 bad-fuel-spec =
     tie.close
     (tie.spec
-    (λ c κs. search needs)
+    (λ c κs. tt)
     (λ c. rw (c .is-within-u64 .ensures)))

@@ -1,4 +1,3 @@
-use borrow.Author.Needs.{needs}
 use Rattle.tariff.specs.Calls.{badReference}
 use Rattle.tariff.proofs.calls.bad_reference.Statement.{statement}
 use Rattle.tariff.proofs.calls.bad_reference.Tie as tie
@@ -8,5 +7,5 @@ unfolding badReference
 bad-reference-spec =
     tie.close
     (tie.spec
-    (λ c κs. search needs)
+    (λ c κs. tt)
     (λ c. rw (c .reference-in-range .ensures)))

@@ -1,4 +1,3 @@
-use borrow.Author.Needs.{needs}
 use Rattle.tariff.specs.Calls.{badRevenues}
 use Rattle.tariff.proofs.calls.bad_revenues.Statement.{statement}
 use Rattle.tariff.proofs.calls.bad_revenues.Tie as tie
@@ -8,5 +7,5 @@ unfolding badRevenues
 bad-revenues-spec =
     tie.close
     (tie.spec
-    (λ c κs. search needs)
+    (λ c κs. tt)
     (λ c. rw (c .any-bad-revenue .ensures)))

@@ -1,4 +1,3 @@
-use borrow.Author.Needs.{needs}
 use Rattle.tariff.specs.Calls.{bidAnswer}
 use Rattle.tariff.proofs.calls.bid_fails.Statement.{statement}
 use Rattle.tariff.proofs.calls.bid_fails.Tie as tie
@@ -8,9 +7,9 @@ unfolding bidAnswer
 bid-fails-spec =
     tie.close
     (tie.spec
-    (λ c κs. search needs)
-    (λ c κs. search needs)
-    (λ c κs. search needs)
-    (λ c κs. search needs)
-    (λ c κs. search needs)
+    (λ c κs. tt)
+    (λ c κs. tt)
+    (λ c κs. tt)
+    (λ c κs. tt)
+    (λ c κs. tt)
     (λ c. rw (c .verdict-of .ensures, c .before .bid-test .ensures, c .before .before .bad-unit .ensures, c .before .before .before .bad-bid .ensures, c .before .before .before .before .bad-reference .ensures)))

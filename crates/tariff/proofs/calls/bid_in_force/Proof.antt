@@ -8,9 +8,9 @@ unfolding inForceAnswer
 bid-in-force-spec =
     tie.close
     (tie.spec
-    (λ c κs. search needs)
-    (λ c κs. search needs)
-    (λ c κs. search needs)
+    (λ c κs. tt)
+    (λ c κs. tt)
+    (λ c κs. tt)
     (λ c. search needs)
-    (λ c κs. search needs)
+    (λ c κs. tt)
     (λ c. rw (c .figure-of .ensures, c .before .in-force .ensures, c .before .before .bad-bid .ensures, c .before .before .before .bad-reference .ensures)))

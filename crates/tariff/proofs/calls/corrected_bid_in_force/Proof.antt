@@ -9,13 +9,13 @@ unfolding correctedInForceAnswer correctedInForce
 corrected-bid-in-force-spec =
     tie.close
     (tie.spec
-    (λ c κs. search needs)
-    (λ c κs. search needs)
-    (λ c κs. search needs)
-    (λ c κs. search needs)
-    (λ c κs. search needs)
-    (λ c κs. search needs)
-    (λ c κs. search needs)
+    (λ c κs. tt)
+    (λ c κs. tt)
+    (λ c κs. tt)
+    (λ c κs. tt)
+    (λ c κs. tt)
+    (λ c κs. tt)
+    (λ c κs. tt)
     (λ c. search needs)
-    (λ c κs. search needs)
+    (λ c κs. tt)
     (λ c. rw (c .figure-of .ensures, c .before .choose-u32 .ensures, c .before .before .corrected-bid .ensures, c .before .before .before .bid-test .ensures, c .before .before .before .before .bad-unit .ensures, c .before .before .before .before .before .bad-bid .ensures, c .before .before .before .before .before .before .bad-reference2 .ensures, c .before .before .before .before .before .before .before .bad-reference .ensures)))

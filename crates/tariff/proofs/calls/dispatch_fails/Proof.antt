@@ -1,4 +1,3 @@
-use borrow.Author.Needs.{needs}
 use Rattle.tariff.specs.Calls.{dispatchAnswer}
 use Rattle.tariff.proofs.calls.dispatch_fails.Statement.{statement}
 use Rattle.tariff.proofs.calls.dispatch_fails.Tie as tie
@@ -8,6 +7,6 @@ unfolding dispatchAnswer
 dispatch-fails-spec =
     tie.close
     (tie.spec
-    (λ c κs. search needs)
-    (λ c κs. search needs)
+    (λ c κs. tt)
+    (λ c κs. tt)
     (λ c. rw (c .verdict-of .ensures, c .before .dispatch-test .ensures)))

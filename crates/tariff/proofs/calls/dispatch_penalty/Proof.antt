@@ -1,5 +1,4 @@
 use mathlib.Core.Path.{_∙_, sym}
-use borrow.Author.Needs.{needs}
 use native.Mathlib.Omega.{arith}
 use Rattle.tariff.specs.Calls.{dispatchPenaltyAnswer}
 use Rattle.tariff.proofs.calls.dispatch_penalty.Statement.{statement}

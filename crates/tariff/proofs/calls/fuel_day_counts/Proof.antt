@@ -1,4 +1,3 @@
-use borrow.Author.Needs.{needs}
 use Rattle.tariff.specs.Calls.{fuelDayAnswer}
 use Rattle.tariff.proofs.calls.fuel_day_counts.Statement.{statement}
 use Rattle.tariff.proofs.calls.fuel_day_counts.Tie as tie
@@ -8,6 +7,6 @@ unfolding fuelDayAnswer
 fuel-day-counts-spec =
     tie.close
     (tie.spec
-    (λ c κs. search needs)
-    (λ c κs. search needs)
+    (λ c κs. tt)
+    (λ c κs. tt)
     (λ c. rw (c .verdict-of .ensures, c .before .fuel-day-counts .ensures)))

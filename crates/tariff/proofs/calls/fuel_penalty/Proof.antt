@@ -1,5 +1,4 @@
 use mathlib.Core.Path.{_∙_, sym}
-use borrow.Author.Needs.{needs}
 use native.Mathlib.Omega.{arith}
 use Rattle.tariff.specs.Calls.{fuelPenaltyAnswer}
 use Rattle.tariff.proofs.RangeLaws.{fuel-arguments}

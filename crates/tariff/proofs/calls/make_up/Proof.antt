@@ -8,11 +8,11 @@ unfolding makeUpAnswer
 make-up-spec =
     tie.close
     (tie.spec
+    (λ c κs. tt)
+    (λ c κs. tt)
+    (λ c κs. tt)
+    (λ c κs. tt)
+    (λ c κs. tt)
     (λ c κs. search needs)
-    (λ c κs. search needs)
-    (λ c κs. search needs)
-    (λ c κs. search needs)
-    (λ c κs. search needs)
-    (λ c κs. search needs)
-    (λ c κs. search needs)
+    (λ c κs. tt)
     (λ c. rw (c .figure-of .ensures, c .before .make-up .ensures, c .before .before .hour-make-up .ensures .0, c .before .before .before .is-within .ensures, c .before .before .before .before .bad-bid .ensures, c .before .before .before .before .before .bad-reference2 .ensures, c .before .before .before .before .before .before .bad-reference .ensures)))

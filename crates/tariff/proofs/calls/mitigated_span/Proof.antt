@@ -10,5 +10,5 @@ mitigated-span-spec =
     (tie.spec
     (λ c κs. search needs)
     (λ c. search needs)
-    (λ c κs. search needs)
+    (λ c κs. tt)
     (λ c. rw (c .figure-of .ensures, c .before .span-mask .ensures)))

@@ -8,7 +8,7 @@ unfolding multiplierAnswer
 multiplier-spec =
     tie.close
     (tie.spec
-    (λ c κs. search needs)
+    (λ c κs. tt)
     (λ c. search needs)
-    (λ c κs. search needs)
+    (λ c κs. tt)
     (λ c. rw (c .figure-of .ensures, c .before .ladder .ensures)))

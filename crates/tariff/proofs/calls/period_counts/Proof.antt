@@ -1,4 +1,3 @@
-use borrow.Author.Needs.{needs}
 use Rattle.tariff.specs.Calls.{periodAnswer}
 use Rattle.tariff.proofs.calls.period_counts.Statement.{statement}
 use Rattle.tariff.proofs.calls.period_counts.Tie as tie
@@ -8,6 +7,6 @@ unfolding periodAnswer
 period-counts-spec =
     tie.close
     (tie.spec
-    (λ c κs. search needs)
-    (λ c κs. search needs)
+    (λ c κs. tt)
+    (λ c κs. tt)
     (λ c. rw (c .verdict-of .ensures, c .before .period-counts .ensures)))

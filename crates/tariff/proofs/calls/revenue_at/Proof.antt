@@ -10,5 +10,5 @@ revenue-at-spec =
     (tie.spec
     (λ c. search needs)
     (λ c. search needs)
-    (λ c κs. search needs)
+    (λ c κs. tt)
     (λ c. rw (c .wide .ensures .0)))

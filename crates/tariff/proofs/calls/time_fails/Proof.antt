@@ -1,4 +1,3 @@
-use borrow.Author.Needs.{needs}
 use Rattle.tariff.proofs.calls.time_fails.Statement.{statement}
 use Rattle.tariff.proofs.calls.time_fails.Tie as tie
 
@@ -6,7 +5,7 @@ pub time-fails-spec : {M : Type 1} → statement M
 time-fails-spec =
     tie.close
     (tie.spec
-    (λ c κs. search needs)
-    (λ c κs. search needs)
-    (λ c κs. search needs)
+    (λ c κs. tt)
+    (λ c κs. tt)
+    (λ c κs. tt)
     (λ c. rw (c .time-test .ensures, c .before .of .ensures, c .before .before .positive-part .ensures)))

@@ -1,4 +1,3 @@
-use borrow.Author.Needs.{needs}
 use Rattle.tariff.specs.Calls.{timesAnswer}
 use Rattle.tariff.proofs.calls.times_fail.Statement.{statement}
 use Rattle.tariff.proofs.calls.times_fail.Tie as tie
@@ -8,12 +7,12 @@ unfolding timesAnswer
 times-fail-spec =
     tie.close
     (tie.spec
-    (λ c κs. search needs)
-    (λ c κs. search needs)
-    (λ c κs. search needs)
-    (λ c κs. search needs)
-    (λ c κs. search needs)
-    (λ c κs. search needs)
-    (λ c κs. search needs)
-    (λ c κs. search needs)
+    (λ c κs. tt)
+    (λ c κs. tt)
+    (λ c κs. tt)
+    (λ c κs. tt)
+    (λ c κs. tt)
+    (λ c κs. tt)
+    (λ c κs. tt)
+    (λ c κs. tt)
     (λ c. rw (c .time-verdict-of .ensures, c .before .time-fails3 .ensures, c .before .before .time-fails2 .ensures, c .before .before .before .time-fails .ensures, c .before .before .before .before .time-total .ensures, c .before .before .before .before .before .is-within3 .ensures, c .before .before .before .before .before .before .is-within2 .ensures, c .before .before .before .before .before .before .before .is-within .ensures)))

@@ -9,5 +9,5 @@ withheld-fails-spec =
     tie.close
     (tie.spec
     (λ c κs. search needs)
-    (λ c κs. search needs)
+    (λ c κs. tt)
     (λ c. rw (c .verdict-of .ensures, c .before .withheld-test .ensures)))

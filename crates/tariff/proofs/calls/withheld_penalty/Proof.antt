@@ -1,6 +1,5 @@
 use mathlib.Core.Bool.{false, _||_}
 use mathlib.Core.Path.{_≡_, _∙_, sym}
-use borrow.Author.Needs.{needs}
 use native.Mathlib.Omega.{arith}
 use Rattle.binary.proofs.Implies.{or-r}
 use Rattle.tariff.specs.Calls.{badMultiplier, badHours, withheldPenaltyAnswer}

@@ -1,4 +1,3 @@
-use borrow.Author.Needs.{needs}
 use Rattle.tariff.specs.Conduct.{bidTest}
 use Rattle.tariff.proofs.conduct.bid_test.Statement.{statement}
 use Rattle.tariff.proofs.conduct.bid_test.Tie as tie
@@ -8,11 +7,11 @@ unfolding bidTest
 bid-test-spec =
     tie.close
     (tie.spec
-    (λ c κs. search needs)
-    (λ c κs. search needs)
-    (λ c κs. search needs)
-    (λ c κs. search needs)
-    (λ c κs. search needs)
-    (λ c κs. search needs)
-    (λ c κs. search needs)
+    (λ c κs. tt)
+    (λ c κs. tt)
+    (λ c κs. tt)
+    (λ c κs. tt)
+    (λ c κs. tt)
+    (λ c κs. tt)
+    (λ c κs. tt)
     (λ c. rw (c .maximum-test .ensures, c .before .time-test .ensures, c .before .before .percent-test .ensures, c .before .before .before .constrained-test .ensures, c .before .before .before .before .lower-test .ensures, c .before .before .before .before .before .increase .ensures, c .before .before .before .before .before .before .of .ensures)))

@@ -8,7 +8,7 @@ unfolding dispatchTest
 dispatch-test-spec =
     tie.close
     (tie.spec
-    (λ c κs. search needs)
-    (λ c κs. search needs)
+    (λ c κs. tt)
+    (λ c κs. tt)
     (λ c. search needs)
     (λ c. rw (c .group-limit .ensures, c .before .unit-limit .ensures)))

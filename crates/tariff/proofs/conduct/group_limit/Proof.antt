@@ -1,4 +1,3 @@
-use borrow.Author.Needs.{needs}
 use Rattle.tariff.specs.Conduct.{groupLimit}
 use Rattle.tariff.proofs.conduct.group_limit.Statement.{statement}
 use Rattle.tariff.proofs.conduct.group_limit.Tie as tie
@@ -8,5 +7,5 @@ unfolding groupLimit
 group-limit-spec =
     tie.close
     (tie.spec
-    (λ c κs. search needs)
+    (λ c κs. tt)
     (λ c. rw (c .choose-u64 .ensures)))

@@ -8,12 +8,12 @@ unfolding lowerTest
 lower-test-spec =
     tie.close
     (tie.spec
-    (λ c κs. search needs)
-    (λ c κs. search needs)
-    (λ c κs. search needs)
+    (λ c κs. tt)
+    (λ c κs. tt)
+    (λ c κs. tt)
     (λ c. search needs)
     (λ c. search needs)
-    (λ c κs. search needs)
+    (λ c κs. tt)
     (λ c. search needs)
     (λ c. search needs)
     (λ c. rw (c .smaller .ensures, c .before .product .ensures .0, c .before .before .increase .ensures, c .before .before .before .positive-part .ensures)))

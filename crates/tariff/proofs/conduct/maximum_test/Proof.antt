@@ -8,8 +8,8 @@ unfolding maximumTest
 maximum-test-spec =
     tie.close
     (tie.spec
-    (λ c κs. search needs)
+    (λ c κs. tt)
     (λ c. search needs)
     (λ c. search needs)
-    (λ c κs. search needs)
+    (λ c κs. tt)
     (λ c. rw (c .product .ensures .0, c .before .positive-part .ensures)))

@@ -8,6 +8,6 @@ unfolding percentTest
 percent-test-spec =
     tie.close
     (tie.spec
-    (λ c κs. search needs)
+    (λ c κs. tt)
     (λ c. search needs)
     (λ c. rw (c .product .ensures .0)))

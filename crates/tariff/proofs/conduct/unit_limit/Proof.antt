@@ -1,4 +1,3 @@
-use borrow.Author.Needs.{needs}
 use Rattle.tariff.specs.Conduct.{unitLimit}
 use Rattle.tariff.proofs.conduct.unit_limit.Statement.{statement}
 use Rattle.tariff.proofs.conduct.unit_limit.Tie as tie
@@ -8,5 +7,5 @@ unfolding unitLimit
 unit-limit-spec =
     tie.close
     (tie.spec
-    (λ c κs. search needs)
+    (λ c κs. tt)
     (λ c. rw (c .choose-u32 .ensures)))

@@ -1,4 +1,3 @@
-use borrow.Author.Needs.{needs}
 use Rattle.tariff.specs.DefaultBids.{atMost}
 use Rattle.tariff.proofs.default_bids.at_most.Statement.{statement}
 use Rattle.tariff.proofs.default_bids.at_most.Tie as tie
@@ -8,5 +7,5 @@ unfolding atMost
 at-most-spec =
     tie.close
     (tie.spec
-    (λ c κs. search needs)
+    (λ c κs. tt)
     (λ c. rw (c .positive-part .ensures)))

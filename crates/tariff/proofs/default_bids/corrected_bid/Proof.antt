@@ -1,4 +1,3 @@
-use borrow.Author.Needs.{needs}
 use Rattle.tariff.specs.DefaultBids.{correctedBid}
 use Rattle.tariff.proofs.default_bids.corrected_bid.Statement.{statement}
 use Rattle.tariff.proofs.default_bids.corrected_bid.Tie as tie
@@ -8,9 +7,9 @@ unfolding correctedBid
 corrected-bid-spec =
     tie.close
     (tie.spec
-    (λ c κs. search needs)
-    (λ c κs. search needs)
-    (λ c κs. search needs)
-    (λ c κs. search needs)
-    (λ c κs. search needs)
+    (λ c κs. tt)
+    (λ c κs. tt)
+    (λ c κs. tt)
+    (λ c κs. tt)
+    (λ c κs. tt)
     (λ c. rw (c .choose-u322 .ensures, c .before .restores .ensures, c .before .before .default-bid .ensures, c .before .before .before .choose-u32 .ensures, c .before .before .before .before .lesser .ensures)))

@@ -1,4 +1,3 @@
-use borrow.Author.Needs.{needs}
 use Rattle.tariff.specs.DefaultBids.{defaultBid}
 use Rattle.tariff.proofs.default_bids.default_bid.Statement.{statement}
 use Rattle.tariff.proofs.default_bids.default_bid.Tie as tie
@@ -8,7 +7,7 @@ unfolding defaultBid
 default-bid-spec =
     tie.close
     (tie.spec
-    (λ c κs. search needs)
-    (λ c κs. search needs)
-    (λ c κs. search needs)
+    (λ c κs. tt)
+    (λ c κs. tt)
+    (λ c κs. tt)
     (λ c. rw (c .choose-u32 .ensures, c .before .lesser .ensures, c .before .before .greater .ensures)))

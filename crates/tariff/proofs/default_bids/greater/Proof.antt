@@ -1,4 +1,3 @@
-use borrow.Author.Needs.{needs}
 use Rattle.tariff.specs.DefaultBids.{greater}
 use Rattle.tariff.proofs.default_bids.greater.Statement.{statement}
 use Rattle.tariff.proofs.default_bids.greater.Tie as tie
@@ -8,6 +7,6 @@ unfolding greater
 greater-spec =
     tie.close
     (tie.spec
-    (λ c κs. search needs)
-    (λ c κs. search needs)
+    (λ c κs. tt)
+    (λ c κs. tt)
     (λ c. rw (c .choose-u32 .ensures, c .before .at-most .ensures)))

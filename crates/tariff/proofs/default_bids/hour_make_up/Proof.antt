@@ -1,4 +1,3 @@
-use borrow.Author.Needs.{needs}
 use Rattle.tariff.specs.DefaultBids.{hourMakeUp}
 use Rattle.tariff.proofs.default_bids.hour_make_up.Statement.{statement}
 use Rattle.tariff.proofs.default_bids.hour_make_up.Tie as tie
@@ -8,7 +7,7 @@ unfolding hourMakeUp
 hour-make-up-spec =
     tie.close
     (tie.spec
-    (λ c κs. search needs)
-    (λ c κs. search needs)
-    (λ c κs. search needs)
+    (λ c κs. tt)
+    (λ c κs. tt)
+    (λ c κs. tt)
     (λ c. (rw (c .product .ensures .0, c .before .excess .ensures, c .before .before .lesser .ensures), c .product .ensures .1)))

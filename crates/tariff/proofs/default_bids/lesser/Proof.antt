@@ -1,4 +1,3 @@
-use borrow.Author.Needs.{needs}
 use Rattle.tariff.specs.DefaultBids.{lesser}
 use Rattle.tariff.proofs.default_bids.lesser.Statement.{statement}
 use Rattle.tariff.proofs.default_bids.lesser.Tie as tie
@@ -8,6 +7,6 @@ unfolding lesser
 lesser-spec =
     tie.close
     (tie.spec
-    (λ c κs. search needs)
-    (λ c κs. search needs)
+    (λ c κs. tt)
+    (λ c κs. tt)
     (λ c. rw (c .choose-u32 .ensures, c .before .at-most .ensures)))

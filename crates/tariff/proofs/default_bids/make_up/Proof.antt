@@ -9,5 +9,5 @@ make-up-spec =
     tie.close
     (tie.spec
     (λ c κs. search needs)
-    (λ c κs. search needs)
+    (λ c κs. tt)
     (λ c. rw (c .choose-u64 .ensures, c .before .cents .ensures)))

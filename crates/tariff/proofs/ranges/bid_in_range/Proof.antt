@@ -1,4 +1,3 @@
-use borrow.Author.Needs.{needs}
 use Rattle.tariff.specs.Ranges.{bidInRange}
 use Rattle.tariff.proofs.ranges.bid_in_range.Statement.{statement}
 use Rattle.tariff.proofs.ranges.bid_in_range.Tie as tie
@@ -8,7 +7,7 @@ unfolding bidInRange
 bid-in-range-spec =
     tie.close
     (tie.spec
-    (λ c κs. search needs)
-    (λ c κs. search needs)
-    (λ c κs. search needs)
+    (λ c κs. tt)
+    (λ c κs. tt)
+    (λ c κs. tt)
     (λ c. rw (c .choose-bool .ensures, c .before .choose-u32 .ensures, c .before .before .is-within .ensures)))

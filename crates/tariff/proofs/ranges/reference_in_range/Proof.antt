@@ -1,4 +1,3 @@
-use borrow.Author.Needs.{needs}
 use Rattle.tariff.specs.Ranges.{referenceInRange}
 use Rattle.tariff.proofs.ranges.reference_in_range.Statement.{statement}
 use Rattle.tariff.proofs.ranges.reference_in_range.Tie as tie
@@ -8,5 +7,5 @@ unfolding referenceInRange
 reference-in-range-spec =
     tie.close
     (tie.spec
-    (λ c κs. search needs)
+    (λ c κs. tt)
     (λ c. rw (c .choose-u32 .ensures)))

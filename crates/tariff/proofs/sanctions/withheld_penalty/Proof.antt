@@ -1,5 +1,4 @@
 use Prim.Native.Nat.{_*_, _≤_}
-use borrow.Author.Needs.{needs}
 use native.Mathlib.Omega.{arith}
 use Rattle.binary.proofs.BoundedLaws.{product-bound}
 use Rattle.tariff.specs.Sanctions.{withheldPenalty}
