@@ -1,10 +1,10 @@
 -- From the bytes of a case file to the case (document 01, The case file).
-use Prim.Native.Nat.{ℕ, _+_, _*_, _/_}
+use Prim.Native.Nat.{ℕ, _+_, _*_, _/_, _≤_, _<_}
 use mathlib.Core.List.{List}
 use mathlib.Core.Path.{_≡_}
 use lib.ListN.{length, take, drop}
 use Rattle.binary.specs.Bytes.{byteAt, u16At, u32At}
-use Rattle.casefile.specs.Layout.{headerWidth, unitWidth, referenceWidth, pastWidth, eventWidth, cellsOffset, cellWidth, hours}
+use Rattle.casefile.specs.Layout.{sectionCount, headerWidth, unitWidth, referenceWidth, pastWidth, eventWidth, cellsOffset, cellWidth, hours}
 use Rattle.casefile.specs.Case.{Units, References, Violation, Past, Events, Case}
 
 -- the pair of section k (0 units, 1 references, 2 past, 3 events), and the section: that stretch of the file itself
@@ -24,6 +24,12 @@ pub record FollowOn (f : List ℕ) : Type 0 where
   pub past : offsetOf f 2 ≡ offsetOf f 1 + lengthOf f 1
   pub events : offsetOf f 3 ≡ offsetOf f 2 + lengthOf f 2
   pub end : length f ≡ offsetOf f 3 + lengthOf f 3
+
+-- the header and section k lie within the file
+pub record HasSection (f : List ℕ) (k : ℕ) : Type 0 where
+  pub known : k < sectionCount
+  pub header : headerWidth ≤ length f
+  pub inside : offsetOf f k + lengthOf f k ≤ length f
 
 -- record i of a section whose records have that width
 unfoldable pub recordAt : (width : ℕ) → List ℕ → ℕ → List ℕ

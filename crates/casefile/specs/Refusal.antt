@@ -8,9 +8,9 @@ use Rattle.binary.specs.Bounded.{allTo}
 use Rattle.binary.specs.Bytes.{byteAt, u16At}
 use Rattle.binary.specs.Word.{within}
 use Rattle.casefile.specs.Layout.{version, sectionCount, headerWidth, longestFile, unitWidth, referenceWidth, pastWidth, eventWidth, mostUnits, mostReferences, mostPast, mostEvents, rowWidth}
-use Rattle.casefile.specs.Case.{Units, References, Violation, Past, Events, Case}
-use Rattle.casefile.specs.Decode.{offsetOf, lengthOf, sectionOf, recordAt, unitsIn, referencesIn, pastIn, eventsIn, amountsIn, decode}
-use Rattle.casefile.specs.Lookup.{isListed, unitOf, hasReference, correctIn}
+use Rattle.casefile.specs.Case.{Units, References, Violation, Events}
+use Rattle.casefile.specs.Decode.{offsetOf, lengthOf, sectionOf, recordAt, unitsIn, referencesIn, pastIn, eventsIn, amountsIn}
+use Rattle.casefile.specs.Lookup.{isListed, placeOf, hasReference, correctReferences}
 
 -- 1: the length
 unfoldable pub lengthFine : List ℕ → Bool
@@ -158,26 +158,35 @@ unfoldable pub orderFine : Events → Bool
 orderFine e = allTo (e .count) (rises (eventKey e))
 
 -- 12: the event's unit is listed
-unfoldable pub eventListed : Case → ℕ → Bool
-eventListed c i = isListed (c .units) (c .events .unit i)
+unfoldable pub eventListed : Units → Events → ℕ → Bool
+eventListed u e i = isListed u (e .unit i)
+
+unfoldable pub eventsListed : Units → Events → Bool
+eventsListed u e = allTo (e .count) (eventListed u e)
 
 -- 13: kinds 1 and 2, no a above the capability
-unfoldable pub withinCapability : Case → (i h : ℕ) → Bool
-withinCapability c i h = leb (c .a i h) (c .units .capability (unitOf c i))
+unfoldable pub withinCapability : Units → Events → (a : ℕ → ℕ → ℕ) → (i h : ℕ) → Bool
+withinCapability u e a i h = leb (a i h) (u .capability (placeOf u (e .unit i)))
 
-unfoldable pub amountsFine : Case → ℕ → Bool
-amountsFine c i = ltb 2 (c .events .kind i) || allTo (c .events .hours i) (withinCapability c i)
+unfoldable pub amountFine : Units → Events → (a : ℕ → ℕ → ℕ) → ℕ → Bool
+amountFine u e a i = ltb 2 (e .kind i) || allTo (e .hours i) (withinCapability u e a i)
+
+unfoldable pub amountsFine : Units → List ℕ → Bool
+amountsFine u s = allTo (eventsIn s .count) (amountFine u (eventsIn s) (amountsIn s))
 
 -- the components that read c
 unfoldable pub readsCorrect : (component : ℕ) → Bool
 readsCorrect component = leb component 1 || eqb component 3
 
 -- 14: kind 4 has r, and c where it is read
-unfoldable pub referencesFound : Case → References → ℕ → Bool
-referencesFound c correct i =
-    not (eqb (c .events .kind i) 4)
-    || (hasReference (c .references) (c .events .unit i) (c .events .component i)
-    && (not (readsCorrect (c .events .component i)) || hasReference correct (c .events .unit i) (c .events .component i)))
+unfoldable pub referenceFound : (own correct : References) → Events → ℕ → Bool
+referenceFound own correct e i =
+    not (eqb (e .kind i) 4)
+    || (hasReference own (e .unit i) (e .component i)
+    && (not (readsCorrect (e .component i)) || hasReference correct (e .unit i) (e .component i)))
+
+unfoldable pub referencesFound : (own correct : References) → Events → Bool
+referencesFound own correct e = allTo (e .count) (referenceFound own correct e)
 
 -- 15: a row for each event
 unfoldable pub rowsFine : Events → (rowsLength : ℕ) → Bool
@@ -187,21 +196,36 @@ rowsFine e rowsLength = leb (rowWidth * e .count) rowsLength
 abbrev pub unless : Bool → (number next : ℕ) → ℕ
 unless fine number next = cond fine next number
 
--- the number of the first limit that the case breaks, or 0
-unfoldable pub refusal : (file correction : List ℕ) (rowsLength : ℕ) → ℕ
-refusal f k n =
+-- 1 to 5, of the header
+unfoldable pub headerRefusal : (file : List ℕ) (next : ℕ) → ℕ
+headerRefusal f next =
     unless (lengthFine f) 1
     (unless (versionFine f) 2
     (unless (sectionsFine f) 3
     (unless (pairsFine f) 4
-    (unless (sizesFine f) 5
-    (unless (unitsFine (sectionOf f 0)) 6
-    (unless (referencesFine (decode f .units) (sectionOf f 1)) 7
-    (unless (correctionFine (decode f .units) k) 8
-    (unless (pastFine (sectionOf f 2)) 9
-    (unless (eventsFine (sectionOf f 3)) 10
-    (unless (orderFine (decode f .events)) 11
-    (unless (allTo (decode f .events .count) (eventListed (decode f))) 12
-    (unless (allTo (decode f .events .count) (amountsFine (decode f))) 13
-    (unless (allTo (decode f .events .count) (referencesFound (decode f) (correctIn f k))) 14
-    (unless (rowsFine (decode f .events) n) 15 0))))))))))))))
+    (unless (sizesFine f) 5 next))))
+
+-- 6 to 9, of the units, the references, the correction and the past
+unfoldable pub recordsRefusal : (units references correction past : List ℕ) (next : ℕ) → ℕ
+recordsRefusal units references correction past next =
+    unless (unitsFine units) 6
+    (unless (referencesFine (unitsIn units) references) 7
+    (unless (correctionFine (unitsIn units) correction) 8
+    (unless (pastFine past) 9 next)))
+
+-- 10 to 15, of the events
+unfoldable pub eventsRefusal : (units references correct events : List ℕ) (rowsLength : ℕ) → ℕ
+eventsRefusal units references correct events rowsLength =
+    unless (eventsFine events) 10
+    (unless (orderFine (eventsIn events)) 11
+    (unless (eventsListed (unitsIn units) (eventsIn events)) 12
+    (unless (amountsFine (unitsIn units) events) 13
+    (unless (referencesFound (referencesIn references) (referencesIn correct) (eventsIn events)) 14
+    (unless (rowsFine (eventsIn events) rowsLength) 15 0)))))
+
+-- the number of the first limit that the case breaks, or 0: each number over everything before the next
+unfoldable pub refusal : (file correction : List ℕ) (rowsLength : ℕ) → ℕ
+refusal f k n =
+    headerRefusal f
+    (recordsRefusal (sectionOf f 0) (sectionOf f 1) k (sectionOf f 2)
+    (eventsRefusal (sectionOf f 0) (sectionOf f 1) (correctReferences k (sectionOf f 1)) (sectionOf f 3) n))
