@@ -6,6 +6,7 @@ use native.Mathlib.Nat.{add-zero, add-assoc, zero-add, one-mul, suc-add, add-suc
 use native.Mathlib.Numerals.{add-one}
 use native.Mathlib.Omega.{arith}
 use lib.ListN.{length, getD, drop, take}
+use lib.Seq.{getD-drop, getD-take}
 use Rattle.binary.specs.Bytes.{byteAt, valueAt, bytesOf}
 
 -- the lower bytes and the upper bytes
@@ -20,3 +21,16 @@ value-add (suc m) n s p =
 pub value-one : (s : List ℕ) (p : ℕ) → valueAt 1 s p ≡ byteAt s p
 unfolding valueAt
 value-one s p = omega arith
+
+-- a number past the first a bytes
+pub value-drop : (w a : ℕ) (s : List ℕ) (p : ℕ) → valueAt w (drop a s) p ≡ valueAt w s (a + p)
+unfolding valueAt
+value-drop zero a s p = refl
+value-drop (suc w) a s p =
+    ap₂ (λ (b v : ℕ). b + 256 * v) (getD-drop a s p 0) (value-drop w a s (p + 1) ∙ ap (valueAt w s) (sym (add-assoc a p 1)))
+
+-- a number within the first n bytes
+pub value-take : (w n : ℕ) (s : List ℕ) (p : ℕ) → p + w ≤ n → valueAt w (take n s) p ≡ valueAt w s p
+unfolding valueAt
+value-take zero n s p l = refl
+value-take (suc w) n s p l = ap₂ (λ (b v : ℕ). b + 256 * v) (getD-take n s p 0 (omega arith)) (value-take w n s (p + 1) (omega arith))

@@ -1,0 +1,4 @@
+pub mod RecordLaws
+pub mod LookupLaws
+pub mod EventLaws
+pub mod RefusalLaws

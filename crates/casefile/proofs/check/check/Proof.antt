@@ -1,0 +1,55 @@
+use mathlib.Core.Path.{_≡_, sym, _∙_}
+use native.Mathlib.Omega.{arith}
+use Rattle.casefile.specs.Decode.{sectionOf}
+use Rattle.casefile.specs.Refusal.{headerRefusal, recordsRefusal}
+use Rattle.casefile.proofs.RefusalLaws.{HeaderFine, header-fine, has-section, refusal-header, refusal-records, refusal-events}
+use Rattle.casefile.proofs.check.check.Statement.{statement}
+use Rattle.casefile.proofs.check.check.Tie as tie
+
+-- the header breaks no limit
+header : (c : tie.Else1) → headerRefusal (c .before .before .before .before .args .file .now) 0 ≡ 0
+header c = sym (c .before .header-refusal .ensures) ∙ c .if1 .left
+
+fine : (c : tie.Else1) → HeaderFine (c .before .before .before .before .args .file .now)
+fine c = header-fine _ 0 (header c) .0
+
+-- what the second stage gave, over the file
+records : (c : tie.After-records-refusal)
+    → c .records-refusal .result
+    ≡ recordsRefusal (sectionOf (c .before .before .before .before .before .before .before .before .args .file .now) 0)
+    (sectionOf (c .before .before .before .before .before .before .before .before .args .file .now) 1)
+    (c .before .before .before .before .before .before .before .before .args .correction .now)
+    (sectionOf (c .before .before .before .before .before .before .before .before .args .file .now) 2) 0
+records c =
+    rw (
+      c .records-refusal .ensures,
+      c .before .section3 .ensures,
+      c .before .before .section2 .ensures,
+      c .before .before .before .section .ensures,
+    )
+
+pub check-spec : {M : Type 1} → statement M
+check-spec =
+    tie.close
+    (tie.spec
+    (λ c κs. tt)
+    (λ c. refusal-header _ _ _ _ (c .before .header-refusal .ensures) (c .if1 .taken))
+    (λ c κs. has-section _ (fine c) 0 (omega arith))
+    (λ c κs. has-section _ (fine (c .before)) 1 (omega arith))
+    (λ c κs. has-section _ (fine (c .before .before)) 2 (omega arith))
+    (λ c κs. tt)
+    (λ c. refusal-records _ _ _ _ (header (c .before .before .before .before .before)) (records (c .before)) (c .if2 .taken))
+    (λ c κs. has-section _ (fine (c .before .before .before .before .before)) 3 (omega arith))
+    (λ c κs. tt)
+    (λ c κs. tt)
+    (λ c.
+    let r = c .before .before .before .before in
+    let o = r .before .before .before in
+    rw (
+      ← refusal-events _ _ _ (header (o .before)) (sym (records r) ∙ c .before .before .before .if2 .left),
+      c .events-refusal .ensures,
+      c .before .correct-references .ensures,
+      c .before .before .section4 .ensures,
+      r .before .before .section2 .ensures,
+      o .section .ensures,
+    )))

@@ -1,0 +1,79 @@
+// The check of a whole case, in number order.
+ghost use mathlib.Core.Path.{_≡_};
+ghost use Rattle.casefile.specs.Refusal.{recordsRefusal, eventsRefusal, refusal};
+use crate::events::amounts_fine;
+use crate::events::events_listed;
+use crate::events::order_fine;
+use crate::events::reading_refusal;
+use crate::events::references_found;
+use crate::header::header_refusal;
+use crate::header::section;
+use crate::header::unless;
+use crate::layout;
+use crate::past::past_fine;
+use crate::references::correct_references;
+use crate::references::correction_fine;
+use crate::references::references_fine;
+use crate::units::units_fine;
+
+// The number of the first limit that units, references, correction or past break, or 0.
+fn records_refusal(units: &[u8], references: &[u8], correction: &[u8], past: &[u8]) -> u8
+    ensures { λ r. ⌜ r ≡ recordsRefusal (now (units .entry)) (now (references .entry)) (now (correction .entry)) (now (past .entry)) 0 ⌝ }
+{
+    let units_good = units_fine(units);
+    let references_good = references_fine(units, references);
+    let correction_good = correction_fine(units, correction);
+    let past_good = past_fine(past);
+    let from_9 = unless(past_good, 9, 0);
+    let from_8 = unless(correction_good, 8, from_9);
+    let from_7 = unless(references_good, 7, from_8);
+    unless(units_good, 6, from_7)
+}
+
+// The number of the first limit that the events break, or 0.
+fn events_refusal(
+    units: &[u8],
+    references: &[u8],
+    correct: &[u8],
+    events: &[u8],
+    rows_length: usize,
+) -> u8
+    ensures { λ r. ⌜ r ≡ eventsRefusal (now (units .entry)) (now (references .entry)) (now (correct .entry)) (now (events .entry)) «rows_length» ⌝ }
+{
+    let unreadable = reading_refusal(events);
+    if unreadable != 0 {
+        return unreadable;
+    }
+    if !order_fine(events) {
+        return 11;
+    }
+    if !events_listed(units, events) {
+        return 12;
+    }
+    let amounts_good = amounts_fine(units, events);
+    let references_good = references_found(references, correct, events);
+    let rows = layout::ROW_WIDTH * (events.len() / layout::EVENT_WIDTH);
+    let from_15 = unless(rows <= rows_length, 15, 0);
+    let from_14 = unless(references_good, 14, from_15);
+    unless(amounts_good, 13, from_14)
+}
+
+// The number of the first limit that the case breaks, or 0 where it is accepted.
+pub fn check<'a>(file: &'a [u8], correction: &'a [u8], rows_length: usize) -> u8
+    ensures { λ r. ⌜ r ≡ refusal (now (file .entry)) (now (correction .entry)) «rows_length» ⌝ }
+{
+    let header = header_refusal(file);
+    if header != 0 {
+        return header;
+    }
+    let units = section(file, 0);
+    let references = section(file, 1);
+    let past = section(file, 2);
+    let records = records_refusal(units, references, correction, past);
+    if records != 0 {
+        return records;
+    }
+    let events = section(file, 3);
+    let correct = correct_references(correction, references);
+    events_refusal(units, references, correct, events, rows_length)
+}

@@ -1,0 +1,96 @@
+// The header: its pairs, the sections, and the checks 1 to 5.
+ghost use mathlib.Core.Path.{_≡_};
+ghost use Prim.Native.Nat.{_+_, _*_, _≤_, _<_};
+ghost use lib.ListN.{length};
+ghost use Rattle.casefile.specs.Decode.{offsetOf, lengthOf, sectionOf, HasSection};
+ghost use Rattle.casefile.specs.Refusal.{pairsFine, sizesFine, headerRefusal, unless as unlessOf};
+use crate::layout;
+use crate::records::size_fine;
+use binary::bytes::load_u16;
+use binary::bytes::load_u32;
+
+fn offset_of(file: &[u8], k: usize) -> u32
+    requires { ⌜ (k < 4) × (36 ≤ length (now file)) ⌝ }
+    ensures { λ r. ⌜ r ≡ offsetOf (now (file .entry)) k ⌝ }
+{
+    load_u32(file, 4 + 8 * k)
+}
+
+fn length_of(file: &[u8], k: usize) -> u32
+    requires { ⌜ (k < 4) × (36 ≤ length (now file)) ⌝ }
+    ensures { λ r. ⌜ r ≡ lengthOf (now (file .entry)) k ⌝ }
+{
+    load_u32(file, 8 + 8 * k)
+}
+
+// Section k (0 units, 1 references, 2 past, 3 events): that stretch of the file itself.
+pub fn section(file: &[u8], k: usize) -> &[u8]
+    requires { ⌜ HasSection (now file) k ⌝ }
+    ensures { λ r. ⌜ now r ≡ sectionOf (now (file .entry)) k ⌝ }
+{
+    let at = offset_of(file, k) as usize;
+    let n = length_of(file, k) as usize;
+    let end = at + n;
+    &file[at..end]
+}
+
+// Whether the pairs follow on. The sums are of 64 bits, so that none wraps.
+fn pairs_fine(file: &[u8]) -> bool
+    requires { ⌜ 36 ≤ length (now file) ⌝ }
+    ensures { λ r. ⌜ r ≡ pairsFine (now (file .entry)) ⌝ }
+{
+    let units = offset_of(file, 0) as usize;
+    let units_length = length_of(file, 0) as usize;
+    let references = offset_of(file, 1) as usize;
+    let references_length = length_of(file, 1) as usize;
+    let past = offset_of(file, 2) as usize;
+    let past_length = length_of(file, 2) as usize;
+    let events = offset_of(file, 3) as usize;
+    let events_length = length_of(file, 3) as usize;
+    (units == layout::HEADER_WIDTH)
+        & (references == units + units_length)
+        & (past == references + references_length)
+        & (events == past + past_length)
+        & (file.len() == events + events_length)
+}
+
+fn sizes_fine(file: &[u8]) -> bool
+    requires { ⌜ 36 ≤ length (now file) ⌝ }
+    ensures { λ r. ⌜ r ≡ sizesFine (now (file .entry)) ⌝ }
+{
+    let units = length_of(file, 0) as usize;
+    let references = length_of(file, 1) as usize;
+    let past = length_of(file, 2) as usize;
+    let events = length_of(file, 3) as usize;
+    size_fine(units, layout::UNIT_WIDTH, layout::MOST_UNITS)
+        & size_fine(references, layout::REFERENCE_WIDTH, layout::MOST_REFERENCES)
+        & size_fine(past, layout::PAST_WIDTH, layout::MOST_PAST)
+        & size_fine(events, layout::EVENT_WIDTH, layout::MOST_EVENTS)
+}
+
+// The number where a test fails, else what follows.
+pub fn unless(fine: bool, number: u8, next: u8) -> u8
+    ensures { λ r. ⌜ r ≡ unlessOf fine number next ⌝ }
+{
+    if fine { next } else { number }
+}
+
+// The number of the first limit of the header that is broken, or 0.
+pub fn header_refusal(file: &[u8]) -> u8
+    ensures { λ r. ⌜ r ≡ headerRefusal (now (file .entry)) 0 ⌝ }
+{
+    if file.len() < layout::HEADER_WIDTH {
+        return 1;
+    }
+    if layout::LONGEST_FILE < file.len() {
+        return 1;
+    }
+    let version = load_u16(file, 0);
+    let sections = load_u16(file, 2);
+    let pairs = pairs_fine(file);
+    let sizes = sizes_fine(file);
+    let from_5 = unless(sizes, 5, 0);
+    let from_4 = unless(pairs, 4, from_5);
+    let from_3 = unless(sections == layout::SECTION_COUNT, 3, from_4);
+    unless(version == layout::VERSION, 2, from_3)
+}

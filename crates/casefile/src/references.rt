@@ -1,0 +1,111 @@
+// References: checks 7 and 8, look-ups, and the correct references.
+ghost use mathlib.Core.Path.{_≡_};
+ghost use Prim.Native.Nat.{_/_, _<_};
+ghost use lib.ListN.{length};
+ghost use Rattle.casefile.specs.Decode.{unitsIn, referencesIn};
+ghost use Rattle.casefile.specs.Lookup.{isReference, hasReference, correctReferences};
+ghost use Rattle.casefile.specs.Refusal.{referenceFieldsFine, referenceKey, referenceFine, referencesFine, correctionFine};
+use crate::layout;
+use crate::records::place_before;
+use crate::records::record_at;
+use crate::records::size_fine;
+use crate::units::is_listed;
+use binary::bytes::load_u8;
+use binary::bytes::load_u16;
+use binary::bytes::load_u32;
+use binary::numbers::choose_u32;
+
+// The correction slice where it isn't empty, otherwise the case's own reference section.
+pub fn correct_references<'a>(correction: &'a [u8], own: &'a [u8]) -> &'a [u8]
+    ensures { λ r. ⌜ now r ≡ correctReferences (now (correction .entry)) (now (own .entry)) ⌝ }
+{
+    if correction.len() == 0 {
+        own
+    } else {
+        correction
+    }
+}
+
+fn reference_fields_fine(component: u8, value: u32) -> bool
+    ensures { λ r. ⌜ r ≡ referenceFieldsFine component value ⌝ }
+{
+    let highest = choose_u32(component <= 2, 1_000_000, 1_000_000_000);
+    (component <= 8) & (value <= highest)
+}
+
+// The place of reference i in the order, by unit and component.
+fn reference_key(references: &[u8], i: usize) -> u32
+    requires { ⌜ i < length (now references) / 8 ⌝ }
+    ensures { λ r. ⌜ r ≡ referenceKey (referencesIn (now (references .entry))) i ⌝ }
+{
+    let reference = record_at(references, i, layout::REFERENCE_WIDTH);
+    let unit = load_u16(reference, 0);
+    let component = load_u8(reference, 2);
+    256 * (unit as u32) + (component as u32)
+}
+
+fn reference_fine(units: &[u8], references: &[u8], i: usize) -> bool
+    requires { ⌜ i < length (now references) / 8 ⌝ }
+    ensures { λ r. ⌜ r ≡ referenceFine (unitsIn (now (units .entry))) (now (references .entry)) i ⌝ }
+{
+    let reference = record_at(references, i, layout::REFERENCE_WIDTH);
+    let unit = load_u16(reference, 0);
+    let component = load_u8(reference, 2);
+    let spare = load_u8(reference, 3);
+    let value = load_u32(reference, 4);
+    let fields = reference_fields_fine(component, value);
+    let listed = is_listed(units, unit);
+    let last = reference_key(references, place_before(i));
+    let key = reference_key(references, i);
+    fields & (spare == 0) & listed & ((i == 0) | (last < key))
+}
+
+pub fn references_fine(units: &[u8], references: &[u8]) -> bool
+    ensures { λ r. ⌜ r ≡ referencesFine (unitsIn (now (units .entry))) (now (references .entry)) ⌝ }
+{
+    let n = references.len() / layout::REFERENCE_WIDTH;
+    let mut fine = true;
+    let mut i = 0;
+    while i < n {
+        fine = fine & reference_fine(units, references, i);
+        i += 1;
+    }
+    fine
+}
+
+// The size comes first: a correction may be of any length.
+pub fn correction_fine(units: &[u8], correction: &[u8]) -> bool
+    ensures { λ r. ⌜ r ≡ correctionFine (unitsIn (now (units .entry))) (now (correction .entry)) ⌝ }
+{
+    if size_fine(
+        correction.len(),
+        layout::REFERENCE_WIDTH,
+        layout::MOST_REFERENCES,
+    ) {
+        return references_fine(units, correction);
+    }
+    false
+}
+
+fn is_reference(references: &[u8], unit: u16, component: u8, j: usize) -> bool
+    requires { ⌜ j < length (now references) / 8 ⌝ }
+    ensures { λ r. ⌜ r ≡ isReference (referencesIn (now (references .entry))) unit component j ⌝ }
+{
+    let reference = record_at(references, j, layout::REFERENCE_WIDTH);
+    let here = load_u16(reference, 0);
+    let of = load_u8(reference, 2);
+    (here == unit) & (of == component)
+}
+
+pub fn has_reference(references: &[u8], unit: u16, component: u8) -> bool
+    ensures { λ r. ⌜ r ≡ hasReference (referencesIn (now (references .entry))) unit component ⌝ }
+{
+    let n = references.len() / layout::REFERENCE_WIDTH;
+    let mut found = false;
+    let mut j = 0;
+    while j < n {
+        found = found | is_reference(references, unit, component, j);
+        j += 1;
+    }
+    found
+}

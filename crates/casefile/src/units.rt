@@ -1,0 +1,113 @@
+// Units: check 6, and look-ups by number.
+ghost use mathlib.Core.Path.{_≡_};
+ghost use Prim.Native.Nat.{_/_, _<_};
+ghost use lib.ListN.{length};
+ghost use Rattle.casefile.specs.Decode.{unitsIn};
+ghost use Rattle.casefile.specs.Lookup.{isUnit, isListed, placeOf};
+ghost use Rattle.casefile.specs.Refusal.{unitFieldsFine, unitSpareFine, unitFine, unitsFine};
+use crate::layout;
+use crate::records::place_before;
+use crate::records::record_at;
+use binary::bytes::load_u8;
+use binary::bytes::load_u16;
+use binary::bytes::load_u32;
+use binary::numbers::choose_usize;
+
+// The number of unit i.
+pub fn unit_number(units: &[u8], i: usize) -> u16
+    requires { ⌜ i < length (now units) / 24 ⌝ }
+    ensures { λ r. ⌜ r ≡ unitsIn (now (units .entry)) .number i ⌝ }
+{
+    load_u16(record_at(units, i, layout::UNIT_WIDTH), 0)
+}
+
+fn unit_fields_fine(
+    area: u8,
+    capability: u32,
+    rate: u32,
+    average_price: u32,
+    constrained_hours: u16,
+) -> bool
+    ensures { λ r. ⌜ r ≡ unitFieldsFine area capability rate «average_price» «constrained_hours» ⌝ }
+{
+    (area <= 1)
+        & (1 <= capability)
+        & (capability <= 50_000)
+        & (rate <= 50_000)
+        & (average_price <= 1_000_000)
+        & (constrained_hours <= 8_784)
+}
+
+fn unit_spare_fine(unit: &[u8]) -> bool
+    requires { ⌜ length (now unit) ≡ 24 ⌝ }
+    ensures { λ r. ⌜ r ≡ unitSpareFine (now (unit .entry)) ⌝ }
+{
+    let after_area = load_u8(unit, 5);
+    let before_capability = load_u16(unit, 6);
+    let last = load_u16(unit, 22);
+    (after_area == 0) & (before_capability == 0) & (last == 0)
+}
+
+fn unit_fine(units: &[u8], i: usize) -> bool
+    requires { ⌜ i < length (now units) / 24 ⌝ }
+    ensures { λ r. ⌜ r ≡ unitFine (now (units .entry)) i ⌝ }
+{
+    let unit = record_at(units, i, layout::UNIT_WIDTH);
+    let area = load_u8(unit, 4);
+    let capability = load_u32(unit, 8);
+    let rate = load_u32(unit, 12);
+    let average_price = load_u32(unit, 16);
+    let constrained_hours = load_u16(unit, 20);
+    let fields = unit_fields_fine(area, capability, rate, average_price, constrained_hours);
+    let spare = unit_spare_fine(unit);
+    let last = unit_number(units, place_before(i));
+    let number = unit_number(units, i);
+    fields & spare & ((i == 0) | (last < number))
+}
+
+pub fn units_fine(units: &[u8]) -> bool
+    ensures { λ r. ⌜ r ≡ unitsFine (now (units .entry)) ⌝ }
+{
+    let n = units.len() / layout::UNIT_WIDTH;
+    let mut fine = true;
+    let mut i = 0;
+    while i < n {
+        fine = fine & unit_fine(units, i);
+        i += 1;
+    }
+    fine
+}
+
+fn is_unit(units: &[u8], number: u16, j: usize) -> bool
+    requires { ⌜ j < length (now units) / 24 ⌝ }
+    ensures { λ r. ⌜ r ≡ isUnit (unitsIn (now (units .entry))) number j ⌝ }
+{
+    unit_number(units, j) == number
+}
+
+pub fn is_listed(units: &[u8], number: u16) -> bool
+    ensures { λ r. ⌜ r ≡ isListed (unitsIn (now (units .entry))) number ⌝ }
+{
+    let n = units.len() / layout::UNIT_WIDTH;
+    let mut listed = false;
+    let mut j = 0;
+    while j < n {
+        listed = listed | is_unit(units, number, j);
+        j += 1;
+    }
+    listed
+}
+
+// The place of the unit of this number, or 0 where it is not listed.
+pub fn unit_place(units: &[u8], number: u16) -> usize
+    ensures { λ r. ⌜ r ≡ placeOf (unitsIn (now (units .entry))) number ⌝ }
+{
+    let n = units.len() / layout::UNIT_WIDTH;
+    let mut place = 0;
+    let mut j = 0;
+    while j < n {
+        place = choose_usize(is_unit(units, number, j), j, place);
+        j += 1;
+    }
+    place
+}
