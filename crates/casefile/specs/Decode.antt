@@ -1,0 +1,108 @@
+-- From the bytes of a case file to the case (document 01, The case file).
+use Prim.Native.Nat.{ℕ, _+_, _*_, _/_, _≤_, _<_}
+use mathlib.Core.List.{List}
+use mathlib.Core.Path.{_≡_}
+use lib.ListN.{length, take, drop}
+use Rattle.binary.specs.Bytes.{byteAt, u16At, u32At}
+use Rattle.casefile.specs.Layout.{sectionCount, headerWidth, unitWidth, referenceWidth, pastWidth, eventWidth, cellsOffset, cellWidth, hours}
+use Rattle.casefile.specs.Case.{Units, References, Violation, Past, Events, Case}
+
+-- the pair of section k (0 units, 1 references, 2 past, 3 events), and the section: that stretch of the file itself
+unfoldable pub offsetOf : List ℕ → ℕ → ℕ
+offsetOf f k = u32At f (4 + 8 * k)
+
+unfoldable pub lengthOf : List ℕ → ℕ → ℕ
+lengthOf f k = u32At f (8 + 8 * k)
+
+unfoldable pub sectionOf : List ℕ → ℕ → List ℕ
+sectionOf f k = take (lengthOf f k) (drop (offsetOf f k) f)
+
+-- the pairs follow on, from the header's end to the file's end
+pub record FollowOn (f : List ℕ) : Type 0 where
+  pub units : offsetOf f 0 ≡ headerWidth
+  pub references : offsetOf f 1 ≡ offsetOf f 0 + lengthOf f 0
+  pub past : offsetOf f 2 ≡ offsetOf f 1 + lengthOf f 1
+  pub events : offsetOf f 3 ≡ offsetOf f 2 + lengthOf f 2
+  pub end : length f ≡ offsetOf f 3 + lengthOf f 3
+
+-- the header and section k lie within the file
+pub record HasSection (f : List ℕ) (k : ℕ) : Type 0 where
+  pub known : k < sectionCount
+  pub header : headerWidth ≤ length f
+  pub inside : offsetOf f k + lengthOf f k ≤ length f
+
+-- record i of a section whose records have that width
+unfoldable pub recordAt : (width : ℕ) → List ℕ → ℕ → List ℕ
+recordAt width s i = take width (drop (width * i) s)
+
+unfoldable pub unitsIn : List ℕ → Units
+unitsIn s =
+    record {
+      count = length s / unitWidth;
+      number = λ i. u16At (recordAt unitWidth s i) 0;
+      group = λ i. u16At (recordAt unitWidth s i) 2;
+      area = λ i. byteAt (recordAt unitWidth s i) 4;
+      capability = λ i. u32At (recordAt unitWidth s i) 8;
+      rate = λ i. u32At (recordAt unitWidth s i) 12;
+      averagePrice = λ i. u32At (recordAt unitWidth s i) 16;
+      constrainedHours = λ i. u16At (recordAt unitWidth s i) 20;
+    }
+
+unfoldable pub referencesIn : List ℕ → References
+referencesIn s =
+    record {
+      count = length s / referenceWidth;
+      unit = λ i. u16At (recordAt referenceWidth s i) 0;
+      component = λ i. byteAt (recordAt referenceWidth s i) 2;
+      value = λ i. u32At (recordAt referenceWidth s i) 4;
+    }
+
+unfoldable pub violationIn : List ℕ → Violation
+violationIn r =
+    record {
+      group = u16At r 0;
+      kind = byteAt r 2;
+      market = byteAt r 3;
+      period = u16At r 4;
+      day = u32At r 8;
+    }
+
+unfoldable pub pastIn : List ℕ → Past
+pastIn s = record { count = length s / pastWidth; entry = λ i. violationIn (recordAt pastWidth s i) }
+
+-- where the cell of an hour stands in an event's record
+abbrev pub cellAt : ℕ → ℕ
+cellAt h = cellsOffset + cellWidth * h
+
+unfoldable pub eventsIn : List ℕ → Events
+eventsIn s =
+    record {
+      count = length s / eventWidth;
+      kind = λ i. byteAt (recordAt eventWidth s i) 0;
+      market = λ i. byteAt (recordAt eventWidth s i) 1;
+      unit = λ i. u16At (recordAt eventWidth s i) 2;
+      period = λ i. u16At (recordAt eventWidth s i) 4;
+      component = λ i. byteAt (recordAt eventWidth s i) 6;
+      impact = λ i. byteAt (recordAt eventWidth s i) 7;
+      day = λ i. u32At (recordAt eventWidth s i) 8;
+      hours = λ i. hours;
+      P = λ i. u32At (recordAt eventWidth s i) 12;
+      Q = λ i. u32At (recordAt eventWidth s i) 16;
+      R = λ i. u32At (recordAt eventWidth s i) 20;
+      b = λ i h. u32At (recordAt eventWidth s i) (cellAt h + 4);
+      m = λ i h. u32At (recordAt eventWidth s i) (cellAt h + 8);
+    }
+
+-- a of event i and hour h
+unfoldable pub amountsIn : List ℕ → ℕ → ℕ → ℕ
+amountsIn s i h = u32At (recordAt eventWidth s i) (cellAt h)
+
+unfoldable pub decode : List ℕ → Case
+decode f =
+    record {
+      units = unitsIn (sectionOf f 0);
+      references = referencesIn (sectionOf f 1);
+      past = pastIn (sectionOf f 2);
+      events = eventsIn (sectionOf f 3);
+      a = amountsIn (sectionOf f 3);
+    }

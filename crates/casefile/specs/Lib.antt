@@ -1,0 +1,6 @@
+pub mod Layout
+pub mod Case
+pub mod Decode
+pub mod Lookup
+pub mod Refusal
+pub mod Examples

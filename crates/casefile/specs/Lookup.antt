@@ -1,0 +1,51 @@
+-- A unit found by its number, and a reference by its unit and component. Numbers and references strictly rise (checks 6 to 8),
+-- so that the last match is the only one.
+use Prim.Native.Nat.{ℕ}
+use mathlib.Core.Bool.{Bool, cond, _&&_}
+use mathlib.Core.List.{List}
+use lib.Dec.{eqb}
+use lib.ListN.{length}
+use Rattle.binary.specs.Bounded.{anyTo, lastTo}
+use Rattle.casefile.specs.Case.{Units, References, Case}
+use Rattle.casefile.specs.Decode.{referencesIn, sectionOf}
+
+-- unit j has this number
+unfoldable pub isUnit : Units → (number j : ℕ) → Bool
+isUnit u number j = eqb (u .number j) number
+
+unfoldable pub isListed : Units → (number : ℕ) → Bool
+isListed u number = anyTo (u .count) (isUnit u number)
+
+-- the place of the unit of this number
+unfoldable pub placeOf : Units → (number : ℕ) → ℕ
+placeOf u number = lastTo (u .count) (isUnit u number)
+
+-- the place of event i's unit, and its group
+unfoldable pub unitOf : Case → ℕ → ℕ
+unitOf c i = placeOf (c .units) (c .events .unit i)
+
+unfoldable pub groupOf : Case → ℕ → ℕ
+groupOf c i = c .units .group (unitOf c i)
+
+-- reference j is of this unit and component
+unfoldable pub isReference : References → (unit component j : ℕ) → Bool
+isReference r unit component j = eqb (r .unit j) unit && eqb (r .component j) component
+
+unfoldable pub hasReference : References → (unit component : ℕ) → Bool
+hasReference r unit component = anyTo (r .count) (isReference r unit component)
+
+-- the reference level of a unit and component
+unfoldable pub levelOf : References → (unit component : ℕ) → ℕ
+levelOf r unit component = r .value (lastTo (r .count) (isReference r unit component))
+
+-- the correction slice where it isn't empty, otherwise the case's own reference section (document 01, Default bids and make-up)
+unfoldable pub correctReferences : (correction own : List ℕ) → List ℕ
+correctReferences correction own = cond (eqb (length correction) 0) own correction
+
+-- the references that c is found in
+unfoldable pub correctIn : (file correction : List ℕ) → References
+correctIn f k = referencesIn (correctReferences k (sectionOf f 1))
+
+-- r of event i
+unfoldable pub referenceOf : Case → ℕ → ℕ
+referenceOf c i = levelOf (c .references) (c .events .unit i) (c .events .component i)

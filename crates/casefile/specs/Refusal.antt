@@ -1,0 +1,231 @@
+-- What a case can break (document 01): the number of the first limit broken, or 0. Each test is of one number of the table.
+use Prim.Native.Nat.{ℕ, _+_, _-_, _*_, _/_, _%_, _^_}
+use mathlib.Core.Bool.{Bool, cond, not, _&&_, _||_}
+use mathlib.Core.List.{List}
+use lib.Dec.{ltb, leb, eqb}
+use lib.ListN.{length}
+use Rattle.binary.specs.Bounded.{allTo}
+use Rattle.binary.specs.Bytes.{byteAt, u16At}
+use Rattle.binary.specs.Word.{within}
+use Rattle.casefile.specs.Layout.{version, sectionCount, headerWidth, longestFile, unitWidth, referenceWidth, pastWidth, eventWidth, mostUnits, mostReferences, mostPast, mostEvents, rowWidth}
+use Rattle.casefile.specs.Case.{Units, References, Violation, Events}
+use Rattle.casefile.specs.Decode.{offsetOf, lengthOf, sectionOf, recordAt, unitsIn, referencesIn, pastIn, eventsIn, amountsIn}
+use Rattle.casefile.specs.Lookup.{isListed, placeOf, hasReference, correctReferences}
+
+-- 1: the length
+unfoldable pub lengthFine : List ℕ → Bool
+lengthFine f = leb headerWidth (length f) && leb (length f) longestFile
+
+-- 2 and 3: the version and the section count
+unfoldable pub versionFine : List ℕ → Bool
+versionFine f = eqb (u16At f 0) version
+
+unfoldable pub sectionsFine : List ℕ → Bool
+sectionsFine f = eqb (u16At f 2) sectionCount
+
+-- 4: the pairs follow on
+unfoldable pub pairsFine : List ℕ → Bool
+pairsFine f =
+    eqb (offsetOf f 0) headerWidth
+    && eqb (offsetOf f 1) (offsetOf f 0 + lengthOf f 0)
+    && eqb (offsetOf f 2) (offsetOf f 1 + lengthOf f 1)
+    && eqb (offsetOf f 3) (offsetOf f 2 + lengthOf f 2)
+    && eqb (length f) (offsetOf f 3 + lengthOf f 3)
+
+-- 5: n bytes are records of that width, and not too many
+unfoldable pub sizeFine : (n width most : ℕ) → Bool
+sizeFine n width most = eqb (n % width) 0 && leb (n / width) most
+
+unfoldable pub sizesFine : List ℕ → Bool
+sizesFine f =
+    sizeFine (lengthOf f 0) unitWidth mostUnits && sizeFine (lengthOf f 1) referenceWidth mostReferences
+    && sizeFine (lengthOf f 2) pastWidth mostPast && sizeFine (lengthOf f 3) eventWidth mostEvents
+
+-- strictly rising: the key of record i is above that of the record before
+unfoldable pub rises : (ℕ → ℕ) → ℕ → Bool
+rises key i = eqb i 0 || ltb (key (i - 1)) (key i)
+
+-- 6: a unit's fields
+unfoldable pub unitFieldsFine : (area capability rate averagePrice constrainedHours : ℕ) → Bool
+unitFieldsFine area capability rate averagePrice constrainedHours =
+    leb area 1 && leb 1 capability && leb capability 50000 && leb rate 50000 && leb averagePrice 1000000
+    && leb constrainedHours 8784
+
+-- bytes 5 to 7 and 22 to 23 of a unit's record
+unfoldable pub unitSpareFine : List ℕ → Bool
+unitSpareFine r = eqb (byteAt r 5) 0 && eqb (u16At r 6) 0 && eqb (u16At r 22) 0
+
+unfoldable pub unitFine : List ℕ → ℕ → Bool
+unitFine s i =
+    unitFieldsFine (unitsIn s .area i) (unitsIn s .capability i) (unitsIn s .rate i) (unitsIn s .averagePrice i)
+    (unitsIn s .constrainedHours i)
+    && unitSpareFine (recordAt unitWidth s i)
+    && rises (unitsIn s .number) i
+
+unfoldable pub unitsFine : List ℕ → Bool
+unitsFine s = allTo (unitsIn s .count) (unitFine s)
+
+-- 7: a reference, among these units
+abbrev pub highestReference : (component : ℕ) → ℕ
+highestReference component = cond (leb component 2) 1000000 1000000000
+
+unfoldable pub referenceFieldsFine : (component value : ℕ) → Bool
+referenceFieldsFine component value = leb component 8 && leb value (highestReference component)
+
+-- the order of references: by unit, then component
+unfoldable pub referenceKey : References → ℕ → ℕ
+referenceKey r i = 256 * r .unit i + r .component i
+
+unfoldable pub referenceFine : Units → List ℕ → ℕ → Bool
+referenceFine u s i =
+    referenceFieldsFine (referencesIn s .component i) (referencesIn s .value i)
+    && eqb (byteAt (recordAt referenceWidth s i) 3) 0
+    && isListed u (referencesIn s .unit i)
+    && rises (referenceKey (referencesIn s)) i
+
+unfoldable pub referencesFine : Units → List ℕ → Bool
+referencesFine u s = allTo (referencesIn s .count) (referenceFine u s)
+
+-- 8: the correction, laid out as references
+unfoldable pub correctionFine : Units → List ℕ → Bool
+correctionFine u s = sizeFine (length s) referenceWidth mostReferences && referencesFine u s
+
+-- 9: a past entry's fields, and bytes 6 to 7
+unfoldable pub violationFine : Violation → Bool
+violationFine v = (eqb (v .kind) 1 || eqb (v .kind) 3) && leb (v .market) 1 && leb (v .day) 1000000
+
+unfoldable pub entryFine : List ℕ → ℕ → Bool
+entryFine s i = violationFine (pastIn s .entry i) && eqb (u16At (recordAt pastWidth s i) 6) 0
+
+unfoldable pub pastFine : List ℕ → Bool
+pastFine s = allTo (pastIn s .count) (entryFine s)
+
+-- 10: what a kind asks, of an event of that kind alone
+abbrev pub ofKind : (k kind : ℕ) → Bool → Bool
+ofKind k kind fine = not (eqb kind k) || fine
+
+-- no bit from that hour on
+unfoldable pub maskFine : (hours mask : ℕ) → Bool
+maskFine hours mask = ltb mask (2 ^ hours)
+
+-- Q and R, by kind
+unfoldable pub quantitiesFine : (hours kind market Q R : ℕ) → Bool
+quantitiesFine hours kind market Q R =
+    ofKind 1 kind (eqb Q 0 && eqb R 0)
+    && ofKind 2 kind (eqb Q 0 && eqb R 0)
+    && ofKind 3 kind (within 32 1000000000 Q && within 32 1000000000 R && (eqb market 0 || eqb R 0))
+    && ofKind 4 kind (maskFine hours Q && leb R 24)
+
+unfoldable pub fieldsFine : (hours kind market component impact day P Q R : ℕ) → Bool
+fieldsFine hours kind market component impact day P Q R =
+    leb 1 kind && leb kind 4 && leb market 1 && ofKind 2 kind (eqb market 1)
+    && leb component 8 && (eqb kind 4 || eqb component 0)
+    && leb impact 1 && (leb kind 2 || eqb impact 0)
+    && leb day 1000000 && maskFine hours P
+    && quantitiesFine hours kind market Q R
+
+-- the bid of a component
+unfoldable pub bidFine : (component w : ℕ) → Bool
+bidFine component w =
+    (ltb 1 component || within 32 1000000 w) && (not (eqb component 2) || leb w 1000000) && (leb component 2 || leb w 1000000000)
+
+-- an hour cell, by kind
+unfoldable pub cellFine : (kind component a b m : ℕ) → Bool
+cellFine kind component a b m =
+    ofKind 1 kind (within 32 1000000 b && eqb m 0)
+    && ofKind 2 kind (leb b 100000000 && eqb m 0)
+    && ofKind 3 kind (leb a 50000 && within 32 1000000 b && eqb m 0)
+    && ofKind 4 kind (bidFine component a && within 32 1000000 b && leb m 50000)
+
+-- hour h of event i
+unfoldable pub hourFine : Events → (a : ℕ → ℕ → ℕ) → (i h : ℕ) → Bool
+hourFine e a i h = cellFine (e .kind i) (e .component i) (a i h) (e .b i h) (e .m i h)
+
+unfoldable pub eventFine : Events → (a : ℕ → ℕ → ℕ) → ℕ → Bool
+eventFine e a i =
+    fieldsFine (e .hours i) (e .kind i) (e .market i) (e .component i) (e .impact i) (e .day i) (e .P i) (e .Q i) (e .R i)
+    && allTo (e .hours i) (hourFine e a i)
+
+unfoldable pub eventsFine : List ℕ → Bool
+eventsFine s = allTo (eventsIn s .count) (eventFine (eventsIn s) (amountsIn s))
+
+-- 11: the order of events: by day, kind, market, unit, component
+unfoldable pub eventKey : Events → ℕ → ℕ
+eventKey e i =
+    1099511627776 * e .day i + 4294967296 * e .kind i + 16777216 * e .market i + 256 * e .unit i + e .component i
+
+unfoldable pub orderFine : Events → Bool
+orderFine e = allTo (e .count) (rises (eventKey e))
+
+-- 12: the event's unit is listed
+unfoldable pub eventListed : Units → Events → ℕ → Bool
+eventListed u e i = isListed u (e .unit i)
+
+unfoldable pub eventsListed : Units → Events → Bool
+eventsListed u e = allTo (e .count) (eventListed u e)
+
+-- 13: kinds 1 and 2, no a above the capability
+unfoldable pub withinCapability : Units → Events → (a : ℕ → ℕ → ℕ) → (i h : ℕ) → Bool
+withinCapability u e a i h = leb (a i h) (u .capability (placeOf u (e .unit i)))
+
+unfoldable pub amountFine : Units → Events → (a : ℕ → ℕ → ℕ) → ℕ → Bool
+amountFine u e a i = ltb 2 (e .kind i) || allTo (e .hours i) (withinCapability u e a i)
+
+unfoldable pub amountsFine : Units → List ℕ → Bool
+amountsFine u s = allTo (eventsIn s .count) (amountFine u (eventsIn s) (amountsIn s))
+
+-- the components that read c
+unfoldable pub readsCorrect : (component : ℕ) → Bool
+readsCorrect component = leb component 1 || eqb component 3
+
+-- 14: kind 4 has r, and c where it is read
+unfoldable pub referenceFound : (own correct : References) → Events → ℕ → Bool
+referenceFound own correct e i =
+    not (eqb (e .kind i) 4)
+    || (hasReference own (e .unit i) (e .component i)
+    && (not (readsCorrect (e .component i)) || hasReference correct (e .unit i) (e .component i)))
+
+unfoldable pub referencesFound : (own correct : References) → Events → Bool
+referencesFound own correct e = allTo (e .count) (referenceFound own correct e)
+
+-- 15: a row for each event
+unfoldable pub rowsFine : Events → (rowsLength : ℕ) → Bool
+rowsFine e rowsLength = leb (rowWidth * e .count) rowsLength
+
+-- the number where the test fails, else what follows
+abbrev pub unless : Bool → (number next : ℕ) → ℕ
+unless fine number next = cond fine next number
+
+-- 1 to 5, of the header
+unfoldable pub headerRefusal : (file : List ℕ) (next : ℕ) → ℕ
+headerRefusal f next =
+    unless (lengthFine f) 1
+    (unless (versionFine f) 2
+    (unless (sectionsFine f) 3
+    (unless (pairsFine f) 4
+    (unless (sizesFine f) 5 next))))
+
+-- 6 to 9, of the units, the references, the correction and the past
+unfoldable pub recordsRefusal : (units references correction past : List ℕ) (next : ℕ) → ℕ
+recordsRefusal units references correction past next =
+    unless (unitsFine units) 6
+    (unless (referencesFine (unitsIn units) references) 7
+    (unless (correctionFine (unitsIn units) correction) 8
+    (unless (pastFine past) 9 next)))
+
+-- 10 to 15, of the events
+unfoldable pub eventsRefusal : (units references correct events : List ℕ) (rowsLength : ℕ) → ℕ
+eventsRefusal units references correct events rowsLength =
+    unless (eventsFine events) 10
+    (unless (orderFine (eventsIn events)) 11
+    (unless (eventsListed (unitsIn units) (eventsIn events)) 12
+    (unless (amountsFine (unitsIn units) events) 13
+    (unless (referencesFound (referencesIn references) (referencesIn correct) (eventsIn events)) 14
+    (unless (rowsFine (eventsIn events) rowsLength) 15 0)))))
+
+-- the number of the first limit that the case breaks, or 0: each number over everything before the next
+unfoldable pub refusal : (file correction : List ℕ) (rowsLength : ℕ) → ℕ
+refusal f k n =
+    headerRefusal f
+    (recordsRefusal (sectionOf f 0) (sectionOf f 1) k (sectionOf f 2)
+    (eventsRefusal (sectionOf f 0) (sectionOf f 1) (correctReferences k (sectionOf f 1)) (sectionOf f 3) n))
