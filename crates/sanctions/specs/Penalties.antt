@@ -72,7 +72,7 @@ dispatchPenaltyOf c i = cond (flaggedWithImpact c i) (dispatchPenalty (dispatchR
 unfoldable pub energyPart : (part : ℕ → ℕ) → Case → (i j : ℕ) → ℕ
 energyPart part c i j =
     10 * part (c .events .Q j)
-    + sumTo (c .events .hours i) (λ h. cond (fuelFlag c i h) (c .a j h * part (c .events .b j h)) 0)
+    + sumTo (c .events .hours j) (λ h. cond (fuelFlag c i h) (c .a j h * part (c .events .b j h)) 0)
 
 -- E is gain less loss
 unfoldable pub gain : Case → ℕ → ℕ
