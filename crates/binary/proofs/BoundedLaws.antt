@@ -4,7 +4,7 @@ use Prim.Native.Nat.{ℕ, zero, suc, _+_, _*_, _≤_, _<_, zero-le}
 use mathlib.Core.Bool.{Bool, true, false, cond, _&&_, _||_, and-false, or-true}
 use mathlib.Core.Logic.{⊎-elim}
 use mathlib.Core.Path.{_≡_, refl, sym, ap, ap₂, subst, _∙_}
-use native.Mathlib.Nat.{le-refl, add-le-add, mul-le-mul, eq-or-lt-of-le, le-of-suc-le-suc, not-suc-le-zero}
+use native.Mathlib.Nat.{add-zero, add-suc, add-assoc, le-refl, add-le-add, mul-le-mul, eq-or-lt-of-le, le-of-suc-le-suc, not-suc-le-zero}
 use native.Mathlib.Numerals.{add-one}
 use native.Mathlib.Omega.{arith}
 use lib.Dec.{ltb}
@@ -217,3 +217,34 @@ last-holds (suc n) p e = go (p n) refl (last-holds n p) e
         or-false-l : (x : Bool) → (x || false) ≡ true → x ≡ true
         or-false-l true h = refl
         or-false-l false h = h
+
+-- ---- counts
+
+-- the count below k + m, cut at k
+pub count-split : (k m : ℕ) (p : ℕ → Bool) → countTo (k + m) p ≡ countTo k p + countTo m (λ i. p (k + i))
+unfolding countTo
+count-split k zero p = rw (add-zero k) (sym (add-zero (countTo k p)))
+count-split k (suc m) p =
+    rw (add-suc k m) (ap (λ (x : ℕ). x + cond (p (k + m)) 1 0) (count-split k m p) ∙ add-assoc _ _ _)
+
+-- one is put in after the first k: no count falls
+pub count-insert : (k m : ℕ) (p q : ℕ → Bool) → ((j : ℕ) → j < k → p j ≡ q j)
+    → ((j : ℕ) → j < m → p (k + j) ≡ q (k + (1 + j))) → countTo (k + m) p ≤ countTo (k + (1 + m)) q
+count-insert k m p q f g =
+    let a = count-split k m p in
+    let b = count-split k (1 + m) q in
+    let c = count-split 1 m (λ j. q (k + j)) in
+    let d = count-same k p q f in
+    let e = count-same m (λ j. p (k + j)) (λ j. q (k + (1 + j))) g in
+    omega arith
+
+-- some index passes where the count is above 0
+pub any-count : (n : ℕ) (p : ℕ → Bool) → anyTo n p ≡ ltb 0 (countTo n p)
+unfolding anyTo countTo
+any-count zero p = refl
+any-count (suc n) p = ap (λ (b : Bool). b || p n) (any-count n p) ∙ go (countTo n p) (p n)
+  where
+    go : (k : ℕ) (b : Bool) → (ltb 0 k || b) ≡ ltb 0 (k + cond b 1 0)
+    go zero true = refl
+    go zero false = refl
+    go (suc k) b = rw (lt-ltb 0 (suc k) (omega arith)) (sym (lt-ltb 0 (suc k + cond b 1 0) (omega arith)))

@@ -42,6 +42,33 @@ pub cond-mono : (b : Bool) {x y x′ y′ : Bool} → (T b → x ⇒ x′) → (
 cond-mono true f g = f tt
 cond-mono false f g = g tt
 
+pub cond-le : (b : Bool) {x y x′ y′ : ℕ} → (T b → x ≤ x′) → (T (not b) → y ≤ y′) → cond b x y ≤ cond b x′ y′
+cond-le true f g = f tt
+cond-le false f g = g tt
+
+pub cond-same : (b : Bool) {x y x′ y′ : ℕ} → (T b → x ≡ x′) → (T (not b) → y ≡ y′) → cond b x y ≡ cond b x′ y′
+cond-same true f g = f tt
+cond-same false f g = g tt
+
+pub cond-bound : (b : Bool) {x y n : ℕ} → (T b → x ≤ n) → (T (not b) → y ≤ n) → cond b x y ≤ n
+cond-bound true f g = f tt
+cond-bound false f g = g tt
+
+-- the second test is compared where the first passes
+pub and-given : (a : Bool) {b b′ : Bool} → (T a → b ⇒ b′) → (a && b) ⇒ (a && b′)
+and-given true f = f tt
+and-given false f = keep false
+
+-- a choice of two numbers by a test that passes more often
+pub choice-le : {p q : Bool} {x y : ℕ} → p ⇒ q → y ≤ x → cond p x y ≤ cond q x y
+choice-le {p} {q} {x} {y} f h = go p q (f .give)
+  where
+    go : (p q : Bool) → (T p → T q) → cond p x y ≤ cond q x y
+    go true true f = le-refl x
+    go true false f = absurd (f tt)
+    go false true f = h
+    go false false f = le-refl y
+
 -- a larger amount, counted where a test passes that passes more often
 pub count-le : {p q : Bool} {x y : ℕ} → p ⇒ q → x ≤ y → cond p x 0 ≤ cond q y 0
 count-le {p} {q} {x} {y} f h = go p q (f .give)
@@ -79,3 +106,20 @@ pub or-r : (x y : Bool) → (x || y) ≡ false → y ≡ false
 or-r true true h = h
 or-r true false h = refl
 or-r false y h = h
+
+-- the same of a test as a type: `search (and-left, and-right)` takes a long && apart
+pub and-left : (a b : Bool) → T (a && b) → T a
+and-left true b t = tt
+and-left false b t = t
+
+pub and-right : (a b : Bool) → T (a && b) → T b
+and-right true b t = t
+and-right false b t = absurd t
+
+pub or-cases : (a b : Bool) → T (a || b) → T a ⊎ T b
+or-cases true b t = inl tt
+or-cases false b t = inr t
+
+pub cond-cases : (b p q : Bool) → T (cond b p q) → (T b × T p) ⊎ (T (not b) × T q)
+cond-cases true p q t = inl (tt, t)
+cond-cases false p q t = inr (tt, t)

@@ -1,0 +1,1 @@
+// The flagged hours of every event of a case.

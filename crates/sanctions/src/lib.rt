@@ -1,0 +1,1 @@
+// Multipliers and penalties of every event of a case.

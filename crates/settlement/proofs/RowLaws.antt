@@ -1,0 +1,99 @@
+-- What stands in a row of the settled rows buffer: its flag mask, penalty and multiplier.
+use Prim.Native.Nat.{ℕ, zero, suc, _+_, _*_, _^_, _≤_, _<_}
+use mathlib.Core.Bool.{Bool, true, cond}
+use mathlib.Core.List.{List, [], _∷_, _++_, append-assoc}
+use mathlib.Core.Logic.{_⊎_, inl, inr}
+use mathlib.Core.Path.{_≡_, refl, sym, _∙_, ap, ap₂}
+use native.Mathlib.Nat.{add-zero, add-assoc, lt-of-lt-of-le, not-suc-le-zero, eq-or-lt-of-le, le-of-suc-le-suc}
+use native.Mathlib.Omega.{arith}
+use lib.Dec.{eqb}
+use lib.ListN.{length, drop, length-append, List·getD-append}
+use borrow.Author.Tests.{eq-eqb}
+use Rattle.binary.specs.Bytes.{byteAt, valueAt, u32At, u64At, bytesOf}
+use Rattle.binary.proofs.ByteLaws.{value-one, value-same, value-skip, byte-skip, bytes-length, bytes-read}
+use Rattle.casefile.specs.Layout.{hours, rowWidth}
+use Rattle.casefile.specs.Case.{References, Case}
+use Rattle.casefile.specs.Decode.{decode}
+use Rattle.casefile.specs.Lookup.{correctIn}
+use Rattle.casefile.specs.Refusal.{refusal}
+use Rattle.conduct.specs.Flags.{flagMask}
+use Rattle.sanctions.specs.Penalties.{N3, N2, multiplier, penalty}
+use Rattle.default_bids.specs.Mitigation.{mitigatedMask, bidInForce, makeUpOf}
+use Rattle.settlement.specs.Row.{joinTo, bidBytes, rowOf, rowsOf}
+use Rattle.settlement.specs.Settled.{Answer, accepted, refused, answerOf, rowsAfter, Settled, settled}
+
+pub join-length : (m n : ℕ) (f : ℕ → List ℕ) → ((i : ℕ) → length (f i) ≡ m) → length (joinTo n f) ≡ m * n
+unfolding joinTo
+join-length m zero f h = omega arith
+join-length m (suc n) f h = length-append (joinTo n f) (f n) ∙ ap₂ _+_ (join-length m n f h) (h n) ∙ omega arith
+
+pub join-byte : (m n : ℕ) (f : ℕ → List ℕ) → ((i : ℕ) → length (f i) ≡ m) → (zs : List ℕ) (i j : ℕ) → i < n → j < m
+    → byteAt (joinTo n f ++ zs) (m * i + j) ≡ byteAt (f i) j
+unfolding joinTo
+join-byte m zero f h zs i j l lj = absurd (not-suc-le-zero l)
+join-byte m (suc n) f h zs i j l lj =
+    ap (λ (s : List ℕ). byteAt s (m * i + j)) (append-assoc (joinTo n f) (f n) zs)
+    ∙ go (λ k. join-byte m n f h (f n ++ zs) i j k lj) (eq-or-lt-of-le (le-of-suc-le-suc l))
+  where
+    go : (i < n → byteAt (joinTo n f ++ (f n ++ zs)) (m * i + j) ≡ byteAt (f i) j) → (i ≡ n) ⊎ (i < n)
+        → byteAt (joinTo n f ++ (f n ++ zs)) (m * i + j) ≡ byteAt (f i) j
+    go ih (inl e) =
+        rw e (byte-skip (m * n) (joinTo n f) (f n ++ zs) j (join-length m n f h)
+        ∙ List·getD-append (f n) zs 0 j (omega (arith, h n)))
+    go ih (inr k) = ih k
+
+module _ (c : Case) (k : References) where
+  bids-length : (i : ℕ) → length (bidBytes c k i) ≡ 4 * hours
+  unfolding bidBytes
+  bids-length i = join-length 4 hours (λ h. bytesOf 4 (bidInForce c k i h)) (λ h. bytes-length 4 (bidInForce c k i h))
+
+  pub row-length : (i : ℕ) → length (rowOf c k i) ≡ rowWidth
+  unfolding rowOf
+  row-length i = simp (length-append, bytes-length, bids-length i)
+
+  row-flags : (i : ℕ) → flagMask c i < 2 ^ 32 → u32At (rowOf c k i) 0 ≡ flagMask c i
+  unfolding rowOf
+  row-flags i h = bytes-read 4 (flagMask c i) _ h
+
+  row-penalty : (i : ℕ) → penalty c i < 2 ^ 64 → u64At (rowOf c k i) 8 ≡ penalty c i
+  unfolding rowOf
+  row-penalty i h =
+      value-skip 8 4 (bytesOf 4 (flagMask c i)) _ 4 (bytes-length 4 (flagMask c i))
+      ∙ value-skip 8 4 (bytesOf 4 (mitigatedMask c i)) _ 0 (bytes-length 4 (mitigatedMask c i))
+      ∙ bytes-read 8 (penalty c i) _ h
+
+  row-multiplier : (i : ℕ) → multiplier c i < 256 → byteAt (rowOf c k i) 24 ≡ multiplier c i
+  unfolding rowOf
+  row-multiplier i h =
+      sym (value-one (rowOf c k i) 24)
+      ∙ value-skip 1 4 (bytesOf 4 (flagMask c i)) _ 20 (bytes-length 4 (flagMask c i))
+      ∙ value-skip 1 4 (bytesOf 4 (mitigatedMask c i)) _ 16 (bytes-length 4 (mitigatedMask c i))
+      ∙ value-skip 1 8 (bytesOf 8 (penalty c i)) _ 8 (bytes-length 8 (penalty c i))
+      ∙ value-skip 1 8 (bytesOf 8 (makeUpOf c k i)) _ 0 (bytes-length 8 (makeUpOf c k i))
+      ∙ bytes-read 1 (multiplier c i) _ h
+
+  module _ (rows : List ℕ) where
+    rows-byte : (i p : ℕ) → i < c .events .count → p < rowWidth → byteAt (rowsOf c k rows) (rowWidth * i + p) ≡ byteAt (rowOf c k i) p
+    unfolding rowsOf
+    rows-byte i p l b = join-byte rowWidth (c .events .count) (rowOf c k) row-length (drop (rowWidth * c .events .count) rows) i p l b
+
+    rows-value : (w i p : ℕ) → i < c .events .count → p + w ≤ rowWidth
+        → valueAt w (rowsOf c k rows) (rowWidth * i + p) ≡ valueAt w (rowOf c k i) p
+    rows-value w i p l b =
+        value-same w (rowsOf c k rows) (rowOf c k i) (rowWidth * i + p) p
+        λ j lj. rw (add-assoc (rowWidth * i) p j) (rows-byte i (p + j) l (omega arith))
+
+    pub rows-flags : (i : ℕ) → i < c .events .count → flagMask c i < 2 ^ 32 → u32At (rowsOf c k rows) (rowWidth * i) ≡ flagMask c i
+    rows-flags i l h = rw (← add-zero (rowWidth * i)) (rows-value 4 i 0 l (omega arith) ∙ row-flags i h)
+
+    pub rows-penalty : (i : ℕ) → i < c .events .count → penalty c i < 2 ^ 64 → u64At (rowsOf c k rows) (rowWidth * i + 8) ≡ penalty c i
+    rows-penalty i l h = rows-value 8 i 8 l (omega arith) ∙ row-penalty i h
+
+    pub rows-multiplier : (i : ℕ) → i < c .events .count → multiplier c i < 256 → byteAt (rowsOf c k rows) (rowWidth * i + 24) ≡ multiplier c i
+    rows-multiplier i l h = rows-byte i 24 l (omega arith) ∙ row-multiplier i h
+
+-- what settling an accepted case is
+pub settled-accepted : (f k rows : List ℕ) → refusal f k (length rows) ≡ 0
+    → settled f k rows ≡ record { answer = accepted f k; rows = rowsOf (decode f) (correctIn f k) rows }
+unfolding settled answerOf rowsAfter
+settled-accepted f k rows e = rw (eq-eqb _ _ e) refl

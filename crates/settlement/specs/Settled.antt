@@ -1,0 +1,48 @@
+-- What settling a case answers and leaves in the rows buffer, also where the case is refused (document 01, Rows and listing;
+-- What a case can break).
+use Prim.Native.Nat.{ℕ}
+use mathlib.Core.Bool.{cond}
+use mathlib.Core.List.{List}
+use lib.Dec.{eqb}
+use lib.ListN.{length}
+use Rattle.casefile.specs.Decode.{decode}
+use Rattle.casefile.specs.Lookup.{correctIn}
+use Rattle.casefile.specs.Refusal.{refusal}
+use Rattle.sanctions.specs.Penalties.{totalPenalty}
+use Rattle.default_bids.specs.Mitigation.{totalMakeUp}
+use Rattle.settlement.specs.Row.{rowsOf}
+
+-- document 01's number, 0 where the case is accepted; the row count; the totals of penalties and of make-ups
+pub record Answer : Type 0 where
+  pub number : ℕ
+  pub rowCount : ℕ
+  pub penalties : ℕ
+  pub makeUps : ℕ
+
+abbrev pub refused : (number : ℕ) → Answer
+refused n = record { number = n; rowCount = 0; penalties = 0; makeUps = 0 }
+
+unfoldable pub accepted : (file correction : List ℕ) → Answer
+accepted f k =
+    record {
+      number = 0;
+      rowCount = decode f .events .count;
+      penalties = totalPenalty (decode f);
+      makeUps = totalMakeUp (decode f) (correctIn f k);
+    }
+
+-- the answer, for a rows buffer of that length
+unfoldable pub answerOf : (file correction : List ℕ) (rowsLength : ℕ) → Answer
+answerOf f k n = cond (eqb (refusal f k n) 0) (accepted f k) (refused (refusal f k n))
+
+-- the rows buffer afterwards; a refusal leaves it untouched
+unfoldable pub rowsAfter : (file correction rows : List ℕ) → List ℕ
+rowsAfter f k rows = cond (eqb (refusal f k (length rows)) 0) (rowsOf (decode f) (correctIn f k) rows) rows
+
+-- a settlement whole
+pub record Settled : Type 0 where
+  pub answer : Answer
+  pub rows : List ℕ
+
+unfoldable pub settled : (file correction rows : List ℕ) → Settled
+settled f k rows = record { answer = answerOf f k (length rows); rows = rowsAfter f k rows }

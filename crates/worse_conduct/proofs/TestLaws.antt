@@ -1,0 +1,127 @@
+-- The tests, the ladder and the penalties on plain numbers are monotone: a worse a, a larger sum, count or multiplier keeps a
+-- flag and lowers no figure.
+use Prim.Native.Nat.{ℕ, _+_, _-_, _*_, _/_, _≤_, _<_, min}
+use mathlib.Core.Bool.{Bool, true, false, cond, not, _&&_, _||_}
+use mathlib.Core.Logic.{_≢_}
+use mathlib.Core.Path.{_≡_, refl, sym, _∙_, ap}
+use native.Mathlib.Nat.{le-refl, mul-le-mul, mul-le-mul-left, mul-le-mul-right, mul-add, add-sub-of-le, div-mul-le-self, le-div-iff-mul-le}
+use native.Mathlib.Omega.{arith}
+use borrow.Author.Tests.{ltb-true, ltb-false}
+use lib.Dec.{T, ltb, leb, eqb, ltb→lt, lt→ltb, leb→le, eqb→eq}
+use Rattle.binary.specs.Word.{positivePart}
+use Rattle.binary.proofs.Implies.{_⇒_, mono, and-given, or-mono, choice-le, and-left, and-right}
+use Rattle.tariff.specs.Threshold.{thresholdOf}
+use Rattle.tariff.specs.declared.threshold.Threshold.{Threshold}
+use Rattle.tariff.specs.Conduct.{increase, lowerTest, constrainedTest, percentTest, timeTest, maximumTest, bidTest, withheldTest, dispatchTest}
+use Rattle.tariff.specs.Sanctions.{cents, ladder, withheldPenalty, dispatchPenalty, fuelCharge, fuelPenalty}
+
+-- ---- conduct tests
+
+pub increase-mono : (r a a′ : ℕ) → positivePart 32 a ≤ positivePart 32 a′ → increase r a ≤ increase r a′
+unfolding increase
+increase-mono r a a′ h = omega arith
+
+module _ (t : Threshold) (r a a′ : ℕ) (h : positivePart 32 a ≤ positivePart 32 a′) where
+  lower-mono : lowerTest t r a ⇒ lowerTest t r a′
+  unfolding lowerTest
+  lower-mono = search (mono, increase-mono)
+
+  constrained-mono : (market : ℕ) (tight : Bool) (averagePrice H : ℕ)
+      → constrainedTest (increase r a) market tight averagePrice H ⇒ constrainedTest (increase r a′) market tight averagePrice H
+  unfolding constrainedTest
+  constrained-mono market tight averagePrice H = search (mono, increase-mono) depth 8
+
+  percent-mono : percentTest t r (increase r a) ⇒ percentTest t r (increase r a′)
+  unfolding percentTest
+  percent-mono = search (mono, increase-mono)
+
+  time-mono : (total total′ : ℕ) → total ≤ total′ → timeTest t (increase r a) total ⇒ timeTest t (increase r a′) total′
+  unfolding timeTest
+  time-mono total total′ g = search (mono, increase-mono)
+
+maximum-mono : (t : Threshold) (r a a′ : ℕ) → positivePart 32 a′ ≤ positivePart 32 a → maximumTest t r a ⇒ maximumTest t r a′
+unfolding maximumTest
+maximum-mono t r a a′ f = record { give = λ s. omega (arith, ltb→lt, lt→ltb) }
+
+-- a bid that moved further to the side that its test looks at
+pub bid-mono : (k r a a′ market : ℕ) (tight : Bool) (averagePrice H total total′ : ℕ) → total ≤ total′
+    → (k ≢ 8 → positivePart 32 a ≤ positivePart 32 a′)
+    → (k ≡ 8 → positivePart 32 a′ ≤ positivePart 32 a)
+    → bidTest k r a market tight averagePrice H total ⇒ bidTest k r a′ market tight averagePrice H total′
+unfolding bidTest
+bid-mono k r a a′ market tight averagePrice H total total′ g up down =
+    let t = thresholdOf k in
+    or-mono
+    (or-mono
+    (or-mono
+    (or-mono
+    (or-mono
+    (and-given (leb k 1)
+    (λ s. or-mono (lower-mono t r a a′ (up (omega (arith, leb→le))))
+    (constrained-mono t r a a′ (up (omega (arith, leb→le))) market tight averagePrice H)))
+    (and-given (eqb k 2) (λ s. lower-mono t r a a′ (up (omega (arith, eqb→eq))))))
+    (and-given (eqb k 3) (λ s. percent-mono t r a a′ (up (omega (arith, eqb→eq))))))
+    (and-given (leb 4 k && leb k 6)
+    (λ s. let n : k ≤ 6 = leb→le k 6 (search and-right) in time-mono t r a a′ (up (omega arith)) total total′ g)))
+    (and-given (eqb k 7) (λ s. percent-mono t r a a′ (up (omega (arith, eqb→eq))))))
+    (and-given (eqb k 8) (λ s. maximum-mono t r a a′ (down (eqb→eq k 8 s))))
+
+pub withheld-mono : (a a′ capability S S′ G : ℕ) (tight : Bool) → a ≤ a′ → S ≤ S′
+    → withheldTest a capability S G tight ⇒ withheldTest a′ capability S′ G tight
+unfolding withheldTest
+withheld-mono a a′ capability S S′ G tight f g = search mono
+
+pub dispatch-mono : (a a′ rate S S′ : ℕ) (tight : Bool) → a ≤ a′ → S ≤ S′
+    → dispatchTest a rate S tight ⇒ dispatchTest a′ rate S′ tight
+unfolding dispatchTest
+dispatch-mono a a′ rate S S′ tight f g = search mono
+
+-- ---- multipliers and penalties
+
+pub cents-mono : (parts x y : ℕ) → 0 < parts → x ≤ y → cents parts x ≤ cents parts y
+unfolding cents
+cents-mono parts x y p h =
+    le-div-iff-mul-le p .1 (omega (arith, div-mul-le-self (x + parts / 2) parts))
+
+pub ladder-mono : {n n′ k k′ : ℕ} → n ≤ n′ → k ≤ k′ → ladder n k ≤ ladder n′ k′
+unfolding ladder
+ladder-mono {n} {n′} {k} {k′} f g = go (leb 4 k) (leb 4 k′) (leb 3 n) (leb 3 n′) (search mono) (search mono)
+  where
+    go : (p p′ q q′ : Bool) → p ⇒ p′ → q ⇒ q′ → cond p 6 (cond q 4 2) ≤ cond p′ 6 (cond q′ 4 2)
+    go true true q q′ f g = omega arith
+    go true false q q′ f g = absurd (f .give tt)
+    go false true true q′ f g = omega arith
+    go false true false q′ f g = omega arith
+    go false false true true f g = omega arith
+    go false false true false f g = absurd (g .give tt)
+    go false false false true f g = omega arith
+    go false false false false f g = omega arith
+
+pub withheld-penalty-mono : (m m′ x x′ : ℕ) → m ≤ m′ → x ≤ x′ → withheldPenalty m x ≤ withheldPenalty m′ x′
+unfolding withheldPenalty
+withheld-penalty-mono m m′ x x′ f g = cents-mono 20 _ _ (omega arith) (mul-le-mul f g)
+
+pub dispatch-penalty-mono : (x x′ : ℕ) → x ≤ x′ → dispatchPenalty x ≤ dispatchPenalty x′
+unfolding dispatchPenalty
+dispatch-penalty-mono x x′ f = cents-mono 2 _ _ (omega arith) (mul-le-mul-left 3 f)
+
+-- X is not smaller under a larger M where E is 0 or more
+charge-mono : (M M′ gain loss T : ℕ) → M ≤ M′ → loss ≤ gain → fuelCharge M gain loss T ≤ fuelCharge M′ gain loss T
+unfolding fuelCharge
+charge-mono M M′ gain loss T f g =
+    let E : ℕ = gain - loss in
+    let s : (N : ℕ) → N * gain ≡ N * loss + N * E = λ N. ap (λ (x : ℕ). N * x) (sym (add-sub-of-le g)) ∙ mul-add N loss E in
+    let h : M * E ≤ M′ * E = mul-le-mul-right E f in
+    omega (arith, s M, s M′)
+
+pub fuel-penalty-mono : (M M′ gain loss T : ℕ) → M ≤ M′ → loss ≤ gain → fuelPenalty M gain loss T ≤ fuelPenalty M′ gain loss T
+unfolding fuelPenalty
+fuel-penalty-mono M M′ gain loss T f g =
+    go (fuelCharge M gain loss T) (fuelCharge M′ gain loss T) (charge-mono M M′ gain loss T f g)
+    (ltb (fuelCharge M gain loss T) 10000000) (ltb (fuelCharge M′ gain loss T) 10000000) refl refl
+  where
+    go : (x y : ℕ) → x ≤ y → (s s′ : Bool) → ltb x 10000000 ≡ s → ltb y 10000000 ≡ s′
+        → cond s 0 (cents 20 x) ≤ cond s′ 0 (cents 20 y)
+    go x y h true s′ p q = omega arith
+    go x y h false true p q = let u = ltb-false x 10000000 p in let v = ltb-true y 10000000 q in omega arith
+    go x y h false false p q = cents-mono 20 x y (omega arith) h

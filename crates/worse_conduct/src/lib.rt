@@ -1,0 +1,1 @@
+// Behaving worse never costs less: specs/Promise has the claim, proofs/ its proof.
