@@ -3,3 +3,4 @@ pub mod BoundedLaws
 pub mod MaskLaws
 pub mod ByteLaws
 pub mod WordLaws
+pub mod ListLaws

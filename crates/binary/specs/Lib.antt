@@ -1,3 +1,4 @@
 pub mod Bounded
 pub mod Bytes
 pub mod Word
+pub mod Lists
