@@ -2,7 +2,6 @@ use Prim.Native.Nat.{_≤_, _-_}
 use mathlib.Core.Path.{_≡_}
 use borrow.Author.Needs.{needs}
 use native.Mathlib.Omega.{arith}
-use lib.ListN.{length}
 use Rattle.binary.specs.Bounded.{allTo}
 use Rattle.binary.proofs.BoundedLaws.{all-none, all-more}
 use Rattle.casefile.specs.Read.{amountWithin}
