@@ -12,6 +12,7 @@ use borrow.Author.Tests.{ltb-true, ltb-false, leb-true, eqb-true, eq-eqb, le-ltb
 use Rattle.binary.specs.Bounded.{allTo}
 use Rattle.binary.proofs.Implies.{and-l, and-r}
 use Rattle.binary.proofs.BoundedLaws.{all-at, any-true}
+use Rattle.casefile.specs.Layout.{sectionCount, headerWidth, longestFile, unitWidth, referenceWidth, pastWidth, eventWidth, mostUnits, mostReferences, mostPast, mostEvents, rowWidth}
 use Rattle.casefile.specs.Decode.{lengthOf, sectionOf, FollowOn, HasSection, unitsIn, referencesIn, pastIn, eventsIn, amountsIn, decode}
 use Rattle.casefile.specs.Lookup.{isUnit, isListed, placeOf, unitOf, hasReference, levelOf, correctReferences, correctIn, referenceOf}
 use Rattle.casefile.specs.Refusal.{sizeFine, sizesFine, rises, unitFine, unitsFine, highestReference, referenceKey, referenceFine, referencesFine, correctionFine, entryFine, pastFine, hourFine, eventFine, eventsFine, eventKey, orderFine, eventListed, eventsListed, withinCapability, amountFine, amountsFine, readsCorrect, referenceFound, referencesFound, rowsFine, eventsRefusal, refusal}
@@ -44,81 +45,81 @@ module _ (f k : List ℕ) (n : ℕ) (h : refusal f k n ≡ 0) where
 
   -- the file
 
-  pub file-long : 36 ≤ length f
+  pub file-long : headerWidth ≤ length f
   file-long = stages.header-long f header
 
-  pub file-short : length f ≤ 65000
+  pub file-short : length f ≤ longestFile
   file-short = stages.header-short f header
 
   pub follows : FollowOn f
   follows = stages.follow-on f header
 
-  pub has-section : (i : ℕ) → i < 4 → HasSection f i
+  pub has-section : (i : ℕ) → i < sectionCount → HasSection f i
   has-section = stages.has-section f header
 
-  pub section-length : (i : ℕ) → i < 4 → length (sectionOf f i) ≡ lengthOf f i
+  pub section-length : (i : ℕ) → i < sectionCount → length (sectionOf f i) ≡ lengthOf f i
   unfolding sectionOf
   section-length i l = let s = has-section i l in simp (length-take, length-drop) (omega arith)
 
   -- sizes
 
-  units-sized : (lengthOf f 0 % 24 ≡ 0) × (lengthOf f 0 / 24 ≤ 64)
+  units-sized : (lengthOf f 0 % unitWidth ≡ 0) × (lengthOf f 0 / unitWidth ≤ mostUnits)
   unfolding sizesFine
-  units-sized = let t = header .sizes in sized (lengthOf f 0) 24 64 (search (and-l, and-r))
+  units-sized = let t = header .sizes in sized (lengthOf f 0) unitWidth mostUnits (search (and-l, and-r))
 
-  references-sized : (lengthOf f 1 % 8 ≡ 0) × (lengthOf f 1 / 8 ≤ 256)
+  references-sized : (lengthOf f 1 % referenceWidth ≡ 0) × (lengthOf f 1 / referenceWidth ≤ mostReferences)
   unfolding sizesFine
-  references-sized = let t = header .sizes in sized (lengthOf f 1) 8 256 (search (and-l, and-r))
+  references-sized = let t = header .sizes in sized (lengthOf f 1) referenceWidth mostReferences (search (and-l, and-r))
 
-  past-sized : (lengthOf f 2 % 12 ≡ 0) × (lengthOf f 2 / 12 ≤ 256)
+  past-sized : (lengthOf f 2 % pastWidth ≡ 0) × (lengthOf f 2 / pastWidth ≤ mostPast)
   unfolding sizesFine
-  past-sized = let t = header .sizes in sized (lengthOf f 2) 12 256 (search (and-l, and-r))
+  past-sized = let t = header .sizes in sized (lengthOf f 2) pastWidth mostPast (search (and-l, and-r))
 
-  events-sized : (lengthOf f 3 % 312 ≡ 0) × (lengthOf f 3 / 312 ≤ 200)
+  events-sized : (lengthOf f 3 % eventWidth ≡ 0) × (lengthOf f 3 / eventWidth ≤ mostEvents)
   unfolding sizesFine
-  events-sized = let t = header .sizes in sized (lengthOf f 3) 312 200 (search (and-l, and-r))
+  events-sized = let t = header .sizes in sized (lengthOf f 3) eventWidth mostEvents (search (and-l, and-r))
 
-  correction-sized : (length k % 8 ≡ 0) × (length k / 8 ≤ 256)
+  correction-sized : (length k % referenceWidth ≡ 0) × (length k / referenceWidth ≤ mostReferences)
   unfolding correctionFine
-  correction-sized = let t = records .correction-fine in sized (length k) 8 256 (search (and-l, and-r))
+  correction-sized = let t = records .correction-fine in sized (length k) referenceWidth mostReferences (search (and-l, and-r))
 
-  pub units-count : decode f .units .count ≤ 64
+  pub units-count : decode f .units .count ≤ mostUnits
   unfolding decode unitsIn
   units-count = let e = section-length 0 (omega arith) in let s = units-sized in omega arith
 
-  pub references-count : decode f .references .count ≤ 256
+  pub references-count : decode f .references .count ≤ mostReferences
   unfolding decode referencesIn
   references-count = let e = section-length 1 (omega arith) in let s = references-sized in omega arith
 
-  pub past-count : decode f .past .count ≤ 256
+  pub past-count : decode f .past .count ≤ mostPast
   unfolding decode pastIn
   past-count = let e = section-length 2 (omega arith) in let s = past-sized in omega arith
 
-  pub events-count : decode f .events .count ≤ 200
+  pub events-count : decode f .events .count ≤ mostEvents
   unfolding decode eventsIn
   events-count = let e = section-length 3 (omega arith) in let s = events-sized in omega arith
 
-  pub units-whole : lengthOf f 0 ≡ 24 * decode f .units .count
+  pub units-whole : lengthOf f 0 ≡ unitWidth * decode f .units .count
   unfolding decode unitsIn
   units-whole = let e = section-length 0 (omega arith) in let s = units-sized in omega arith
 
-  pub references-whole : lengthOf f 1 ≡ 8 * decode f .references .count
+  pub references-whole : lengthOf f 1 ≡ referenceWidth * decode f .references .count
   unfolding decode referencesIn
   references-whole = let e = section-length 1 (omega arith) in let s = references-sized in omega arith
 
-  pub past-whole : lengthOf f 2 ≡ 12 * decode f .past .count
+  pub past-whole : lengthOf f 2 ≡ pastWidth * decode f .past .count
   unfolding decode pastIn
   past-whole = let e = section-length 2 (omega arith) in let s = past-sized in omega arith
 
-  pub events-whole : lengthOf f 3 ≡ 312 * decode f .events .count
+  pub events-whole : lengthOf f 3 ≡ eventWidth * decode f .events .count
   unfolding decode eventsIn
   events-whole = let e = section-length 3 (omega arith) in let s = events-sized in omega arith
 
-  pub correction-whole : length k ≡ 8 * referencesIn k .count
+  pub correction-whole : length k ≡ referenceWidth * referencesIn k .count
   unfolding referencesIn
   correction-whole = let s = correction-sized in omega arith
 
-  pub correction-count : referencesIn k .count ≤ 256
+  pub correction-count : referencesIn k .count ≤ mostReferences
   unfolding referencesIn
   correction-count = correction-sized .1
 
@@ -179,7 +180,7 @@ module _ (f k : List ℕ) (n : ℕ) (h : refusal f k n ≡ 0) where
   unfolding decode correctionFine referencesFine
   correction-reference-fine i l =
       let t : referencesFine (unitsIn (sectionOf f 0)) k ≡ true =
-      and-r (sizeFine (length k) 8 256) (referencesFine (unitsIn (sectionOf f 0)) k) (records .correction-fine) in
+      and-r (sizeFine (length k) referenceWidth mostReferences) (referencesFine (unitsIn (sectionOf f 0)) k) (records .correction-fine) in
       all-at (referencesIn k .count) i (referenceFine (unitsIn (sectionOf f 0)) k) l t
 
   correct-fine : (i : ℕ) → i < correctIn f k .count → referenceFine (decode f .units) (correctReferences k (sectionOf f 1)) i ≡ true
@@ -200,11 +201,11 @@ module _ (f k : List ℕ) (n : ℕ) (h : refusal f k n ≡ 0) where
   correct-rise i j l m =
       rising (referenceKey (referencesIn (correctReferences k (sectionOf f 1)))) _ (λ x lx. let t = correct-fine x lx in search (and-l, and-r)) i j l m
 
-  pub correct-count : correctIn f k .count ≤ 256
+  pub correct-count : correctIn f k .count ≤ mostReferences
   unfolding correctIn correctReferences decode
   correct-count = go (eqb (length k) 0)
     where
-      go : (b : Bool) → referencesIn (cond b (sectionOf f 1) k) .count ≤ 256
+      go : (b : Bool) → referencesIn (cond b (sectionOf f 1) k) .count ≤ mostReferences
       go true = references-count
       go false = correction-count
 
@@ -328,6 +329,6 @@ module _ (f k : List ℕ) (n : ℕ) (h : refusal f k n ≡ 0) where
 
   -- rows
 
-  pub rows-long : 128 * decode f .events .count ≤ n
+  pub rows-long : rowWidth * decode f .events .count ≤ n
   unfolding decode rowsFine
   rows-long = leb-true _ _ (events .rows-fine)

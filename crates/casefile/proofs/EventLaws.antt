@@ -26,13 +26,13 @@ pub cells-hours : (s : List ℕ) (i : ℕ)
     → allTo hours (cellFineAt (eventsIn s .kind i) (eventsIn s .component i) (drop cellsOffset (recordAt eventWidth s i)))
     ≡ allTo (eventsIn s .hours i) (hourFine (eventsIn s) (amountsIn s) i)
 unfolding eventsIn amountsIn cellFineAt cellOf hourFine
-cells-hours s i = all-same 24 _ _ (λ h l. simp (value-drop, add-assoc))
+cells-hours s i = all-same hours _ _ (λ h l. simp (value-drop, add-assoc))
 
 pub amounts-hours : (u : Units) (s : List ℕ) (i : ℕ)
     → allTo hours (amountWithin (u .capability (placeOf u (eventsIn s .unit i))) (drop cellsOffset (recordAt eventWidth s i)))
     ≡ allTo (eventsIn s .hours i) (withinCapability u (eventsIn s) (amountsIn s) i)
 unfolding eventsIn amountsIn amountWithin cellOf withinCapability
-amounts-hours u s i = all-same 24 _ _ (λ h l. simp value-drop)
+amounts-hours u s i = all-same hours _ _ (λ h l. simp value-drop)
 
 -- ---- the event reader
 
