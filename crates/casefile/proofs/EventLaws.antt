@@ -1,27 +1,24 @@
 -- What the readers of events answer, and what checks 10 and 12 give to the checks after them.
-use Prim.Native.Nat.{ℕ, _+_, _-_, _*_, _/_, _≤_, _<_}
+use Prim.Native.Nat.{ℕ, _-_, _/_, _≤_, _<_}
 use mathlib.Core.Bool.{Bool, true, false, _&&_}
 use mathlib.Core.List.{List}
 use mathlib.Core.Path.{_≡_, refl, sym, ap, ap₂, _∙_}
 use native.Mathlib.Nat.{add-assoc}
-use lib.Dec.{leb}
 use lib.ListN.{length, take, drop}
-use borrow.Author.Tests.{leb-true}
 use Rattle.binary.specs.Bounded.{allTo}
-use Rattle.binary.proofs.Implies.{and-l, and-r}
 use Rattle.binary.proofs.BoundedLaws.{all-at, all-same}
 use Rattle.binary.proofs.ByteLaws.{value-drop}
 use Rattle.casefile.specs.Layout.{eventWidth, cellsOffset, hours}
 use Rattle.casefile.specs.Case.{Units, Events}
 use Rattle.casefile.specs.Decode.{recordAt, eventsIn, amountsIn}
-use Rattle.casefile.specs.Lookup.{isListed, placeOf}
+use Rattle.casefile.specs.Lookup.{placeOf}
 use Rattle.casefile.specs.Refusal.{fieldsFine, hourFine, eventFine, eventsFine, eventListed, eventsListed, withinCapability}
 use Rattle.casefile.specs.Read.{cellOf, cellFineAt, amountWithin, eventOf, readIf, readEvent}
 use Rattle.casefile.specs.declared.events.Event.{Event}
-use Rattle.casefile.specs.declared.events.EventRead.{EventRead}
 use Rattle.casefile.specs.declared.events.EventRead.the-variants.{Event as Readable, Unreadable}
 use Rattle.casefile.proofs.RecordLaws.{rest}
 use Rattle.casefile.proofs.LookupLaws.{listed-place}
+use Rattle.casefile.proofs.RangeLaws.{event-range}
 
 -- ---- the cells, read in the part where they begin
 
@@ -29,13 +26,13 @@ pub cells-hours : (s : List ℕ) (i : ℕ)
     → allTo hours (cellFineAt (eventsIn s .kind i) (eventsIn s .component i) (drop cellsOffset (recordAt eventWidth s i)))
     ≡ allTo (eventsIn s .hours i) (hourFine (eventsIn s) (amountsIn s) i)
 unfolding eventsIn amountsIn cellFineAt cellOf hourFine
-cells-hours s i = all-same 24 _ _ (λ h l. simp (value-drop, add-assoc))
+cells-hours s i = all-same hours _ _ (λ h l. simp (value-drop, add-assoc))
 
 pub amounts-hours : (u : Units) (s : List ℕ) (i : ℕ)
     → allTo hours (amountWithin (u .capability (placeOf u (eventsIn s .unit i))) (drop cellsOffset (recordAt eventWidth s i)))
     ≡ allTo (eventsIn s .hours i) (withinCapability u (eventsIn s) (amountsIn s) i)
 unfolding eventsIn amountsIn amountWithin cellOf withinCapability
-amounts-hours u s i = all-same 24 _ _ (λ h l. simp value-drop)
+amounts-hours u s i = all-same hours _ _ (λ h l. simp value-drop)
 
 -- ---- the event reader
 
@@ -80,15 +77,9 @@ unreadable s i h = unreadable-of _ _ h
 
 -- ---- from one check to the next
 
-pub event-day : (e : Events) (a : ℕ → ℕ → ℕ) (i : ℕ) → eventFine e a i ≡ true → e .day i ≤ 1000000
-unfolding eventFine fieldsFine
-event-day e a i h =
-    let t : leb (e .day i) 1000000 ≡ true = search (and-l, and-r) depth 6 in
-    leb-true _ _ t
-
 pub events-day : (s : List ℕ) (i : ℕ) → eventsFine s ≡ true → i < length s / eventWidth → eventsIn s .day i ≤ 1000000
 unfolding eventsFine eventsIn
-events-day s i h l = event-day (eventsIn s) (amountsIn s) i (all-at (length s / eventWidth) i (eventFine (eventsIn s) (amountsIn s)) l h)
+events-day s i h l = event-range (eventsIn s) (amountsIn s) i (all-at (length s / eventWidth) i (eventFine (eventsIn s) (amountsIn s)) l h) .day
 
 pub events-place : (u : Units) (e : Events) (i : ℕ) → eventsListed u e ≡ true → i < e .count → placeOf u (e .unit i) < u .count
 unfolding eventsListed eventListed

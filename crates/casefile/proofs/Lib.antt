@@ -1,4 +1,6 @@
 pub mod RecordLaws
 pub mod LookupLaws
+pub mod RangeLaws
 pub mod EventLaws
 pub mod RefusalLaws
+pub mod AcceptedLaws

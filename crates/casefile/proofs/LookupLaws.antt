@@ -1,15 +1,13 @@
 -- A unit or a reference that is there stands at the place that is found.
-use Prim.Native.Nat.{ℕ, zero, suc, _≤_, _<_}
-use mathlib.Core.Bool.{Bool, true, false}
+use Prim.Native.Nat.{ℕ, zero, suc, _<_}
+use mathlib.Core.Bool.{Bool, true}
 use mathlib.Core.Path.{_≡_}
 use native.Mathlib.Omega.{arith}
-use lib.Dec.{eqb}
 use borrow.Author.Tests.{eqb-true}
 use Rattle.binary.specs.Bounded.{anyTo, lastTo}
 use Rattle.binary.proofs.BoundedLaws.{last-bound, last-holds}
-use Rattle.binary.proofs.Implies.{and-l, and-r}
-use Rattle.casefile.specs.Case.{Units, References}
-use Rattle.casefile.specs.Lookup.{isUnit, isListed, placeOf, isReference, hasReference}
+use Rattle.casefile.specs.Case.{Units}
+use Rattle.casefile.specs.Lookup.{isUnit, isListed, placeOf}
 
 -- where some place passes, the last is below the bound
 pub last-below : (n : ℕ) (p : ℕ → Bool) → anyTo n p ≡ true → lastTo n p < n

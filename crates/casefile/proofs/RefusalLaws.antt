@@ -1,14 +1,15 @@
 -- The stages of the refusal: a stage that breaks no limit leaves what follows, and one that does is the answer.
 use Prim.Native.Nat.{ℕ, zero, suc, _+_, _≤_, _<_}
-use mathlib.Core.Bool.{Bool, true, false, cond, _&&_}
+use mathlib.Core.Bool.{Bool, true, false, cond}
 use mathlib.Core.List.{List}
-use mathlib.Core.Path.{_≡_, refl, sym, _∙_}
+use mathlib.Core.Path.{_≡_, refl}
 use native.Mathlib.Nat.{suc-ne-zero}
 use native.Mathlib.Omega.{arith}
 use lib.Dec.{leb, eqb}
 use lib.ListN.{length}
 use borrow.Author.Tests.{leb-true, eqb-true, ne-eqb}
 use Rattle.binary.proofs.Implies.{and-l, and-r}
+use Rattle.casefile.specs.Layout.{sectionCount, headerWidth, longestFile}
 use Rattle.casefile.specs.Decode.{offsetOf, lengthOf, sectionOf, FollowOn, HasSection, unitsIn, referencesIn, eventsIn}
 use Rattle.casefile.specs.Lookup.{correctReferences}
 use Rattle.casefile.specs.Refusal.{lengthFine, versionFine, sectionsFine, pairsFine, sizesFine, unitsFine, referencesFine, correctionFine, pastFine, eventsFine, orderFine, eventsListed, amountsFine, referencesFound, rowsFine, unless, headerRefusal, recordsRefusal, eventsRefusal, refusal}
@@ -132,30 +133,30 @@ events-fine u r c s n e =
 
 -- ---- the sections of a header that breaks no limit
 
-pub header-long : (f : List ℕ) → HeaderFine f → 36 ≤ length f
+pub header-long : (f : List ℕ) → HeaderFine f → headerWidth ≤ length f
 unfolding lengthFine
-header-long f h = leb-true _ _ (and-l (leb 36 (length f)) (leb (length f) 65000) (h .fits))
+header-long f h = leb-true _ _ (and-l (leb headerWidth (length f)) (leb (length f) longestFile) (h .fits))
 
-pub header-short : (f : List ℕ) → HeaderFine f → length f ≤ 65000
+pub header-short : (f : List ℕ) → HeaderFine f → length f ≤ longestFile
 unfolding lengthFine
-header-short f h = leb-true _ _ (and-r (leb 36 (length f)) (leb (length f) 65000) (h .fits))
+header-short f h = leb-true _ _ (and-r (leb headerWidth (length f)) (leb (length f) longestFile) (h .fits))
 
 pub follow-on : (f : List ℕ) → HeaderFine f → FollowOn f
 unfolding pairsFine
 follow-on f h =
     let t = h .pairs in
     record {
-      units = eqb-true (offsetOf f 0) 36 (search (and-l, and-r));
+      units = eqb-true (offsetOf f 0) headerWidth (search (and-l, and-r));
       references = eqb-true (offsetOf f 1) (offsetOf f 0 + lengthOf f 0) (search (and-l, and-r));
       past = eqb-true (offsetOf f 2) (offsetOf f 1 + lengthOf f 1) (search (and-l, and-r));
       events = eqb-true (offsetOf f 3) (offsetOf f 2 + lengthOf f 2) (search (and-l, and-r));
       end = eqb-true (length f) (offsetOf f 3 + lengthOf f 3) (search (and-l, and-r));
     }
 
-pub has-section : (f : List ℕ) → HeaderFine f → (k : ℕ) → k < 4 → HasSection f k
+pub has-section : (f : List ℕ) → HeaderFine f → (k : ℕ) → k < sectionCount → HasSection f k
 has-section f h k l = record { known = l; header = header-long f h; inside = go k l (follow-on f h) }
   where
-    go : (k : ℕ) → k < 4 → FollowOn f → offsetOf f k + lengthOf f k ≤ length f
+    go : (k : ℕ) → k < sectionCount → FollowOn f → offsetOf f k + lengthOf f k ≤ length f
     go zero l p = omega arith
     go (suc zero) l p = omega arith
     go (suc (suc zero)) l p = omega arith

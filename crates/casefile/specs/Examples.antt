@@ -1,5 +1,5 @@
 -- The examples of the table What a case can break, the listing's case and the empty case, by computation.
-use Prim.Native.Nat.{ℕ, _+_, _-_}
+use Prim.Native.Nat.{ℕ, _+_}
 use mathlib.Core.List.{List, [], _++_}
 use mathlib.Core.Path.{_≡_, refl}
 use lib.ListN.{length, replicate}

@@ -1,9 +1,9 @@
 // Hour cells: the reader, and the part of checks 10 and 13 that looks at each hour.
 ghost use mathlib.Core.Path.{_≡_};
-ghost use Prim.Native.Nat.{_<_};
+ghost use Prim.Native.Nat.{_*_, _<_};
 ghost use lib.ListN.{length};
 ghost use Rattle.binary.specs.Bounded.{allTo};
-ghost use Rattle.casefile.specs.Layout.{hours};
+ghost use Rattle.casefile.specs.Layout.{cellWidth, hours};
 ghost use Rattle.casefile.specs.Refusal.{bidFine, cellFine};
 ghost use Rattle.casefile.specs.Read.{cellOf, cellFineAt, amountWithin};
 use crate::layout;
@@ -18,7 +18,7 @@ pub struct Cell {
 
 // The cell of hour h, of the part of an event where its cells begin.
 pub fn cell_at(cells: &[u8], h: usize) -> Cell
-    requires { ⌜ (h < 24) × (length (now cells) ≡ 288) ⌝ }
+    requires { ⌜ (h < hours) × (length (now cells) ≡ cellWidth * hours) ⌝ }
     ensures { λ r. ⌜ r ≡ cellOf (now (cells .entry)) h ⌝ }
 {
     let at = layout::CELL_WIDTH * h;
@@ -52,7 +52,7 @@ fn cell_fine(kind: u8, component: u8, a: u32, b: u32, m: u32) -> bool
 }
 
 fn cell_fine_at(kind: u8, component: u8, cells: &[u8], h: usize) -> bool
-    requires { ⌜ (h < 24) × (length (now cells) ≡ 288) ⌝ }
+    requires { ⌜ (h < hours) × (length (now cells) ≡ cellWidth * hours) ⌝ }
     ensures { λ r. ⌜ r ≡ cellFineAt kind component (now (cells .entry)) h ⌝ }
 {
     let cell = cell_at(cells, h);
@@ -60,7 +60,7 @@ fn cell_fine_at(kind: u8, component: u8, cells: &[u8], h: usize) -> bool
 }
 
 pub fn cells_fine(kind: u8, component: u8, cells: &[u8]) -> bool
-    requires { ⌜ length (now cells) ≡ 288 ⌝ }
+    requires { ⌜ length (now cells) ≡ cellWidth * hours ⌝ }
     ensures { λ r. ⌜ r ≡ allTo hours (cellFineAt kind component (now (cells .entry))) ⌝ }
 {
     let mut fine = true;
@@ -73,7 +73,7 @@ pub fn cells_fine(kind: u8, component: u8, cells: &[u8]) -> bool
 }
 
 fn amount_within(capability: u32, cells: &[u8], h: usize) -> bool
-    requires { ⌜ (h < 24) × (length (now cells) ≡ 288) ⌝ }
+    requires { ⌜ (h < hours) × (length (now cells) ≡ cellWidth * hours) ⌝ }
     ensures { λ r. ⌜ r ≡ amountWithin capability (now (cells .entry)) h ⌝ }
 {
     let cell = cell_at(cells, h);
@@ -81,7 +81,7 @@ fn amount_within(capability: u32, cells: &[u8], h: usize) -> bool
 }
 
 pub fn amounts_within(capability: u32, cells: &[u8]) -> bool
-    requires { ⌜ length (now cells) ≡ 288 ⌝ }
+    requires { ⌜ length (now cells) ≡ cellWidth * hours ⌝ }
     ensures { λ r. ⌜ r ≡ allTo hours (amountWithin capability (now (cells .entry))) ⌝ }
 {
     let mut fine = true;

@@ -8,12 +8,12 @@ use crate::events::reading_refusal;
 use crate::events::references_found;
 use crate::header::header_refusal;
 use crate::header::section;
-use crate::header::unless;
 use crate::layout;
 use crate::past::past_fine;
 use crate::references::correct_references;
 use crate::references::correction_fine;
 use crate::references::references_fine;
+use crate::refusal::unless;
 use crate::units::units_fine;
 
 // The number of the first limit that units, references, correction or past break, or 0.

@@ -3,7 +3,7 @@ ghost use mathlib.Core.Bool.{true};
 ghost use mathlib.Core.Path.{_≡_};
 ghost use Prim.Native.Nat.{_/_, _<_, _≤_};
 ghost use lib.ListN.{length};
-ghost use Rattle.casefile.specs.Layout.{hours};
+ghost use Rattle.casefile.specs.Layout.{eventWidth, hours};
 ghost use Rattle.casefile.specs.Decode.{unitsIn, referencesIn, eventsIn, amountsIn};
 ghost use Rattle.casefile.specs.Lookup.{isListed};
 ghost use Rattle.casefile.specs.Refusal.{quantitiesFine, fieldsFine, eventsFine, rises, eventKey, orderFine, eventListed, eventsListed, amountFine, amountsFine, readsCorrect, referenceFound, referencesFound, unless};
@@ -41,7 +41,7 @@ pub enum EventRead {
 
 // The fields of event i, as they stand.
 pub fn event_at(events: &[u8], i: usize) -> Event
-    requires { ⌜ i < length (now events) / 312 ⌝ }
+    requires { ⌜ i < length (now events) / eventWidth ⌝ }
     ensures { λ r. ⌜ r ≡ eventOf (eventsIn (now (events .entry))) i ⌝ }
 {
     let event = record_at(events, i, layout::EVENT_WIDTH);
@@ -68,7 +68,7 @@ fn quantities_fine(kind: u8, market: u8, q: u32, r: u32) -> bool
     ((kind != 1) | ((q == 0) & (r == 0)))
         & ((kind != 2) | ((q == 0) & (r == 0)))
         & ((kind != 3) | (guarantee & congestion & ((market == 0) | (r == 0))))
-        & ((kind != 4) | ((q < layout::PAST_MASKS) & (r <= 24)))
+        & ((kind != 4) | ((q < layout::MASK_LIMIT) & (r <= 24)))
 }
 
 // The ranges of an event's own fields, by kind.
@@ -94,13 +94,13 @@ fn fields_fine(
         & (impact <= 1)
         & ((kind <= 2) | (impact == 0))
         & (day <= 1_000_000)
-        & (p < layout::PAST_MASKS)
+        & (p < layout::MASK_LIMIT)
         & quantities
 }
 
 // Event i, where its fields and its cells are in their ranges.
 pub fn read_event(events: &[u8], i: usize) -> EventRead
-    requires { ⌜ i < length (now events) / 312 ⌝ }
+    requires { ⌜ i < length (now events) / eventWidth ⌝ }
     ensures { λ r. ⌜ r ≡ readEvent (now (events .entry)) i ⌝ }
 {
     let e = event_at(events, i);
@@ -140,7 +140,7 @@ pub fn reading_refusal(events: &[u8]) -> u8
 
 // The place of event i in the order: by day, kind, market, unit, component.
 fn event_key(events: &[u8], i: usize) -> u64
-    requires { ⌜ (i < length (now events) / 312) × (eventsIn (now events) .day i ≤ 1000000) ⌝ }
+    requires { ⌜ (i < length (now events) / eventWidth) × (eventsIn (now events) .day i ≤ 1000000) ⌝ }
     ensures { λ r. ⌜ r ≡ eventKey (eventsIn (now (events .entry))) i ⌝ }
 {
     let event = record_at(events, i, layout::EVENT_WIDTH);
@@ -157,7 +157,7 @@ fn event_key(events: &[u8], i: usize) -> u64
 }
 
 fn event_rises(events: &[u8], i: usize) -> bool
-    requires { ⌜ (i < length (now events) / 312) × (eventsFine (now events) ≡ true) ⌝ }
+    requires { ⌜ (i < length (now events) / eventWidth) × (eventsFine (now events) ≡ true) ⌝ }
     ensures { λ r. ⌜ r ≡ rises (eventKey (eventsIn (now (events .entry)))) i ⌝ }
 {
     let last = event_key(events, place_before(i));
@@ -180,7 +180,7 @@ pub fn order_fine(events: &[u8]) -> bool
 }
 
 fn event_listed(units: &[u8], events: &[u8], i: usize) -> bool
-    requires { ⌜ i < length (now events) / 312 ⌝ }
+    requires { ⌜ i < length (now events) / eventWidth ⌝ }
     ensures { λ r. ⌜ r ≡ eventListed (unitsIn (now (units .entry))) (eventsIn (now (events .entry))) i ⌝ }
 {
     let event = record_at(events, i, layout::EVENT_WIDTH);
@@ -202,7 +202,7 @@ pub fn events_listed(units: &[u8], events: &[u8]) -> bool
 
 // Whether a is within the capability in each hour of event i, where its kind asks that.
 fn amount_fine(units: &[u8], events: &[u8], i: usize) -> bool
-    requires { ⌜ (i < length (now events) / 312) × (eventsListed (unitsIn (now units)) (eventsIn (now events)) ≡ true) ⌝ }
+    requires { ⌜ (i < length (now events) / eventWidth) × (eventsListed (unitsIn (now units)) (eventsIn (now events)) ≡ true) ⌝ }
     ensures { λ r. ⌜ r ≡ amountFine (unitsIn (now (units .entry))) (eventsIn (now (events .entry))) (amountsIn (now (events .entry))) i ⌝ }
 {
     let event = record_at(events, i, layout::EVENT_WIDTH);
@@ -237,7 +237,7 @@ fn reads_correct(component: u8) -> bool
 
 // Whether event i, of kind 4, has its reference, and the correct one where it is read.
 fn reference_found(references: &[u8], correct: &[u8], events: &[u8], i: usize) -> bool
-    requires { ⌜ i < length (now events) / 312 ⌝ }
+    requires { ⌜ i < length (now events) / eventWidth ⌝ }
     ensures { λ r. ⌜ r ≡ referenceFound (referencesIn (now (references .entry))) (referencesIn (now (correct .entry))) (eventsIn (now (events .entry))) i ⌝ }
 {
     let event = record_at(events, i, layout::EVENT_WIDTH);

@@ -2,22 +2,24 @@
 ghost use mathlib.Core.Path.{_≡_};
 ghost use Prim.Native.Nat.{_+_, _*_, _≤_, _<_};
 ghost use lib.ListN.{length};
+ghost use Rattle.casefile.specs.Layout.{sectionCount, headerWidth};
 ghost use Rattle.casefile.specs.Decode.{offsetOf, lengthOf, sectionOf, HasSection};
-ghost use Rattle.casefile.specs.Refusal.{pairsFine, sizesFine, headerRefusal, unless as unlessOf};
+ghost use Rattle.casefile.specs.Refusal.{pairsFine, sizesFine, headerRefusal};
 use crate::layout;
 use crate::records::size_fine;
+use crate::refusal::unless;
 use binary::bytes::load_u16;
 use binary::bytes::load_u32;
 
 fn offset_of(file: &[u8], k: usize) -> u32
-    requires { ⌜ (k < 4) × (36 ≤ length (now file)) ⌝ }
+    requires { ⌜ (k < sectionCount) × (headerWidth ≤ length (now file)) ⌝ }
     ensures { λ r. ⌜ r ≡ offsetOf (now (file .entry)) k ⌝ }
 {
     load_u32(file, 4 + 8 * k)
 }
 
 fn length_of(file: &[u8], k: usize) -> u32
-    requires { ⌜ (k < 4) × (36 ≤ length (now file)) ⌝ }
+    requires { ⌜ (k < sectionCount) × (headerWidth ≤ length (now file)) ⌝ }
     ensures { λ r. ⌜ r ≡ lengthOf (now (file .entry)) k ⌝ }
 {
     load_u32(file, 8 + 8 * k)
@@ -36,7 +38,7 @@ pub fn section(file: &[u8], k: usize) -> &[u8]
 
 // Whether the pairs follow on. The sums are of 64 bits, so that none wraps.
 fn pairs_fine(file: &[u8]) -> bool
-    requires { ⌜ 36 ≤ length (now file) ⌝ }
+    requires { ⌜ headerWidth ≤ length (now file) ⌝ }
     ensures { λ r. ⌜ r ≡ pairsFine (now (file .entry)) ⌝ }
 {
     let units = offset_of(file, 0) as usize;
@@ -55,7 +57,7 @@ fn pairs_fine(file: &[u8]) -> bool
 }
 
 fn sizes_fine(file: &[u8]) -> bool
-    requires { ⌜ 36 ≤ length (now file) ⌝ }
+    requires { ⌜ headerWidth ≤ length (now file) ⌝ }
     ensures { λ r. ⌜ r ≡ sizesFine (now (file .entry)) ⌝ }
 {
     let units = length_of(file, 0) as usize;
@@ -66,13 +68,6 @@ fn sizes_fine(file: &[u8]) -> bool
         & size_fine(references, layout::REFERENCE_WIDTH, layout::MOST_REFERENCES)
         & size_fine(past, layout::PAST_WIDTH, layout::MOST_PAST)
         & size_fine(events, layout::EVENT_WIDTH, layout::MOST_EVENTS)
-}
-
-// The number where a test fails, else what follows.
-pub fn unless(fine: bool, number: u8, next: u8) -> u8
-    ensures { λ r. ⌜ r ≡ unlessOf fine number next ⌝ }
-{
-    if fine { next } else { number }
 }
 
 // The number of the first limit of the header that is broken, or 0.

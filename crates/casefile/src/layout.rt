@@ -20,8 +20,8 @@ pub const CELLS_OFFSET: usize = 24;
 pub const CELL_WIDTH: usize = 12;
 
 pub const HOURS: usize = 24;
-// The first mask with a bit past the day's hours.
-pub const PAST_MASKS: u32 = 16777216;
+// Masks are below this: a bit for each hour.
+pub const MASK_LIMIT: u32 = 16777216;
 
 pub const MOST_UNITS: usize = 64;
 

@@ -2,6 +2,7 @@
 ghost use mathlib.Core.Path.{_≡_};
 ghost use Prim.Native.Nat.{_/_, _<_};
 ghost use lib.ListN.{length};
+ghost use Rattle.casefile.specs.Layout.{referenceWidth};
 ghost use Rattle.casefile.specs.Decode.{unitsIn, referencesIn};
 ghost use Rattle.casefile.specs.Lookup.{isReference, hasReference, correctReferences};
 ghost use Rattle.casefile.specs.Refusal.{referenceFieldsFine, referenceKey, referenceFine, referencesFine, correctionFine};
@@ -35,7 +36,7 @@ fn reference_fields_fine(component: u8, value: u32) -> bool
 
 // The place of reference i in the order, by unit and component.
 fn reference_key(references: &[u8], i: usize) -> u32
-    requires { ⌜ i < length (now references) / 8 ⌝ }
+    requires { ⌜ i < length (now references) / referenceWidth ⌝ }
     ensures { λ r. ⌜ r ≡ referenceKey (referencesIn (now (references .entry))) i ⌝ }
 {
     let reference = record_at(references, i, layout::REFERENCE_WIDTH);
@@ -45,7 +46,7 @@ fn reference_key(references: &[u8], i: usize) -> u32
 }
 
 fn reference_fine(units: &[u8], references: &[u8], i: usize) -> bool
-    requires { ⌜ i < length (now references) / 8 ⌝ }
+    requires { ⌜ i < length (now references) / referenceWidth ⌝ }
     ensures { λ r. ⌜ r ≡ referenceFine (unitsIn (now (units .entry))) (now (references .entry)) i ⌝ }
 {
     let reference = record_at(references, i, layout::REFERENCE_WIDTH);
@@ -88,7 +89,7 @@ pub fn correction_fine(units: &[u8], correction: &[u8]) -> bool
 }
 
 fn is_reference(references: &[u8], unit: u16, component: u8, j: usize) -> bool
-    requires { ⌜ j < length (now references) / 8 ⌝ }
+    requires { ⌜ j < length (now references) / referenceWidth ⌝ }
     ensures { λ r. ⌜ r ≡ isReference (referencesIn (now (references .entry))) unit component j ⌝ }
 {
     let reference = record_at(references, j, layout::REFERENCE_WIDTH);

@@ -2,6 +2,7 @@
 ghost use mathlib.Core.Path.{_≡_};
 ghost use Prim.Native.Nat.{_/_, _<_};
 ghost use lib.ListN.{length};
+ghost use Rattle.casefile.specs.Layout.{unitWidth};
 ghost use Rattle.casefile.specs.Decode.{unitsIn};
 ghost use Rattle.casefile.specs.Lookup.{isUnit, isListed, placeOf};
 ghost use Rattle.casefile.specs.Refusal.{unitFieldsFine, unitSpareFine, unitFine, unitsFine};
@@ -15,7 +16,7 @@ use binary::numbers::choose_usize;
 
 // The number of unit i.
 pub fn unit_number(units: &[u8], i: usize) -> u16
-    requires { ⌜ i < length (now units) / 24 ⌝ }
+    requires { ⌜ i < length (now units) / unitWidth ⌝ }
     ensures { λ r. ⌜ r ≡ unitsIn (now (units .entry)) .number i ⌝ }
 {
     load_u16(record_at(units, i, layout::UNIT_WIDTH), 0)
@@ -39,7 +40,7 @@ fn unit_fields_fine(
 }
 
 fn unit_spare_fine(unit: &[u8]) -> bool
-    requires { ⌜ length (now unit) ≡ 24 ⌝ }
+    requires { ⌜ length (now unit) ≡ unitWidth ⌝ }
     ensures { λ r. ⌜ r ≡ unitSpareFine (now (unit .entry)) ⌝ }
 {
     let after_area = load_u8(unit, 5);
@@ -49,7 +50,7 @@ fn unit_spare_fine(unit: &[u8]) -> bool
 }
 
 fn unit_fine(units: &[u8], i: usize) -> bool
-    requires { ⌜ i < length (now units) / 24 ⌝ }
+    requires { ⌜ i < length (now units) / unitWidth ⌝ }
     ensures { λ r. ⌜ r ≡ unitFine (now (units .entry)) i ⌝ }
 {
     let unit = record_at(units, i, layout::UNIT_WIDTH);
@@ -79,7 +80,7 @@ pub fn units_fine(units: &[u8]) -> bool
 }
 
 fn is_unit(units: &[u8], number: u16, j: usize) -> bool
-    requires { ⌜ j < length (now units) / 24 ⌝ }
+    requires { ⌜ j < length (now units) / unitWidth ⌝ }
     ensures { λ r. ⌜ r ≡ isUnit (unitsIn (now (units .entry))) number j ⌝ }
 {
     unit_number(units, j) == number

@@ -1,10 +1,8 @@
-use mathlib.Core.Bool.{Bool, _||_}
-use mathlib.Core.List.{List}
-use mathlib.Core.Path.{_≡_}
-use Prim.Native.Nat.{ℕ, _<_, _/_}
+use Prim.Native.Nat.{_<_, _/_}
 use borrow.Author.Needs.{needs}
 use native.Mathlib.Omega.{arith}
 use lib.ListN.{length}
+use Rattle.casefile.specs.Layout.{unitWidth}
 use Rattle.casefile.specs.Decode.{unitsIn, eventsIn}
 use Rattle.casefile.specs.Refusal.{amountFine}
 use Rattle.casefile.proofs.RecordLaws.{rest}
@@ -12,7 +10,7 @@ use Rattle.casefile.proofs.EventLaws.{events-place, amounts-hours}
 use Rattle.casefile.proofs.events.amount_fine.Statement.{statement}
 use Rattle.casefile.proofs.events.amount_fine.Tie as tie
 
-place : (c : tie.After-unit-place) → c .unit-place .result < length (c .before .before .before .before .before .before .args .units .now) / 24
+place : (c : tie.After-unit-place) → c .unit-place .result < length (c .before .before .before .before .before .before .args .units .now) / unitWidth
 unfolding unitsIn eventsIn
 place c =
     let s = c .before .before .before .before .before .before in

@@ -5,16 +5,17 @@ use native.Mathlib.Omega.{arith}
 use lib.ListN.{length}
 use Rattle.binary.specs.Bounded.{allTo}
 use Rattle.binary.proofs.BoundedLaws.{all-none, all-more}
+use Rattle.casefile.specs.Layout.{eventWidth}
 use Rattle.casefile.specs.Decode.{unitsIn, eventsIn, amountsIn}
 use Rattle.casefile.specs.Refusal.{amountFine, amountsFine}
 use Rattle.casefile.proofs.events.amounts_fine.Statement.{statement}
 use Rattle.casefile.proofs.events.amounts_fine.Tie as tie
 
 abbrev Inv-loop : tie.InvT-loop
-Inv-loop units events n fine₀ i₀ fine i = (i ≤ length events / 312) × (fine ≡ allTo i (amountFine (unitsIn units) (eventsIn events) (amountsIn events)))
+Inv-loop units events n fine₀ i₀ fine i = (i ≤ length events / eventWidth) × (fine ≡ allTo i (amountFine (unitsIn units) (eventsIn events) (amountsIn events)))
 
 abbrev μ-loop : tie.MeasureT-loop
-μ-loop units events n fine₀ i₀ fine i = length events / 312 - i
+μ-loop units events n fine₀ i₀ fine i = length events / eventWidth - i
 
 pub amounts-fine-spec : {M : Type 1} → statement M
 unfolding amountsFine eventsIn
@@ -30,5 +31,5 @@ amounts-fine-spec =
     (λ c. (omega arith, rw (c .before .before .loop .inv .1, c .amount-fine .ensures, all-more)))
     (λ c.
     let s = c .before .before .before .before .args in
-    let e : c .before .loop .i ≡ length (s .events .now) / 312 = omega arith in
+    let e : c .before .loop .i ≡ length (s .events .now) / eventWidth = omega arith in
     rw (c .before .loop .inv .1, e)))

@@ -1,4 +1,3 @@
-use borrow.Author.Needs.{needs}
 use native.Mathlib.Omega.{arith}
 use Rattle.casefile.specs.Refusal.{rises}
 use Rattle.casefile.proofs.EventLaws.{events-day}

@@ -1,4 +1,3 @@
-use mathlib.Core.Path.{sym, _∙_}
 use borrow.Author.Needs.{needs}
 use Rattle.casefile.specs.Read.{readIf}
 use Rattle.casefile.proofs.EventLaws.{read-is}

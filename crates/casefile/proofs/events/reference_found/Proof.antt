@@ -1,5 +1,3 @@
-use mathlib.Core.Bool.{Bool, not}
-use mathlib.Core.Path.{sym, _∙_}
 use borrow.Author.Needs.{needs}
 use borrow.Author.Tests.{eq-eqb, ne-eqb}
 use Rattle.casefile.specs.Decode.{eventsIn}

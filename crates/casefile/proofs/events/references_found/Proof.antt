@@ -5,16 +5,17 @@ use native.Mathlib.Omega.{arith}
 use lib.ListN.{length}
 use Rattle.binary.specs.Bounded.{allTo}
 use Rattle.binary.proofs.BoundedLaws.{all-none, all-more}
+use Rattle.casefile.specs.Layout.{eventWidth}
 use Rattle.casefile.specs.Decode.{referencesIn, eventsIn}
 use Rattle.casefile.specs.Refusal.{referenceFound, referencesFound}
 use Rattle.casefile.proofs.events.references_found.Statement.{statement}
 use Rattle.casefile.proofs.events.references_found.Tie as tie
 
 abbrev Inv-loop : tie.InvT-loop
-Inv-loop references correct events n fine₀ i₀ fine i = (i ≤ length events / 312) × (fine ≡ allTo i (referenceFound (referencesIn references) (referencesIn correct) (eventsIn events)))
+Inv-loop references correct events n fine₀ i₀ fine i = (i ≤ length events / eventWidth) × (fine ≡ allTo i (referenceFound (referencesIn references) (referencesIn correct) (eventsIn events)))
 
 abbrev μ-loop : tie.MeasureT-loop
-μ-loop references correct events n fine₀ i₀ fine i = length events / 312 - i
+μ-loop references correct events n fine₀ i₀ fine i = length events / eventWidth - i
 
 pub references-found-spec : {M : Type 1} → statement M
 unfolding referencesFound eventsIn
@@ -30,5 +31,5 @@ references-found-spec =
     (λ c. (omega arith, rw (c .before .before .loop .inv .1, c .reference-found .ensures, all-more)))
     (λ c.
     let s = c .before .before .before .before .before .args in
-    let e : c .before .loop .i ≡ length (s .events .now) / 312 = omega arith in
+    let e : c .before .loop .i ≡ length (s .events .now) / eventWidth = omega arith in
     rw (c .before .loop .inv .1, e)))

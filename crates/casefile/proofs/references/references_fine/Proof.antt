@@ -5,16 +5,17 @@ use native.Mathlib.Omega.{arith}
 use lib.ListN.{length}
 use Rattle.binary.specs.Bounded.{allTo}
 use Rattle.binary.proofs.BoundedLaws.{all-none, all-more}
+use Rattle.casefile.specs.Layout.{referenceWidth}
 use Rattle.casefile.specs.Decode.{unitsIn, referencesIn}
 use Rattle.casefile.specs.Refusal.{referenceFine, referencesFine}
 use Rattle.casefile.proofs.references.references_fine.Statement.{statement}
 use Rattle.casefile.proofs.references.references_fine.Tie as tie
 
 abbrev Inv-loop : tie.InvT-loop
-Inv-loop units references n fine₀ i₀ fine i = (i ≤ length references / 8) × (fine ≡ allTo i (referenceFine (unitsIn units) references))
+Inv-loop units references n fine₀ i₀ fine i = (i ≤ length references / referenceWidth) × (fine ≡ allTo i (referenceFine (unitsIn units) references))
 
 abbrev μ-loop : tie.MeasureT-loop
-μ-loop units references n fine₀ i₀ fine i = length references / 8 - i
+μ-loop units references n fine₀ i₀ fine i = length references / referenceWidth - i
 
 pub references-fine-spec : {M : Type 1} → statement M
 unfolding referencesFine referencesIn
@@ -30,5 +31,5 @@ references-fine-spec =
     (λ c. (omega arith, rw (c .before .before .loop .inv .1, c .reference-fine .ensures, all-more)))
     (λ c.
     let s = c .before .before .before .before .args in
-    let e : c .before .loop .i ≡ length (s .references .now) / 8 = omega arith in
+    let e : c .before .loop .i ≡ length (s .references .now) / referenceWidth = omega arith in
     rw (c .before .loop .inv .1, e)))

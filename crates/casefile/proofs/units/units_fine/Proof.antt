@@ -5,16 +5,17 @@ use native.Mathlib.Omega.{arith}
 use lib.ListN.{length}
 use Rattle.binary.specs.Bounded.{allTo}
 use Rattle.binary.proofs.BoundedLaws.{all-none, all-more}
+use Rattle.casefile.specs.Layout.{unitWidth}
 use Rattle.casefile.specs.Decode.{unitsIn}
 use Rattle.casefile.specs.Refusal.{unitFine, unitsFine}
 use Rattle.casefile.proofs.units.units_fine.Statement.{statement}
 use Rattle.casefile.proofs.units.units_fine.Tie as tie
 
 abbrev Inv-loop : tie.InvT-loop
-Inv-loop units n fine₀ i₀ fine i = (i ≤ length units / 24) × (fine ≡ allTo i (unitFine units))
+Inv-loop units n fine₀ i₀ fine i = (i ≤ length units / unitWidth) × (fine ≡ allTo i (unitFine units))
 
 abbrev μ-loop : tie.MeasureT-loop
-μ-loop units n fine₀ i₀ fine i = length units / 24 - i
+μ-loop units n fine₀ i₀ fine i = length units / unitWidth - i
 
 pub units-fine-spec : {M : Type 1} → statement M
 unfolding unitsFine unitsIn
@@ -30,5 +31,5 @@ units-fine-spec =
     (λ c. (omega arith, rw (c .before .before .loop .inv .1, c .unit-fine .ensures, all-more)))
     (λ c.
     let s = c .before .before .before .args in
-    let e : c .before .loop .i ≡ length (s .units .now) / 24 = omega arith in
+    let e : c .before .loop .i ≡ length (s .units .now) / unitWidth = omega arith in
     rw (c .before .loop .inv .1, e)))

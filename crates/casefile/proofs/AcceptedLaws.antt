@@ -1,0 +1,334 @@
+-- What an accepted case keeps: from `refusal f k n ≡ 0` to the facts that settling it goes by.
+use Prim.Native.Nat.{ℕ, _+_, _*_, _/_, _%_, _≤_, _<_}
+use mathlib.Core.Bool.{Bool, true, false, cond, not, _&&_, _||_}
+use mathlib.Core.List.{List}
+use mathlib.Core.Logic.{⊎-elim}
+use mathlib.Core.Path.{_≡_, refl, sym, ap}
+use native.Mathlib.Nat.{eq-or-lt-of-le, le-trans}
+use native.Mathlib.Omega.{arith}
+use lib.Dec.{ltb, eqb}
+use lib.ListN.{length, length-take, length-drop}
+use borrow.Author.Tests.{ltb-true, ltb-false, leb-true, eqb-true, eq-eqb, le-ltb}
+use Rattle.binary.specs.Bounded.{allTo}
+use Rattle.binary.proofs.Implies.{and-l, and-r}
+use Rattle.binary.proofs.BoundedLaws.{all-at, any-true}
+use Rattle.casefile.specs.Layout.{sectionCount, headerWidth, longestFile, unitWidth, referenceWidth, pastWidth, eventWidth, mostUnits, mostReferences, mostPast, mostEvents, rowWidth}
+use Rattle.casefile.specs.Decode.{lengthOf, sectionOf, FollowOn, HasSection, unitsIn, referencesIn, pastIn, eventsIn, amountsIn, decode}
+use Rattle.casefile.specs.Lookup.{isUnit, isListed, placeOf, unitOf, hasReference, levelOf, correctReferences, correctIn, referenceOf}
+use Rattle.casefile.specs.Refusal.{sizeFine, sizesFine, rises, unitFine, unitsFine, highestReference, referenceKey, referenceFine, referencesFine, correctionFine, entryFine, pastFine, hourFine, eventFine, eventsFine, eventKey, orderFine, eventListed, eventsListed, withinCapability, amountFine, amountsFine, readsCorrect, referenceFound, referencesFound, rowsFine, eventsRefusal, refusal}
+use Rattle.casefile.proofs.LookupLaws.{listed-place, listed-number}
+use Rattle.casefile.proofs.RangeLaws.{or-right, of-kind, UnitRange, ReferenceRange, ViolationRange, EventRange, CellRange, unit-range, reference-range, violation-range, event-range, cell-range, level-bound, rising}
+use Rattle.casefile.proofs.RefusalLaws as stages
+use Rattle.casefile.proofs.RefusalLaws.{HeaderFine, RecordsFine, EventsFine}
+
+-- ---- an accepted case
+
+sized : (length′ width most : ℕ) → sizeFine length′ width most ≡ true → (length′ % width ≡ 0) × (length′ / width ≤ most)
+unfolding sizeFine
+sized n width most h = (eqb-true (n % width) 0 (search (and-l, and-r)), leb-true (n / width) most (search (and-l, and-r)))
+
+module _ (f k : List ℕ) (n : ℕ) (h : refusal f k n ≡ 0) where
+  pub header : HeaderFine f
+  unfolding refusal
+  header = stages.header-fine f _ h .0
+
+  records-and-events : RecordsFine (sectionOf f 0) (sectionOf f 1) k (sectionOf f 2)
+      × (eventsRefusal (sectionOf f 0) (sectionOf f 1) (correctReferences k (sectionOf f 1)) (sectionOf f 3) n ≡ 0)
+  unfolding refusal
+  records-and-events = stages.records-fine (sectionOf f 0) (sectionOf f 1) k (sectionOf f 2) _ (stages.header-fine f _ h .1)
+
+  pub records : RecordsFine (sectionOf f 0) (sectionOf f 1) k (sectionOf f 2)
+  records = records-and-events .0
+
+  pub events : EventsFine (sectionOf f 0) (sectionOf f 1) (correctReferences k (sectionOf f 1)) (sectionOf f 3) n
+  events = stages.events-fine (sectionOf f 0) (sectionOf f 1) (correctReferences k (sectionOf f 1)) (sectionOf f 3) n (records-and-events .1)
+
+  -- the file
+
+  pub file-long : headerWidth ≤ length f
+  file-long = stages.header-long f header
+
+  pub file-short : length f ≤ longestFile
+  file-short = stages.header-short f header
+
+  pub follows : FollowOn f
+  follows = stages.follow-on f header
+
+  pub has-section : (i : ℕ) → i < sectionCount → HasSection f i
+  has-section = stages.has-section f header
+
+  pub section-length : (i : ℕ) → i < sectionCount → length (sectionOf f i) ≡ lengthOf f i
+  unfolding sectionOf
+  section-length i l = let s = has-section i l in simp (length-take, length-drop) (omega arith)
+
+  -- sizes
+
+  units-sized : (lengthOf f 0 % unitWidth ≡ 0) × (lengthOf f 0 / unitWidth ≤ mostUnits)
+  unfolding sizesFine
+  units-sized = let t = header .sizes in sized (lengthOf f 0) unitWidth mostUnits (search (and-l, and-r))
+
+  references-sized : (lengthOf f 1 % referenceWidth ≡ 0) × (lengthOf f 1 / referenceWidth ≤ mostReferences)
+  unfolding sizesFine
+  references-sized = let t = header .sizes in sized (lengthOf f 1) referenceWidth mostReferences (search (and-l, and-r))
+
+  past-sized : (lengthOf f 2 % pastWidth ≡ 0) × (lengthOf f 2 / pastWidth ≤ mostPast)
+  unfolding sizesFine
+  past-sized = let t = header .sizes in sized (lengthOf f 2) pastWidth mostPast (search (and-l, and-r))
+
+  events-sized : (lengthOf f 3 % eventWidth ≡ 0) × (lengthOf f 3 / eventWidth ≤ mostEvents)
+  unfolding sizesFine
+  events-sized = let t = header .sizes in sized (lengthOf f 3) eventWidth mostEvents (search (and-l, and-r))
+
+  correction-sized : (length k % referenceWidth ≡ 0) × (length k / referenceWidth ≤ mostReferences)
+  unfolding correctionFine
+  correction-sized = let t = records .correction-fine in sized (length k) referenceWidth mostReferences (search (and-l, and-r))
+
+  pub units-count : decode f .units .count ≤ mostUnits
+  unfolding decode unitsIn
+  units-count = let e = section-length 0 (omega arith) in let s = units-sized in omega arith
+
+  pub references-count : decode f .references .count ≤ mostReferences
+  unfolding decode referencesIn
+  references-count = let e = section-length 1 (omega arith) in let s = references-sized in omega arith
+
+  pub past-count : decode f .past .count ≤ mostPast
+  unfolding decode pastIn
+  past-count = let e = section-length 2 (omega arith) in let s = past-sized in omega arith
+
+  pub events-count : decode f .events .count ≤ mostEvents
+  unfolding decode eventsIn
+  events-count = let e = section-length 3 (omega arith) in let s = events-sized in omega arith
+
+  pub units-whole : lengthOf f 0 ≡ unitWidth * decode f .units .count
+  unfolding decode unitsIn
+  units-whole = let e = section-length 0 (omega arith) in let s = units-sized in omega arith
+
+  pub references-whole : lengthOf f 1 ≡ referenceWidth * decode f .references .count
+  unfolding decode referencesIn
+  references-whole = let e = section-length 1 (omega arith) in let s = references-sized in omega arith
+
+  pub past-whole : lengthOf f 2 ≡ pastWidth * decode f .past .count
+  unfolding decode pastIn
+  past-whole = let e = section-length 2 (omega arith) in let s = past-sized in omega arith
+
+  pub events-whole : lengthOf f 3 ≡ eventWidth * decode f .events .count
+  unfolding decode eventsIn
+  events-whole = let e = section-length 3 (omega arith) in let s = events-sized in omega arith
+
+  pub correction-whole : length k ≡ referenceWidth * referencesIn k .count
+  unfolding referencesIn
+  correction-whole = let s = correction-sized in omega arith
+
+  pub correction-count : referencesIn k .count ≤ mostReferences
+  unfolding referencesIn
+  correction-count = correction-sized .1
+
+  -- units
+
+  unit-fine : (i : ℕ) → i < decode f .units .count → unitFine (sectionOf f 0) i ≡ true
+  unfolding decode unitsFine
+  unit-fine i l = all-at (unitsIn (sectionOf f 0) .count) i (unitFine (sectionOf f 0)) l (records .units-fine)
+
+  pub unit-ranges : (i : ℕ) → i < decode f .units .count → UnitRange (decode f .units) i
+  unfolding decode
+  unit-ranges i l = unit-range (sectionOf f 0) i (unit-fine i l)
+
+  pub units-rise : (i j : ℕ) → i < j → j < decode f .units .count → decode f .units .number i < decode f .units .number j
+  unfolding decode unitFine
+  units-rise i j l m = rising (unitsIn (sectionOf f 0) .number) _ (λ x lx. let t = unit-fine x lx in search (and-l, and-r)) i j l m
+
+  -- a unit has one place
+  pub one-place : (i : ℕ) → i < decode f .units .count → placeOf (decode f .units) (decode f .units .number i) ≡ i
+  unfolding isListed isUnit
+  one-place i l = go (ltb place i) refl
+    where
+      place : ℕ
+      place = placeOf (decode f .units) (decode f .units .number i)
+
+      listed : isListed (decode f .units) (decode f .units .number i) ≡ true
+      listed = any-true (decode f .units .count) i (isUnit (decode f .units) (decode f .units .number i)) l (eq-eqb (decode f .units .number i) (decode f .units .number i) refl)
+
+      same : decode f .units .number place ≡ decode f .units .number i
+      same = listed-number (decode f .units) (decode f .units .number i) listed
+
+      below : place < i → ⊥
+      below lt = let r = units-rise place i lt l in omega (arith, same)
+
+      above : i < place → ⊥
+      above lt = let r = units-rise i place lt (listed-place (decode f .units) (decode f .units .number i) listed) in omega (arith, same)
+
+      go : (b : Bool) → ltb place i ≡ b → place ≡ i
+      go true e = absurd (below (ltb-true place i e))
+      go false e = ⊎-elim sym (λ lt. absurd (above lt)) (eq-or-lt-of-le (ltb-false place i e))
+
+  -- references, the correction's, and those that c is found in
+
+  reference-fine : (i : ℕ) → i < decode f .references .count → referenceFine (decode f .units) (sectionOf f 1) i ≡ true
+  unfolding decode referencesFine
+  reference-fine i l =
+      all-at (referencesIn (sectionOf f 1) .count) i (referenceFine (unitsIn (sectionOf f 0)) (sectionOf f 1)) l (records .references-fine)
+
+  pub reference-ranges : (i : ℕ) → i < decode f .references .count → ReferenceRange (decode f .units) (decode f .references) i
+  unfolding decode
+  reference-ranges i l = reference-range (unitsIn (sectionOf f 0)) (sectionOf f 1) i (reference-fine i l)
+
+  pub references-rise : (i j : ℕ) → i < j → j < decode f .references .count → referenceKey (decode f .references) i < referenceKey (decode f .references) j
+  unfolding decode referenceFine
+  references-rise i j l m = rising (referenceKey (referencesIn (sectionOf f 1))) _ (λ x lx. let t = reference-fine x lx in search (and-l, and-r)) i j l m
+
+  correction-reference-fine : (i : ℕ) → i < referencesIn k .count → referenceFine (decode f .units) k i ≡ true
+  unfolding decode correctionFine referencesFine
+  correction-reference-fine i l =
+      let t : referencesFine (unitsIn (sectionOf f 0)) k ≡ true =
+      and-r (sizeFine (length k) referenceWidth mostReferences) (referencesFine (unitsIn (sectionOf f 0)) k) (records .correction-fine) in
+      all-at (referencesIn k .count) i (referenceFine (unitsIn (sectionOf f 0)) k) l t
+
+  correct-fine : (i : ℕ) → i < correctIn f k .count → referenceFine (decode f .units) (correctReferences k (sectionOf f 1)) i ≡ true
+  unfolding correctIn correctReferences decode
+  correct-fine i l = go (eqb (length k) 0) i l
+    where
+      go : (b : Bool) (i : ℕ) → i < referencesIn (cond b (sectionOf f 1) k) .count
+          → referenceFine (unitsIn (sectionOf f 0)) (cond b (sectionOf f 1) k) i ≡ true
+      go true i l = reference-fine i l
+      go false i l = correction-reference-fine i l
+
+  pub correct-ranges : (i : ℕ) → i < correctIn f k .count → ReferenceRange (decode f .units) (correctIn f k) i
+  unfolding correctIn
+  correct-ranges i l = reference-range (decode f .units) (correctReferences k (sectionOf f 1)) i (correct-fine i l)
+
+  pub correct-rise : (i j : ℕ) → i < j → j < correctIn f k .count → referenceKey (correctIn f k) i < referenceKey (correctIn f k) j
+  unfolding correctIn referenceFine
+  correct-rise i j l m =
+      rising (referenceKey (referencesIn (correctReferences k (sectionOf f 1)))) _ (λ x lx. let t = correct-fine x lx in search (and-l, and-r)) i j l m
+
+  pub correct-count : correctIn f k .count ≤ mostReferences
+  unfolding correctIn correctReferences decode
+  correct-count = go (eqb (length k) 0)
+    where
+      go : (b : Bool) → referencesIn (cond b (sectionOf f 1) k) .count ≤ mostReferences
+      go true = references-count
+      go false = correction-count
+
+  -- past entries
+
+  pub violation-ranges : (i : ℕ) → i < decode f .past .count → ViolationRange (decode f .past .entry i)
+  unfolding decode pastFine entryFine
+  violation-ranges i l =
+      violation-range (pastIn (sectionOf f 2) .entry i)
+      (let t = all-at (pastIn (sectionOf f 2) .count) i (entryFine (sectionOf f 2)) l (records .past-fine) in search (and-l, and-r))
+
+  -- events
+
+  event-fine : (i : ℕ) → i < decode f .events .count → eventFine (decode f .events) (decode f .a) i ≡ true
+  unfolding decode eventsFine
+  event-fine i l =
+      all-at (eventsIn (sectionOf f 3) .count) i (eventFine (eventsIn (sectionOf f 3)) (amountsIn (sectionOf f 3))) l (events .events-fine)
+
+  pub event-ranges : (i : ℕ) → i < decode f .events .count → EventRange (decode f .events) i
+  event-ranges i l = event-range (decode f .events) (decode f .a) i (event-fine i l)
+
+  pub cell-ranges : (i x : ℕ) → i < decode f .events .count → x < decode f .events .hours i
+      → CellRange (decode f .events .kind i) (decode f .events .component i) (decode f .a i x) (decode f .events .b i x) (decode f .events .m i x)
+  unfolding eventFine hourFine
+  cell-ranges i x l m =
+      let t : allTo (decode f .events .hours i) (hourFine (decode f .events) (decode f .a) i) ≡ true =
+      let u = event-fine i l in search and-r in
+      cell-range _ _ _ _ _ (all-at (decode f .events .hours i) x (hourFine (decode f .events) (decode f .a) i) m t)
+
+  pub events-rise : (i j : ℕ) → i < j → j < decode f .events .count → eventKey (decode f .events) i < eventKey (decode f .events) j
+  unfolding decode orderFine
+  events-rise i j l m =
+      rising (eventKey (eventsIn (sectionOf f 3))) _
+      (λ x lx. all-at (eventsIn (sectionOf f 3) .count) x (rises (eventKey (eventsIn (sectionOf f 3)))) lx (events .order-fine)) i j l m
+
+  -- of one day, kind and market, by unit and component
+  pub units-in-order : (i j : ℕ) → i < j → j < decode f .events .count → decode f .events .day i ≡ decode f .events .day j
+      → decode f .events .kind i ≡ decode f .events .kind j → decode f .events .market i ≡ decode f .events .market j
+      → 256 * decode f .events .unit i + decode f .events .component i < 256 * decode f .events .unit j + decode f .events .component j
+  unfolding eventKey
+  units-in-order i j l m day kind market = let r = events-rise i j l m in omega arith
+
+  -- unit numbers have two bytes
+  pub days-in-order : (i j : ℕ) → i < j → j < decode f .events .count → decode f .events .unit j < 65536
+      → decode f .events .day i ≤ decode f .events .day j
+  unfolding eventKey
+  days-in-order i j l m unit =
+      let r = events-rise i j l m in
+      let e = event-ranges j m in
+      let kind = e .most in
+      let market = e .market in
+      let component = e .component in
+      omega arith
+
+  -- the event's unit
+
+  pub event-listed : (i : ℕ) → i < decode f .events .count → isListed (decode f .units) (decode f .events .unit i) ≡ true
+  unfolding decode eventsListed eventListed
+  event-listed i l =
+      all-at (eventsIn (sectionOf f 3) .count) i (eventListed (unitsIn (sectionOf f 0)) (eventsIn (sectionOf f 3))) l (events .events-listed)
+
+  pub unit-place : (i : ℕ) → i < decode f .events .count → unitOf (decode f) i < decode f .units .count
+  unfolding unitOf
+  unit-place i l = listed-place (decode f .units) (decode f .events .unit i) (event-listed i l)
+
+  pub unit-number : (i : ℕ) → i < decode f .events .count → decode f .units .number (unitOf (decode f) i) ≡ decode f .events .unit i
+  unfolding unitOf
+  unit-number i l = listed-number (decode f .units) (decode f .events .unit i) (event-listed i l)
+
+  -- a of kinds 1 and 2
+  pub amount-capability : (i x : ℕ) → i < decode f .events .count → x < decode f .events .hours i → decode f .events .kind i ≤ 2
+      → decode f .a i x ≤ decode f .units .capability (unitOf (decode f) i)
+  unfolding decode unitOf amountsFine amountFine withinCapability
+  amount-capability i x l m kind =
+      let t = all-at (eventsIn (sectionOf f 3) .count) i
+      (amountFine (unitsIn (sectionOf f 0)) (eventsIn (sectionOf f 3)) (amountsIn (sectionOf f 3))) l (events .amounts-fine) in
+      let w : allTo (eventsIn (sectionOf f 3) .hours i)
+      (withinCapability (unitsIn (sectionOf f 0)) (eventsIn (sectionOf f 3)) (amountsIn (sectionOf f 3)) i) ≡ true =
+      or-right (ltb 2 (eventsIn (sectionOf f 3) .kind i)) _ t (le-ltb 2 (eventsIn (sectionOf f 3) .kind i) kind) in
+      leb-true _ _ (all-at (eventsIn (sectionOf f 3) .hours i) x
+      (withinCapability (unitsIn (sectionOf f 0)) (eventsIn (sectionOf f 3)) (amountsIn (sectionOf f 3)) i) m w)
+
+  pub amount-bound : (i x : ℕ) → i < decode f .events .count → x < decode f .events .hours i → decode f .events .kind i ≤ 2 → decode f .a i x ≤ 50000
+  amount-bound i x l m kind = le-trans (amount-capability i x l m kind) (unit-ranges (unitOf (decode f) i) (unit-place i l) .capability)
+
+  -- r and c of kind 4
+
+  found : (i : ℕ) → i < decode f .events .count → decode f .events .kind i ≡ 4
+      → (hasReference (decode f .references) (decode f .events .unit i) (decode f .events .component i)
+      && (not (readsCorrect (decode f .events .component i)) || hasReference (correctIn f k) (decode f .events .unit i) (decode f .events .component i)))
+      ≡ true
+  unfolding decode correctIn referencesFound referenceFound
+  found i l kind =
+      of-kind 4 (eventsIn (sectionOf f 3) .kind i) _
+      (all-at (eventsIn (sectionOf f 3) .count) i
+      (referenceFound (referencesIn (sectionOf f 1)) (referencesIn (correctReferences k (sectionOf f 1))) (eventsIn (sectionOf f 3))) l
+      (events .references-found)) kind
+
+  pub reference-there : (i : ℕ) → i < decode f .events .count → decode f .events .kind i ≡ 4
+      → hasReference (decode f .references) (decode f .events .unit i) (decode f .events .component i) ≡ true
+  reference-there i l kind = let t = found i l kind in search and-l
+
+  pub correct-there : (i : ℕ) → i < decode f .events .count → decode f .events .kind i ≡ 4 → readsCorrect (decode f .events .component i) ≡ true
+      → hasReference (correctIn f k) (decode f .events .unit i) (decode f .events .component i) ≡ true
+  correct-there i l kind reads =
+      let t = found i l kind in
+      or-right (not (readsCorrect (decode f .events .component i))) _ (search and-r) (ap not reads)
+
+  pub reference-bound : (i : ℕ) → i < decode f .events .count → decode f .events .kind i ≡ 4
+      → referenceOf (decode f) i ≤ highestReference (decode f .events .component i)
+  unfolding referenceOf
+  reference-bound i l kind =
+      level-bound (decode f .units) (decode f .references) (decode f .events .unit i) (decode f .events .component i) reference-ranges
+      (reference-there i l kind)
+
+  pub correct-bound : (i : ℕ) → i < decode f .events .count → decode f .events .kind i ≡ 4 → readsCorrect (decode f .events .component i) ≡ true
+      → levelOf (correctIn f k) (decode f .events .unit i) (decode f .events .component i) ≤ highestReference (decode f .events .component i)
+  correct-bound i l kind reads =
+      level-bound (decode f .units) (correctIn f k) (decode f .events .unit i) (decode f .events .component i) correct-ranges
+      (correct-there i l kind reads)
+
+  -- rows
+
+  pub rows-long : rowWidth * decode f .events .count ≤ n
+  unfolding decode rowsFine
+  rows-long = leb-true _ _ (events .rows-fine)
