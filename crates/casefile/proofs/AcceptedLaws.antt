@@ -13,7 +13,7 @@ use Rattle.binary.specs.Bounded.{allTo}
 use Rattle.binary.proofs.Implies.{and-l, and-r}
 use Rattle.binary.proofs.BoundedLaws.{all-at, any-true}
 use Rattle.casefile.specs.Layout.{sectionCount, headerWidth, longestFile, unitWidth, referenceWidth, pastWidth, eventWidth, mostUnits, mostReferences, mostPast, mostEvents, rowWidth}
-use Rattle.casefile.specs.Decode.{lengthOf, sectionOf, FollowOn, HasSection, unitsIn, referencesIn, pastIn, eventsIn, amountsIn, decode}
+use Rattle.casefile.specs.Decode.{caseIn, lengthOf, sectionOf, FollowOn, HasSection, unitsIn, referencesIn, pastIn, eventsIn, amountsIn, decode}
 use Rattle.casefile.specs.Lookup.{isUnit, isListed, placeOf, unitOf, hasReference, levelOf, correctReferences, correctIn, referenceOf}
 use Rattle.casefile.specs.Refusal.{sizeFine, sizesFine, rises, unitFine, unitsFine, highestReference, referenceKey, referenceFine, referencesFine, correctionFine, entryFine, pastFine, hourFine, eventFine, eventsFine, eventKey, orderFine, eventListed, eventsListed, withinCapability, amountFine, amountsFine, readsCorrect, referenceFound, referencesFound, rowsFine, eventsRefusal, refusal}
 use Rattle.casefile.proofs.LookupLaws.{listed-place, listed-number}
@@ -84,35 +84,35 @@ module _ (f k : List ℕ) (n : ℕ) (h : refusal f k n ≡ 0) where
   correction-sized = let t = records .correction-fine in sized (length k) referenceWidth mostReferences (search (and-l, and-r))
 
   pub units-count : decode f .units .count ≤ mostUnits
-  unfolding decode unitsIn
+  unfolding decode caseIn unitsIn
   units-count = let e = section-length 0 (omega arith) in let s = units-sized in omega arith
 
   pub references-count : decode f .references .count ≤ mostReferences
-  unfolding decode referencesIn
+  unfolding decode caseIn referencesIn
   references-count = let e = section-length 1 (omega arith) in let s = references-sized in omega arith
 
   pub past-count : decode f .past .count ≤ mostPast
-  unfolding decode pastIn
+  unfolding decode caseIn pastIn
   past-count = let e = section-length 2 (omega arith) in let s = past-sized in omega arith
 
   pub events-count : decode f .events .count ≤ mostEvents
-  unfolding decode eventsIn
+  unfolding decode caseIn eventsIn
   events-count = let e = section-length 3 (omega arith) in let s = events-sized in omega arith
 
   pub units-whole : lengthOf f 0 ≡ unitWidth * decode f .units .count
-  unfolding decode unitsIn
+  unfolding decode caseIn unitsIn
   units-whole = let e = section-length 0 (omega arith) in let s = units-sized in omega arith
 
   pub references-whole : lengthOf f 1 ≡ referenceWidth * decode f .references .count
-  unfolding decode referencesIn
+  unfolding decode caseIn referencesIn
   references-whole = let e = section-length 1 (omega arith) in let s = references-sized in omega arith
 
   pub past-whole : lengthOf f 2 ≡ pastWidth * decode f .past .count
-  unfolding decode pastIn
+  unfolding decode caseIn pastIn
   past-whole = let e = section-length 2 (omega arith) in let s = past-sized in omega arith
 
   pub events-whole : lengthOf f 3 ≡ eventWidth * decode f .events .count
-  unfolding decode eventsIn
+  unfolding decode caseIn eventsIn
   events-whole = let e = section-length 3 (omega arith) in let s = events-sized in omega arith
 
   pub correction-whole : length k ≡ referenceWidth * referencesIn k .count
@@ -126,15 +126,15 @@ module _ (f k : List ℕ) (n : ℕ) (h : refusal f k n ≡ 0) where
   -- units
 
   unit-fine : (i : ℕ) → i < decode f .units .count → unitFine (sectionOf f 0) i ≡ true
-  unfolding decode unitsFine
+  unfolding decode caseIn unitsFine
   unit-fine i l = all-at (unitsIn (sectionOf f 0) .count) i (unitFine (sectionOf f 0)) l (records .units-fine)
 
   pub unit-ranges : (i : ℕ) → i < decode f .units .count → UnitRange (decode f .units) i
-  unfolding decode
+  unfolding decode caseIn
   unit-ranges i l = unit-range (sectionOf f 0) i (unit-fine i l)
 
   pub units-rise : (i j : ℕ) → i < j → j < decode f .units .count → decode f .units .number i < decode f .units .number j
-  unfolding decode unitFine
+  unfolding decode caseIn unitFine
   units-rise i j l m = rising (unitsIn (sectionOf f 0) .number) _ (λ x lx. let t = unit-fine x lx in search (and-l, and-r)) i j l m
 
   -- a unit has one place
@@ -164,27 +164,27 @@ module _ (f k : List ℕ) (n : ℕ) (h : refusal f k n ≡ 0) where
   -- references, the correction's, and those that c is found in
 
   reference-fine : (i : ℕ) → i < decode f .references .count → referenceFine (decode f .units) (sectionOf f 1) i ≡ true
-  unfolding decode referencesFine
+  unfolding decode caseIn referencesFine
   reference-fine i l =
       all-at (referencesIn (sectionOf f 1) .count) i (referenceFine (unitsIn (sectionOf f 0)) (sectionOf f 1)) l (records .references-fine)
 
   pub reference-ranges : (i : ℕ) → i < decode f .references .count → ReferenceRange (decode f .units) (decode f .references) i
-  unfolding decode
+  unfolding decode caseIn
   reference-ranges i l = reference-range (unitsIn (sectionOf f 0)) (sectionOf f 1) i (reference-fine i l)
 
   pub references-rise : (i j : ℕ) → i < j → j < decode f .references .count → referenceKey (decode f .references) i < referenceKey (decode f .references) j
-  unfolding decode referenceFine
+  unfolding decode caseIn referenceFine
   references-rise i j l m = rising (referenceKey (referencesIn (sectionOf f 1))) _ (λ x lx. let t = reference-fine x lx in search (and-l, and-r)) i j l m
 
   correction-reference-fine : (i : ℕ) → i < referencesIn k .count → referenceFine (decode f .units) k i ≡ true
-  unfolding decode correctionFine referencesFine
+  unfolding decode caseIn correctionFine referencesFine
   correction-reference-fine i l =
       let t : referencesFine (unitsIn (sectionOf f 0)) k ≡ true =
       and-r (sizeFine (length k) referenceWidth mostReferences) (referencesFine (unitsIn (sectionOf f 0)) k) (records .correction-fine) in
       all-at (referencesIn k .count) i (referenceFine (unitsIn (sectionOf f 0)) k) l t
 
   correct-fine : (i : ℕ) → i < correctIn f k .count → referenceFine (decode f .units) (correctReferences k (sectionOf f 1)) i ≡ true
-  unfolding correctIn correctReferences decode
+  unfolding correctIn correctReferences decode caseIn
   correct-fine i l = go (eqb (length k) 0) i l
     where
       go : (b : Bool) (i : ℕ) → i < referencesIn (cond b (sectionOf f 1) k) .count
@@ -202,7 +202,7 @@ module _ (f k : List ℕ) (n : ℕ) (h : refusal f k n ≡ 0) where
       rising (referenceKey (referencesIn (correctReferences k (sectionOf f 1)))) _ (λ x lx. let t = correct-fine x lx in search (and-l, and-r)) i j l m
 
   pub correct-count : correctIn f k .count ≤ mostReferences
-  unfolding correctIn correctReferences decode
+  unfolding correctIn correctReferences decode caseIn
   correct-count = go (eqb (length k) 0)
     where
       go : (b : Bool) → referencesIn (cond b (sectionOf f 1) k) .count ≤ mostReferences
@@ -212,7 +212,7 @@ module _ (f k : List ℕ) (n : ℕ) (h : refusal f k n ≡ 0) where
   -- past entries
 
   pub violation-ranges : (i : ℕ) → i < decode f .past .count → ViolationRange (decode f .past .entry i)
-  unfolding decode pastFine entryFine
+  unfolding decode caseIn pastFine entryFine
   violation-ranges i l =
       violation-range (pastIn (sectionOf f 2) .entry i)
       (let t = all-at (pastIn (sectionOf f 2) .count) i (entryFine (sectionOf f 2)) l (records .past-fine) in search (and-l, and-r))
@@ -220,7 +220,7 @@ module _ (f k : List ℕ) (n : ℕ) (h : refusal f k n ≡ 0) where
   -- events
 
   event-fine : (i : ℕ) → i < decode f .events .count → eventFine (decode f .events) (decode f .a) i ≡ true
-  unfolding decode eventsFine
+  unfolding decode caseIn eventsFine
   event-fine i l =
       all-at (eventsIn (sectionOf f 3) .count) i (eventFine (eventsIn (sectionOf f 3)) (amountsIn (sectionOf f 3))) l (events .events-fine)
 
@@ -236,7 +236,7 @@ module _ (f k : List ℕ) (n : ℕ) (h : refusal f k n ≡ 0) where
       cell-range _ _ _ _ _ (all-at (decode f .events .hours i) x (hourFine (decode f .events) (decode f .a) i) m t)
 
   pub events-rise : (i j : ℕ) → i < j → j < decode f .events .count → eventKey (decode f .events) i < eventKey (decode f .events) j
-  unfolding decode orderFine
+  unfolding decode caseIn orderFine
   events-rise i j l m =
       rising (eventKey (eventsIn (sectionOf f 3))) _
       (λ x lx. all-at (eventsIn (sectionOf f 3) .count) x (rises (eventKey (eventsIn (sectionOf f 3)))) lx (events .order-fine)) i j l m
@@ -263,7 +263,7 @@ module _ (f k : List ℕ) (n : ℕ) (h : refusal f k n ≡ 0) where
   -- the event's unit
 
   pub event-listed : (i : ℕ) → i < decode f .events .count → isListed (decode f .units) (decode f .events .unit i) ≡ true
-  unfolding decode eventsListed eventListed
+  unfolding decode caseIn eventsListed eventListed
   event-listed i l =
       all-at (eventsIn (sectionOf f 3) .count) i (eventListed (unitsIn (sectionOf f 0)) (eventsIn (sectionOf f 3))) l (events .events-listed)
 
@@ -278,7 +278,7 @@ module _ (f k : List ℕ) (n : ℕ) (h : refusal f k n ≡ 0) where
   -- a of kinds 1 and 2
   pub amount-capability : (i x : ℕ) → i < decode f .events .count → x < decode f .events .hours i → decode f .events .kind i ≤ 2
       → decode f .a i x ≤ decode f .units .capability (unitOf (decode f) i)
-  unfolding decode unitOf amountsFine amountFine withinCapability
+  unfolding decode caseIn unitOf amountsFine amountFine withinCapability
   amount-capability i x l m kind =
       let t = all-at (eventsIn (sectionOf f 3) .count) i
       (amountFine (unitsIn (sectionOf f 0)) (eventsIn (sectionOf f 3)) (amountsIn (sectionOf f 3))) l (events .amounts-fine) in
@@ -297,7 +297,7 @@ module _ (f k : List ℕ) (n : ℕ) (h : refusal f k n ≡ 0) where
       → (hasReference (decode f .references) (decode f .events .unit i) (decode f .events .component i)
       && (not (readsCorrect (decode f .events .component i)) || hasReference (correctIn f k) (decode f .events .unit i) (decode f .events .component i)))
       ≡ true
-  unfolding decode correctIn referencesFound referenceFound
+  unfolding decode caseIn correctIn referencesFound referenceFound
   found i l kind =
       of-kind 4 (eventsIn (sectionOf f 3) .kind i) _
       (all-at (eventsIn (sectionOf f 3) .count) i
@@ -330,5 +330,5 @@ module _ (f k : List ℕ) (n : ℕ) (h : refusal f k n ≡ 0) where
   -- rows
 
   pub rows-long : rowWidth * decode f .events .count ≤ n
-  unfolding decode rowsFine
+  unfolding decode caseIn rowsFine
   rows-long = leb-true _ _ (events .rows-fine)
