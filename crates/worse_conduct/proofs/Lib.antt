@@ -1,2 +1,4 @@
 pub mod TestLaws
 pub mod WorseCase
+pub mod StoredWord
+pub mod CellChange
