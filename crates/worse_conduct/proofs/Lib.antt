@@ -3,3 +3,5 @@ pub mod WorseCase
 pub mod StoredWord
 pub mod CellChange
 pub mod EntryChange
+pub mod AcceptedCase
+pub mod WorseConduct
