@@ -1,2 +1,8 @@
 pub mod TestLaws
 pub mod WorseCase
+pub mod StoredWord
+pub mod CellChange
+pub mod EntryChange
+pub mod AcceptedCase
+pub mod WorseConduct
+pub mod Examples

@@ -30,12 +30,15 @@ pub record NoSmaller (s s′ : Settled) : Type 0 where
   pub total : s .answer .penalties ≤ s′ .answer .penalties
 
 -- every list of changes, in any number and order; only the cases before and after it are accepted, with the same correction,
--- and the two rows buffers may hold anything
-abbrev pub WorseConduct : Type 0
-WorseConduct =
+-- and the two rows buffers may hold anything. The premise is one on the case before
+abbrev pub NeverCheaper : (Premise : Case → Type 0) → Type 0
+NeverCheaper Premise =
     (file correction rows rows′ : List ℕ) (changes : List Change)
     → refusal file correction (length rows) ≡ 0
     → refusal (applyAll changes file) correction (length rows′) ≡ 0
     → TakesAll file changes
-    → EnergyNotNegative (decode file)
+    → Premise (decode file)
     → NoSmaller (settled file correction rows) (settled (applyAll changes file) correction rows′)
+
+abbrev pub WorseConduct : Type 0
+WorseConduct = NeverCheaper EnergyNotNegative
