@@ -16,7 +16,7 @@ use Rattle.binary.proofs.ByteLaws.{stretch-length}
 use Rattle.binary.proofs.WordLaws.{within-positive}
 use Rattle.casefile.specs.Layout.{headerWidth, longestFile, unitWidth, referenceWidth, pastWidth, eventWidth, mostUnits, mostReferences, mostPast, mostEvents}
 use Rattle.casefile.specs.Case.{Units, Events}
-use Rattle.casefile.specs.Decode.{offsetOf, lengthOf, sectionOf, FollowOn, recordAt, unitsIn, referencesIn, eventsIn, amountsIn, decode}
+use Rattle.casefile.specs.Decode.{caseIn, offsetOf, lengthOf, sectionOf, FollowOn, recordAt, unitsIn, referencesIn, eventsIn, amountsIn, decode}
 use Rattle.casefile.specs.Lookup.{isUnit, isListed, placeOf, correctReferences}
 use Rattle.casefile.specs.Refusal.{lengthFine, versionFine, sectionsFine, pairsFine, sizeFine, sizesFine, rises, unitFieldsFine, unitSpareFine, unitFine, unitsFine, referencesFine, correctionFine, pastFine, quantitiesFine, fieldsFine, cellFine, hourFine, eventFine, eventsFine, orderFine, eventListed, eventsListed, withinCapability, amountFine, amountsFine, referencesFound, rowsFine, headerRefusal, recordsRefusal, eventsRefusal, refusal}
 use Rattle.sanctions.proofs.PenaltyBounds.{Ranges}
@@ -70,7 +70,7 @@ follows f p =
     }
 
 event-count : (f : List ℕ) → Passed f → decode f .events .count ≤ mostEvents
-unfolding decode eventsIn sectionOf sizesFine sizeFine
+unfolding decode caseIn eventsIn sectionOf sizesFine sizeFine
 event-count f p =
     let t = p .sizes in
     let l = follows f p in
@@ -163,11 +163,11 @@ module _ (u s : List ℕ) (units : unitsFine u ≡ true) (events : eventsFine s 
       )
 
 hours-bound : (f : List ℕ) (i : ℕ) → decode f .events .hours i ≤ 24
-unfolding decode eventsIn
+unfolding decode caseIn eventsIn
 hours-bound f i = le-refl 24
 
 ranges : (f : List ℕ) → Passed f → Ranges (decode f)
-unfolding decode
+unfolding decode caseIn
 ranges f p =
     record {
       count = event-count f p;

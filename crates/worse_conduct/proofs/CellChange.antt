@@ -15,7 +15,7 @@ use Rattle.binary.proofs.Implies.{and-left, and-right, or-cases, cond-cases, tr
 use Rattle.binary.proofs.ByteLaws.{value-one, stretch-length}
 use Rattle.casefile.specs.Layout.{eventWidth, hours}
 use Rattle.casefile.specs.Case.{Events}
-use Rattle.casefile.specs.Decode.{offsetOf, lengthOf, sectionOf, FollowOn, recordAt, unitsIn, referencesIn, pastIn, cellAt, eventsIn, amountsIn, decode}
+use Rattle.casefile.specs.Decode.{caseIn, offsetOf, lengthOf, sectionOf, FollowOn, recordAt, unitsIn, referencesIn, pastIn, cellAt, eventsIn, amountsIn, decode}
 use Rattle.worse_conduct.specs.Changes.{cellPlace, cellWritten, moreWithheld, lowerBid, worseBid, worseAmount, WorseCell}
 use Rattle.worse_conduct.proofs.StoredWord.{Stored, sets-stored, value-apart, stretch-apart, stretch-stored}
 use Rattle.worse_conduct.proofs.WorseCase.{WorseAmounts, MoreEntries, Worse, entries-refl}
@@ -215,7 +215,7 @@ module _ (f g : List ℕ) (L : FollowOn f) (q w : ℕ) (z : Stored f g (offsetOf
 
 module _ (f : List ℕ) (L : FollowOn f) (i h w : ℕ) (c : WorseCell (decode f) i h w) where
   in-range : (eventWidth * i + eventWidth ≤ lengthOf f 3) × (h < hours)
-  unfolding decode eventsIn sectionOf
+  unfolding decode caseIn eventsIn sectionOf
   in-range =
       let n : length (sectionOf f 3) ≡ lengthOf f 3 = stretch-length f (offsetOf f 3) (lengthOf f 3) (omega arith) in
       let e : i < length (sectionOf f 3) / eventWidth = c .event in
@@ -231,7 +231,7 @@ module _ (f : List ℕ) (L : FollowOn f) (i h w : ℕ) (c : WorseCell (decode f)
   cell-follow = follow f (cellWritten i h w f) L (eventWidth * i + cellAt h) w cell-stored
 
   pub cell-worse : Worse (decode f) (decode (cellWritten i h w f))
-  unfolding decode
+  unfolding decode caseIn
   cell-worse =
       let r = in-range in
       let g : List ℕ = cellWritten i h w f in

@@ -13,7 +13,7 @@ use Rattle.binary.proofs.BoundedLaws.{count-insert}
 use Rattle.binary.proofs.ByteLaws.{value-same, stretch-length, stretch-byte, stretch-same}
 use Rattle.casefile.specs.Layout.{headerWidth, longestFile, pastWidth}
 use Rattle.casefile.specs.Case.{Violation}
-use Rattle.casefile.specs.Decode.{offsetOf, lengthOf, sectionOf, FollowOn, recordAt, unitsIn, referencesIn, violationIn, pastIn, eventsIn, amountsIn, decode}
+use Rattle.casefile.specs.Decode.{caseIn, offsetOf, lengthOf, sectionOf, FollowOn, recordAt, unitsIn, referencesIn, violationIn, pastIn, eventsIn, amountsIn, decode}
 use Rattle.worse_conduct.specs.Changes.{Change, entry, entryPlace, entryPut, longerPast, laterEvents, headerMoved, apply, OneMoreEntry}
 use Rattle.worse_conduct.proofs.StoredWord.{Stored, sets-stored, value-apart}
 use Rattle.worse_conduct.proofs.WorseCase.{WorseAmounts, MoreEntries, Worse, amounts-refl}
@@ -200,7 +200,7 @@ module _ (f g : List ℕ) (L : FollowOn f) (k : ℕ) (lk : pastWidth * k ≤ len
       }
 
   worse : Worse (decode f) (decode g)
-  unfolding decode
+  unfolding decode caseIn
   worse =
       record {
         units = ap unitsIn (front 0 (omega arith) (omega arith) (omega arith));
@@ -212,7 +212,7 @@ module _ (f g : List ℕ) (L : FollowOn f) (k : ℕ) (lk : pastWidth * k ≤ len
       }
 
 in-range : (f : List ℕ) (k : ℕ) (e : List ℕ) → FollowOn f → OneMoreEntry (decode f) k e → pastWidth * k ≤ lengthOf f 2
-unfolding decode pastIn sectionOf
+unfolding decode caseIn pastIn sectionOf
 in-range f k e L c =
     let n : length (sectionOf f 2) ≡ lengthOf f 2 = stretch-length f (offsetOf f 2) (lengthOf f 2) (omega arith) in
     let p : k ≤ length (sectionOf f 2) / pastWidth = c .place in
