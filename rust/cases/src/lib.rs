@@ -2,9 +2,15 @@
 //!
 //! - [`case`]: a case as typed records, and its bytes.
 //! - [`row`]: a row of the rows buffer, read back.
+//! - [`generator`]: random cases that break nothing, and random bytes.
+//! - [`random`]: the seeded sequence behind them.
 
 pub mod case;
+pub mod generator;
+pub mod random;
 pub mod row;
 
 pub use case::{Case, Conduct, Event, Input, Past, Reference, Unit};
+pub use generator::{Generated, Size, Wanted};
+pub use random::Random;
 pub use row::Row;
