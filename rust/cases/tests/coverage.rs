@@ -39,9 +39,12 @@ fn unit_of(generated: &Generated, number: u16) -> &Unit {
         .unwrap()
 }
 
-/// The sums of a over kind 1 and kind 2 events, by (kind, day, market, group).
-fn sums(generated: &Generated) -> HashMap<(u8, u32, u8, u16), (usize, [i64; 24])> {
-    let mut sums: HashMap<_, (usize, [i64; 24])> = HashMap::new();
+/// By (kind, day, market, group): the number of events and the sum of a in each hour.
+type PartyDaySums = HashMap<(u8, u32, u8, u16), (usize, [i64; 24])>;
+
+/// The sums of a over kind 1 and kind 2 events.
+fn sums(generated: &Generated) -> PartyDaySums {
+    let mut sums = PartyDaySums::new();
     for event in &generated.case.events {
         let group = unit_of(generated, event.unit).group;
         let entry = sums
