@@ -2,8 +2,8 @@
 
 use cases::case::{LARGEST_FILE, ROW_BYTES};
 use cases::generator::{any_case, case, random_bytes};
-use cases::{Random, Size, Wanted};
-use second::{Outcome, refusal, settle};
+use cases::{Random, Row, Size, Wanted};
+use second::{Outcome, listing, refusal, settle};
 
 #[test]
 fn generated_cases_are_accepted() {
@@ -60,5 +60,53 @@ fn random_bytes_are_refused_or_settled() {
     println!("refusals by number: {numbers:?}");
     for number in [0, 1, 2, 4, 6, 8, 10] {
         assert!(numbers[number] > 0, "{number}");
+    }
+}
+
+#[test]
+fn rows_do_not_depend_on_what_the_buffer_held() {
+    let mut random = Random::new(11);
+    for _ in 0..400 {
+        let input = any_case(&mut random).input();
+        let mut first = vec![0x00; input.rows_len + 40];
+        let mut second = vec![0xFF; input.rows_len + 40];
+        assert_eq!(
+            settle(&input.file, &input.correction, &mut first),
+            settle(&input.file, &input.correction, &mut second)
+        );
+        assert_eq!(first[..input.rows_len], second[..input.rows_len]);
+        assert!(first[input.rows_len..].iter().all(|&byte| byte == 0x00));
+        assert!(second[input.rows_len..].iter().all(|&byte| byte == 0xFF));
+    }
+}
+
+#[test]
+fn listings_say_what_the_rows_say() {
+    let mut random = Random::new(12);
+    for _ in 0..400 {
+        let generated = any_case(&mut random);
+        let input = generated.input();
+        let mut buffer = vec![0; input.rows_len];
+        let outcome = settle(&input.file, &[], &mut buffer);
+        let Outcome::Settled {
+            penalties,
+            make_ups,
+            ..
+        } = outcome
+        else {
+            panic!("{outcome:?}");
+        };
+        let mut expected = String::new();
+        for (place, event) in generated.case.events.iter().enumerate() {
+            let row = Row::read(&buffer, place);
+            // Without a correction c = r, so the make-up column is 0.
+            assert_eq!(row.make_up, 0);
+            let (day, kind, market, unit, component) = event.order();
+            let (flags, mitigated) = (row.flags, row.mitigated);
+            expected += &format!("{day} {kind} {unit} {market} {component} {flags} {mitigated}");
+            expected += &format!(" {} {} {}\n", row.multiplier, row.penalty, row.make_up);
+        }
+        expected += &format!("total {penalties} {make_ups}\n");
+        assert_eq!(listing(&input.file), expected);
     }
 }
