@@ -1,0 +1,569 @@
+//! A case as typed records, and its bytes.
+//!
+//! Nothing here is checked: a test may write any case, also one that is to be refused.
+
+/// Bytes before the first section.
+pub const HEADER_BYTES: usize = 36;
+/// Bytes of a unit record.
+pub const UNIT_BYTES: usize = 24;
+/// Bytes of a reference record.
+pub const REFERENCE_BYTES: usize = 8;
+/// Bytes of a past record.
+pub const PAST_BYTES: usize = 12;
+/// Bytes of an event record.
+pub const EVENT_BYTES: usize = 312;
+/// Bytes of an event record before its hour cells.
+pub const EVENT_HEAD_BYTES: usize = 24;
+/// Bytes of an hour cell.
+pub const CELL_BYTES: usize = 12;
+/// Bytes of a row in the rows buffer.
+pub const ROW_BYTES: usize = 128;
+/// The largest file.
+pub const LARGEST_FILE: usize = 65_000;
+
+/// Market 0.
+pub const DAY_AHEAD: u8 = 0;
+/// Market 1.
+pub const REAL_TIME: u8 = 1;
+
+/// A unit record.
+#[derive(Clone, Copy, Debug, Default, PartialEq, Eq)]
+pub struct Unit {
+    /// Unit number.
+    pub unit: u16,
+    /// A Market Party with its Affiliates.
+    pub group: u16,
+    /// 1 Constrained Area, 0 not.
+    pub area: u8,
+    /// Tenths of MW.
+    pub capability: u32,
+    /// Tenths of MW per minute.
+    pub response_rate: u32,
+    /// Cents.
+    pub average_price: u32,
+    /// Constrained Hours.
+    pub constrained_hours: u16,
+}
+
+/// A reference record, of the case or of a correction.
+#[derive(Clone, Copy, Debug, PartialEq, Eq)]
+pub struct Reference {
+    /// Unit number.
+    pub unit: u16,
+    /// Component number.
+    pub component: u8,
+    /// The reference level.
+    pub value: u32,
+}
+
+/// A past entry.
+#[derive(Clone, Copy, Debug, PartialEq, Eq)]
+pub struct Past {
+    /// Group number.
+    pub group: u16,
+    /// 1 withheld, 3 fuel.
+    pub kind: u8,
+    /// Market number.
+    pub market: u8,
+    /// Capability period number.
+    pub period: u16,
+    /// Day number.
+    pub day: u32,
+}
+
+/// One hour of a withheld event: `a` and `b`.
+#[derive(Clone, Copy, Debug, Default, PartialEq, Eq)]
+pub struct WithheldHour {
+    /// Tenths of MW.
+    pub withheld: u32,
+    /// Cents.
+    pub price: i32,
+}
+
+/// One hour of a dispatch event: `a` and `b`.
+#[derive(Clone, Copy, Debug, Default, PartialEq, Eq)]
+pub struct DispatchHour {
+    /// Tenths of MW.
+    pub undelivered: u32,
+    /// Cents.
+    pub added_revenue: u32,
+}
+
+/// One hour of a fuel event: `a` and `b`.
+#[derive(Clone, Copy, Debug, Default, PartialEq, Eq)]
+pub struct FuelHour {
+    /// Tenths of MWh.
+    pub energy: u32,
+    /// Cents.
+    pub price_change: i32,
+}
+
+/// One hour of a bids event: `a`, `b` and `m`.
+#[derive(Clone, Copy, Debug, Default, PartialEq, Eq)]
+pub struct BidHour {
+    /// In the component's own measure.
+    pub bid: i32,
+    /// Cents.
+    pub price: i32,
+    /// Tenths of MW.
+    pub quantity: u32,
+}
+
+/// The fields of an event that go by its kind.
+#[derive(Clone, Copy, Debug, PartialEq, Eq)]
+pub enum Conduct {
+    /// Kind 1.
+    Withheld {
+        /// The impact result.
+        impact: u8,
+        /// P, hours with a Shadow Price.
+        shadow_price: u32,
+        /// The hour cells.
+        hours: [WithheldHour; 24],
+    },
+    /// Kind 2.
+    Dispatch {
+        /// The impact result.
+        impact: u8,
+        /// P, hours with a Shadow Price.
+        shadow_price: u32,
+        /// The hour cells.
+        hours: [DispatchHour; 24],
+    },
+    /// Kind 3.
+    Fuel {
+        /// P, hours with inaccurate data and a failed impact test.
+        inaccurate: u32,
+        /// Q, change of guarantee payment in cents.
+        guarantee_change: i32,
+        /// R, TCC change in cents.
+        tcc_change: i32,
+        /// The hour cells.
+        hours: [FuelHour; 24],
+    },
+    /// Kind 4.
+    Bids {
+        /// Component number.
+        component: u8,
+        /// P, hours with a Shadow Price.
+        shadow_price: u32,
+        /// Q, hours with impact.
+        impact: u32,
+        /// R.
+        minimum_run_hours: u32,
+        /// The hour cells.
+        hours: [BidHour; 24],
+    },
+}
+
+/// An event record.
+#[derive(Clone, Copy, Debug, PartialEq, Eq)]
+pub struct Event {
+    /// Day number; 0 is 1 January 2000.
+    pub day: u32,
+    /// Market number.
+    pub market: u8,
+    /// Unit number.
+    pub unit: u16,
+    /// Capability period number.
+    pub period: u16,
+    /// The fields of its kind.
+    pub conduct: Conduct,
+}
+
+impl Event {
+    /// The kind number.
+    pub fn kind(&self) -> u8 {
+        match self.conduct {
+            Conduct::Withheld { .. } => 1,
+            Conduct::Dispatch { .. } => 2,
+            Conduct::Fuel { .. } => 3,
+            Conduct::Bids { .. } => 4,
+        }
+    }
+
+    /// The component number; 0 where the kind has none.
+    pub fn component(&self) -> u8 {
+        match self.conduct {
+            Conduct::Bids { component, .. } => component,
+            _ => 0,
+        }
+    }
+
+    /// What events are sorted by: (day, kind, market, unit, component).
+    pub fn order(&self) -> (u32, u8, u8, u16, u8) {
+        (
+            self.day,
+            self.kind(),
+            self.market,
+            self.unit,
+            self.component(),
+        )
+    }
+
+    /// The 312 bytes of the record.
+    pub fn to_bytes(&self) -> Vec<u8> {
+        let (impact, p, q, r) = match self.conduct {
+            Conduct::Withheld {
+                impact,
+                shadow_price,
+                ..
+            }
+            | Conduct::Dispatch {
+                impact,
+                shadow_price,
+                ..
+            } => (impact, shadow_price, 0, 0),
+            Conduct::Fuel {
+                inaccurate,
+                guarantee_change,
+                tcc_change,
+                ..
+            } => (
+                0,
+                inaccurate,
+                guarantee_change.cast_unsigned(),
+                tcc_change.cast_unsigned(),
+            ),
+            Conduct::Bids {
+                shadow_price,
+                impact,
+                minimum_run_hours,
+                ..
+            } => (0, shadow_price, impact, minimum_run_hours),
+        };
+        let mut bytes = vec![self.kind(), self.market];
+        bytes.extend(self.unit.to_le_bytes());
+        bytes.extend(self.period.to_le_bytes());
+        bytes.extend([self.component(), impact]);
+        for word in [self.day, p, q, r] {
+            bytes.extend(word.to_le_bytes());
+        }
+        for hour in 0..24 {
+            let (a, b, m) = match &self.conduct {
+                Conduct::Withheld { hours, .. } => {
+                    (hours[hour].withheld, hours[hour].price.cast_unsigned(), 0)
+                }
+                Conduct::Dispatch { hours, .. } => {
+                    (hours[hour].undelivered, hours[hour].added_revenue, 0)
+                }
+                Conduct::Fuel { hours, .. } => (
+                    hours[hour].energy,
+                    hours[hour].price_change.cast_unsigned(),
+                    0,
+                ),
+                Conduct::Bids { hours, .. } => (
+                    hours[hour].bid.cast_unsigned(),
+                    hours[hour].price.cast_unsigned(),
+                    hours[hour].quantity,
+                ),
+            };
+            for word in [a, b, m] {
+                bytes.extend(word.to_le_bytes());
+            }
+        }
+        bytes
+    }
+}
+
+impl Unit {
+    /// The 24 bytes of the record.
+    pub fn to_bytes(&self) -> Vec<u8> {
+        let mut bytes = Vec::with_capacity(UNIT_BYTES);
+        bytes.extend(self.unit.to_le_bytes());
+        bytes.extend(self.group.to_le_bytes());
+        bytes.extend([self.area, 0, 0, 0]);
+        for word in [self.capability, self.response_rate, self.average_price] {
+            bytes.extend(word.to_le_bytes());
+        }
+        bytes.extend(self.constrained_hours.to_le_bytes());
+        bytes.extend([0, 0]);
+        bytes
+    }
+}
+
+impl Reference {
+    /// The 8 bytes of the record.
+    pub fn to_bytes(&self) -> Vec<u8> {
+        let mut bytes = self.unit.to_le_bytes().to_vec();
+        bytes.extend([self.component, 0]);
+        bytes.extend(self.value.to_le_bytes());
+        bytes
+    }
+}
+
+impl Past {
+    /// The 12 bytes of the record.
+    pub fn to_bytes(&self) -> Vec<u8> {
+        let mut bytes = self.group.to_le_bytes().to_vec();
+        bytes.extend([self.kind, self.market]);
+        bytes.extend(self.period.to_le_bytes());
+        bytes.extend([0, 0]);
+        bytes.extend(self.day.to_le_bytes());
+        bytes
+    }
+}
+
+/// A case: the records of the four sections, in the order in which they are written.
+#[derive(Clone, Debug, Default, PartialEq, Eq)]
+pub struct Case {
+    /// Unit records.
+    pub units: Vec<Unit>,
+    /// Reference records.
+    pub references: Vec<Reference>,
+    /// Past entries.
+    pub past: Vec<Past>,
+    /// Event records.
+    pub events: Vec<Event>,
+}
+
+impl Case {
+    /// Sorts the events as a file must have them.
+    pub fn sort_events(&mut self) {
+        self.events.sort_by_key(Event::order);
+    }
+
+    /// The bytes of the case file.
+    pub fn to_bytes(&self) -> Vec<u8> {
+        file_of(&[
+            self.units.iter().flat_map(Unit::to_bytes).collect(),
+            correction_bytes(&self.references),
+            self.past.iter().flat_map(Past::to_bytes).collect(),
+            self.events.iter().flat_map(Event::to_bytes).collect(),
+        ])
+    }
+}
+
+/// The bytes of a correction, "laid out as references".
+pub fn correction_bytes(references: &[Reference]) -> Vec<u8> {
+    references.iter().flat_map(Reference::to_bytes).collect()
+}
+
+/// A file of four sections: version 1, the pairs, then the sections one after another.
+pub fn file_of(sections: &[Vec<u8>; 4]) -> Vec<u8> {
+    let mut file = Vec::new();
+    file.extend(1_u16.to_le_bytes());
+    file.extend(4_u16.to_le_bytes());
+    let mut offset = HEADER_BYTES;
+    for section in sections {
+        file.extend((offset as u32).to_le_bytes());
+        file.extend((section.len() as u32).to_le_bytes());
+        offset += section.len();
+    }
+    for section in sections {
+        file.extend(section);
+    }
+    file
+}
+
+/// The sections of a file whose pairs follow on.
+pub fn sections_of(file: &[u8]) -> [Vec<u8>; 4] {
+    [0, 1, 2, 3].map(|place| {
+        let (offset, length) = section_place(file, place);
+        file[offset..offset + length].to_vec()
+    })
+}
+
+/// Offset and length of a section, from its pair.
+pub fn section_place(file: &[u8], section: usize) -> (usize, usize) {
+    let pair = 4 + 8 * section;
+    (u32_at(file, pair) as usize, u32_at(file, pair + 4) as usize)
+}
+
+/// A little-endian u16.
+pub fn u16_at(bytes: &[u8], at: usize) -> u16 {
+    u16::from_le_bytes([bytes[at], bytes[at + 1]])
+}
+
+/// A little-endian u32.
+pub fn u32_at(bytes: &[u8], at: usize) -> u32 {
+    u32::from_le_bytes([bytes[at], bytes[at + 1], bytes[at + 2], bytes[at + 3]])
+}
+
+/// Writes a little-endian u32.
+pub fn put_u32(bytes: &mut [u8], at: usize, value: u32) {
+    bytes[at..at + 4].copy_from_slice(&value.to_le_bytes());
+}
+
+/// Writes a little-endian u16.
+pub fn put_u16(bytes: &mut [u8], at: usize, value: u16) {
+    bytes[at..at + 2].copy_from_slice(&value.to_le_bytes());
+}
+
+/// What a settlement is called with: the file, the correction and the length of the rows buffer.
+#[derive(Clone, Debug, PartialEq, Eq)]
+pub struct Input {
+    /// The case file.
+    pub file: Vec<u8>,
+    /// The correction; empty for none.
+    pub correction: Vec<u8>,
+    /// Length of the rows buffer in bytes.
+    pub rows_len: usize,
+}
+
+impl Input {
+    /// A case with a correction and exactly as many rows as it has events.
+    pub fn new(case: &Case, correction: &[Reference]) -> Input {
+        Input {
+            file: case.to_bytes(),
+            correction: correction_bytes(correction),
+            rows_len: ROW_BYTES * case.events.len(),
+        }
+    }
+}
+
+/// All 24 hours.
+pub const EVERY_HOUR: u32 = 0xFF_FFFF;
+
+impl Event {
+    /// A withheld event of period 0 with impact 1 and no Shadow Price; hours as (hour, a, b).
+    pub fn withheld(day: u32, market: u8, unit: u16, cells: &[(usize, u32, i32)]) -> Event {
+        let mut hours = [WithheldHour::default(); 24];
+        for &(hour, withheld, price) in cells {
+            hours[hour] = WithheldHour { withheld, price };
+        }
+        let conduct = Conduct::Withheld {
+            impact: 1,
+            shadow_price: 0,
+            hours,
+        };
+        Event {
+            day,
+            market,
+            unit,
+            period: 0,
+            conduct,
+        }
+    }
+
+    /// A Real-Time dispatch event with impact 1 and no Shadow Price; hours as (hour, a, b).
+    pub fn dispatch(day: u32, unit: u16, cells: &[(usize, u32, u32)]) -> Event {
+        let mut hours = [DispatchHour::default(); 24];
+        for &(hour, undelivered, added_revenue) in cells {
+            hours[hour] = DispatchHour {
+                undelivered,
+                added_revenue,
+            };
+        }
+        let conduct = Conduct::Dispatch {
+            impact: 1,
+            shadow_price: 0,
+            hours,
+        };
+        Event {
+            day,
+            market: REAL_TIME,
+            unit,
+            period: 0,
+            conduct,
+        }
+    }
+
+    /// A fuel event with its P, Q and R; hours as (hour, a, b).
+    pub fn fuel(
+        day: u32,
+        market: u8,
+        unit: u16,
+        (inaccurate, guarantee_change, tcc_change): (u32, i32, i32),
+        cells: &[(usize, u32, i32)],
+    ) -> Event {
+        let mut hours = [FuelHour::default(); 24];
+        for &(hour, energy, price_change) in cells {
+            hours[hour] = FuelHour {
+                energy,
+                price_change,
+            };
+        }
+        let conduct = Conduct::Fuel {
+            inaccurate,
+            guarantee_change,
+            tcc_change,
+            hours,
+        };
+        Event {
+            day,
+            market,
+            unit,
+            period: 0,
+            conduct,
+        }
+    }
+
+    /// A bids event with impact in every hour, R 0 and no Shadow Price; hours as (hour, a, b, m),
+    /// and the other hours with bid `elsewhere`.
+    pub fn bids(
+        day: u32,
+        market: u8,
+        unit: u16,
+        component: u8,
+        elsewhere: i32,
+        cells: &[(usize, i32, i32, u32)],
+    ) -> Event {
+        let mut hours = [BidHour {
+            bid: elsewhere,
+            price: 0,
+            quantity: 0,
+        }; 24];
+        for &(hour, bid, price, quantity) in cells {
+            hours[hour] = BidHour {
+                bid,
+                price,
+                quantity,
+            };
+        }
+        let conduct = Conduct::Bids {
+            component,
+            shadow_price: 0,
+            impact: EVERY_HOUR,
+            minimum_run_hours: 0,
+            hours,
+        };
+        Event {
+            day,
+            market,
+            unit,
+            period: 0,
+            conduct,
+        }
+    }
+
+    /// The event in another capability period.
+    pub fn in_period(mut self, number: u16) -> Event {
+        self.period = number;
+        self
+    }
+
+    /// The event with another impact: 0 or 1 in kinds 1 and 2, a mask of hours in kind 4.
+    pub fn with_impact(mut self, value: u32) -> Event {
+        match &mut self.conduct {
+            Conduct::Withheld { impact, .. } | Conduct::Dispatch { impact, .. } => {
+                *impact = value as u8;
+            }
+            Conduct::Bids { impact, .. } => *impact = value,
+            Conduct::Fuel { .. } => {}
+        }
+        self
+    }
+
+    /// The event with Shadow Prices in these hours.
+    pub fn with_shadow_price(mut self, mask: u32) -> Event {
+        match &mut self.conduct {
+            Conduct::Withheld { shadow_price, .. }
+            | Conduct::Dispatch { shadow_price, .. }
+            | Conduct::Bids { shadow_price, .. } => *shadow_price = mask,
+            Conduct::Fuel { .. } => {}
+        }
+        self
+    }
+
+    /// The bids event with other minimum run hours.
+    pub fn with_minimum_run_hours(mut self, number: u32) -> Event {
+        if let Conduct::Bids {
+            minimum_run_hours, ..
+        } = &mut self.conduct
+        {
+            *minimum_run_hours = number;
+        }
+        self
+    }
+}

@@ -1,0 +1,21 @@
+//! Cases for tests and benchmarks of the Attachment H settlement.
+//!
+//! - [`case`]: a case as typed records, and its bytes.
+//! - [`row`]: a row of the rows buffer, read back.
+//! - [`generator`]: random cases that break nothing, and random bytes.
+//! - [`faults`]: faults of every number, as functions on bytes.
+//! - [`worse`]: the worsening changes of demand 3, as functions on bytes.
+//! - [`random`]: the seeded sequence behind them.
+
+pub mod case;
+pub mod faults;
+pub mod generator;
+pub mod random;
+pub mod row;
+pub mod worse;
+
+pub use case::{Case, Conduct, Event, Input, Past, Reference, Unit};
+pub use generator::{Generated, Size, Wanted};
+pub use random::Random;
+pub use row::Row;
+pub use worse::Change;

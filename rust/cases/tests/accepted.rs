@@ -1,0 +1,112 @@
+//! Generated cases are accepted, and reach what they are meant to reach.
+
+use cases::case::{LARGEST_FILE, ROW_BYTES};
+use cases::generator::{any_case, case, random_bytes};
+use cases::{Random, Row, Size, Wanted};
+use second::{Outcome, listing, refusal, settle};
+
+#[test]
+fn generated_cases_are_accepted() {
+    let mut random = Random::new(1);
+    let count = 4_000;
+    let mut refused = Vec::new();
+    for place in 0..count {
+        let generated = any_case(&mut random);
+        let input = generated.input();
+        let number = refusal(&input.file, &input.correction, input.rows_len);
+        if number != 0 {
+            refused.push((place, number));
+        }
+    }
+    assert!(
+        refused.is_empty(),
+        "{} of {count}: {refused:?}",
+        refused.len()
+    );
+}
+
+#[test]
+fn full_cases_have_200_events_in_65000_bytes() {
+    let mut random = Random::new(2);
+    for _ in 0..300 {
+        let generated = case(&mut random, Wanted::of(Size::Full));
+        let input = generated.input();
+        assert_eq!(generated.case.events.len(), 200);
+        assert_eq!(input.file.len(), LARGEST_FILE);
+        assert_eq!(refusal(&input.file, &input.correction, input.rows_len), 0);
+    }
+}
+
+#[test]
+fn random_bytes_are_refused_or_settled() {
+    let mut random = Random::new(3);
+    let mut numbers = [0; 16];
+    for _ in 0..6_000 {
+        let input = random_bytes(&mut random);
+        let number = refusal(&input.file, &input.correction, input.rows_len);
+        numbers[usize::from(number)] += 1;
+        let mut rows = vec![0x5A; input.rows_len];
+        match settle(&input.file, &input.correction, &mut rows) {
+            Outcome::Refused(again) => {
+                assert_eq!(again, number);
+                assert!(rows.iter().all(|&byte| byte == 0x5A));
+            }
+            Outcome::Settled { rows: count, .. } => {
+                assert_eq!(number, 0);
+                assert!(rows[ROW_BYTES * count..].iter().all(|&byte| byte == 0x5A));
+            }
+        }
+    }
+    println!("refusals by number: {numbers:?}");
+    for number in [0, 1, 2, 4, 6, 8, 10] {
+        assert!(numbers[number] > 0, "{number}");
+    }
+}
+
+#[test]
+fn rows_do_not_depend_on_what_the_buffer_held() {
+    let mut random = Random::new(11);
+    for _ in 0..400 {
+        let input = any_case(&mut random).input();
+        let mut first = vec![0x00; input.rows_len + 40];
+        let mut second = vec![0xFF; input.rows_len + 40];
+        assert_eq!(
+            settle(&input.file, &input.correction, &mut first),
+            settle(&input.file, &input.correction, &mut second)
+        );
+        assert_eq!(first[..input.rows_len], second[..input.rows_len]);
+        assert!(first[input.rows_len..].iter().all(|&byte| byte == 0x00));
+        assert!(second[input.rows_len..].iter().all(|&byte| byte == 0xFF));
+    }
+}
+
+#[test]
+fn listings_say_what_the_rows_say() {
+    let mut random = Random::new(12);
+    for _ in 0..400 {
+        let generated = any_case(&mut random);
+        let input = generated.input();
+        let mut buffer = vec![0; input.rows_len];
+        let outcome = settle(&input.file, &[], &mut buffer);
+        let Outcome::Settled {
+            penalties,
+            make_ups,
+            ..
+        } = outcome
+        else {
+            panic!("{outcome:?}");
+        };
+        let mut expected = String::new();
+        for (place, event) in generated.case.events.iter().enumerate() {
+            let row = Row::read(&buffer, place);
+            // Without a correction c = r, so the make-up column is 0.
+            assert_eq!(row.make_up, 0);
+            let (day, kind, market, unit, component) = event.order();
+            let (flags, mitigated) = (row.flags, row.mitigated);
+            expected += &format!("{day} {kind} {unit} {market} {component} {flags} {mitigated}");
+            expected += &format!(" {} {} {}\n", row.multiplier, row.penalty, row.make_up);
+        }
+        expected += &format!("total {penalties} {make_ups}\n");
+        assert_eq!(listing(&input.file), expected);
+    }
+}

@@ -1,0 +1,213 @@
+//! Demand 3 on the second implementation: worse conduct never lowers a flag, a multiplier, a
+//! penalty or the total of penalties.
+
+use cases::case::{DAY_AHEAD, REAL_TIME, ROW_BYTES, section_place, u32_at};
+use cases::generator::case;
+use cases::worse::{Change, apply, is_worse, random_changes};
+use cases::{Case, Event, Past, Random, Row, Size, Unit, Wanted};
+use second::{Outcome, fuel_party_days, settle};
+
+/// The rows and the total of penalties, or None if the case is refused.
+fn settled(file: &[u8], correction: &[u8], held: u8) -> Option<(Vec<Row>, u64)> {
+    let mut buffer = vec![held; 200 * ROW_BYTES];
+    match settle(file, correction, &mut buffer) {
+        Outcome::Refused(_) => None,
+        Outcome::Settled {
+            rows, penalties, ..
+        } => Some((
+            (0..rows).map(|place| Row::read(&buffer, place)).collect(),
+            penalties,
+        )),
+    }
+}
+
+/// What demand 3 says of the rows before and after, and of the totals.
+fn keeps_demand_3(before: &(Vec<Row>, u64), after: &(Vec<Row>, u64)) -> bool {
+    before.0.len() == after.0.len()
+        && before.1 <= after.1
+        && before.0.iter().zip(&after.0).all(|(before, after)| {
+            before.flags & !after.flags == 0
+                && before.multiplier <= after.multiplier
+                && before.penalty <= after.penalty
+        })
+}
+
+#[test]
+fn random_lists_keep_demand_3() {
+    let mut random = Random::new(7);
+    let (mut lists, mut compared, mut refused, mut risen, mut changes) = (0, 0, 0, 0, 0);
+    for place in 0..3_000 {
+        let size = match place % 30 {
+            0 => Size::Full,
+            1..=9 => Size::Medium,
+            _ => Size::Small,
+        };
+        let wanted = Wanted {
+            // Without it most cases have a fuel party-day with E below 0, and are left out.
+            fuel_not_negative: random.chance(2, 3),
+            ..Wanted::of(size)
+        };
+        let input = case(&mut random, wanted).input();
+        let premise = fuel_party_days(&input.file, &input.correction)
+            .expect("generated cases are accepted")
+            .iter()
+            .all(|day| day.e >= 0);
+        if !premise {
+            continue;
+        }
+        let before = settled(&input.file, &input.correction, 0x00).expect("accepted");
+        for most in [1, 4, 40] {
+            let (list, file) = random_changes(&input.file, most, &mut random);
+            lists += 1;
+            let Some(after) = settled(&file, &input.correction, 0xFF) else {
+                refused += 1;
+                continue;
+            };
+            assert!(keeps_demand_3(&before, &after), "case {place}: {list:?}");
+            compared += 1;
+            changes += list.len();
+            risen += usize::from(before.1 < after.1);
+        }
+    }
+    println!(
+        "{lists} lists, {compared} compared with {changes} changes, {refused} refused after, \
+         {risen} with a higher total"
+    );
+    assert!(compared > 4_000 && refused > 100 && risen > 1_000);
+}
+
+#[test]
+fn an_empty_list_changes_nothing() {
+    let mut random = Random::new(8);
+    for _ in 0..50 {
+        let input = case(&mut random, Wanted::of(Size::Small)).input();
+        let (list, file) = random_changes(&input.file, 0, &mut random);
+        assert!(list.is_empty());
+        assert_eq!(file, input.file);
+    }
+}
+
+/// One unit of 5,000, with this event.
+fn with_event(event: Event) -> Case {
+    Case {
+        units: vec![Unit {
+            unit: 12,
+            group: 7,
+            capability: 5_000,
+            ..Unit::default()
+        }],
+        events: vec![event],
+        ..Case::default()
+    }
+}
+
+#[test]
+fn the_premise_is_needed() {
+    // E −10,000,000 and T 2,000,000: 1,000,000 cents with M 2, 500,000 with M 3.
+    let event = Event::fuel(8_000, DAY_AHEAD, 12, (0, -1_000_000, 2_000_000), &[]);
+    let file = with_event(event).to_bytes();
+    assert_eq!(fuel_party_days(&file, &[]).unwrap()[0].e, -10_000_000);
+    let change = Change::PastEntry {
+        place: 0,
+        entry: Past {
+            group: 7,
+            kind: 3,
+            market: REAL_TIME,
+            period: 0,
+            day: 7_999,
+        },
+    };
+    let before = settled(&file, &[], 0).unwrap();
+    let after = settled(&apply(&file, &change).unwrap(), &[], 0).unwrap();
+    assert_eq!((before.1, after.1), (1_000_000, 500_000));
+    assert!(!keeps_demand_3(&before, &after));
+}
+
+#[test]
+fn demand_3_leaves_out_mitigated_hours() {
+    // Hour 10 with R 8 is mitigated from 10 to 17; hour 5 failing too, from 5 to 12.
+    let mut case = with_event(
+        Event::bids(8_000, DAY_AHEAD, 12, 1, 0, &[(10, 9_000, 0, 0)]).with_minimum_run_hours(8),
+    );
+    case.references = vec![cases::Reference {
+        unit: 12,
+        component: 1,
+        value: 2_000,
+    }];
+    let file = case.to_bytes();
+    let change = Change::Hour {
+        event: 0,
+        hour: 5,
+        a: 9_000,
+    };
+    let before = settled(&file, &[], 0).unwrap();
+    let after = settled(&apply(&file, &change).unwrap(), &[], 0).unwrap();
+    assert!(keeps_demand_3(&before, &after));
+    assert_eq!(before.0[0].mitigated, 0b11_1111_1100_0000_0000);
+    assert_eq!(after.0[0].mitigated, 0b00_0001_1111_1110_0000);
+}
+
+#[test]
+fn higher_is_unsigned_or_signed_by_kind() {
+    let minus_one = u32::MAX;
+    for kind in [1, 2] {
+        assert!(is_worse(kind, 0, 5, minus_one));
+        assert!(!is_worse(kind, 0, minus_one, 5));
+        assert!(!is_worse(kind, 0, 5, 5));
+    }
+    assert!(!is_worse(3, 0, 5, 6));
+    assert!(is_worse(4, 0, minus_one, 5));
+    assert!(!is_worse(4, 0, 5, minus_one));
+    assert!(is_worse(4, 8, 5, 4));
+    assert!(!is_worse(4, 8, 5, 6));
+}
+
+#[test]
+fn a_past_entry_moves_the_events() {
+    let mut random = Random::new(9);
+    for _ in 0..100 {
+        let wanted = Wanted {
+            every_kind: true,
+            ..Wanted::of(Size::Small)
+        };
+        let generated = case(&mut random, wanted);
+        let file = generated.case.to_bytes();
+        let entry = Past {
+            group: 3,
+            kind: 1,
+            market: 0,
+            period: 9,
+            day: 77,
+        };
+        for place in 0..=generated.case.past.len() {
+            let mut expected = generated.case.clone();
+            expected.past.insert(place, entry);
+            let changed = apply(&file, &Change::PastEntry { place, entry }).unwrap();
+            assert_eq!(changed, expected.to_bytes());
+            assert_eq!(u32_at(&changed, 24), u32_at(&file, 24) + 12);
+            assert_eq!(section_place(&changed, 3).0, section_place(&file, 3).0 + 12);
+        }
+        let place = generated.case.past.len() + 1;
+        assert_eq!(apply(&file, &Change::PastEntry { place, entry }), None);
+    }
+}
+
+#[test]
+fn an_hour_change_is_made_against_what_stands_there() {
+    let file = with_event(Event::withheld(8_000, DAY_AHEAD, 12, &[(3, 500, 0)])).to_bytes();
+    let hour = |a| Change::Hour {
+        event: 0,
+        hour: 3,
+        a,
+    };
+    assert_eq!(apply(&file, &hour(500)), None);
+    assert_eq!(apply(&file, &hour(499)), None);
+    let once = apply(&file, &hour(501)).unwrap();
+    let expected = with_event(Event::withheld(8_000, DAY_AHEAD, 12, &[(3, 501, 0)]));
+    assert_eq!(once, expected.to_bytes());
+    assert_eq!(apply(&once, &hour(501)), None);
+    assert!(apply(&once, &hour(502)).is_some());
+    // A fuel event has no such change.
+    let fuel = with_event(Event::fuel(8_000, DAY_AHEAD, 12, (0, 0, 0), &[])).to_bytes();
+    assert_eq!(apply(&fuel, &hour(1)), None);
+}
