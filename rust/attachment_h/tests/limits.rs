@@ -358,8 +358,11 @@ fn fields_of_a_unit() {
     checks.done(240, "fields of a unit");
 }
 
-/// What a reference record breaks, as (record, offset, width, values); `number` is 7 or 8.
-fn reference_fields(number: u8) -> Vec<(usize, usize, usize, Vec<(i64, u8)>)> {
+/// A field of a reference record: record, offset and width, and values with their numbers.
+type ReferenceField = (usize, usize, usize, Vec<(i64, u8)>);
+
+/// What a reference record breaks; `number` is 7 or 8.
+fn reference_fields(number: u8) -> Vec<ReferenceField> {
     let mut fields = Vec::new();
     for record in 0..18 {
         let limit = if record % 9 < 3 {
