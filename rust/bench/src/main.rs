@@ -8,7 +8,8 @@ use std::env;
 use std::hint::black_box;
 use std::time::{Duration, Instant};
 
-use cases::{Input, Random, Size, Wanted};
+use cases::case::DAY_AHEAD;
+use cases::{Case, Event, Input, Random, Reference, Size, Unit, Wanted};
 
 const SEED: u64 = 1;
 const CASES: usize = 5;
@@ -22,36 +23,74 @@ fn main() {
         Some(rounds) => rounds.parse().expect("a number of rounds"),
     };
     let mut random = Random::new(SEED);
-    println!("full cases of seed {SEED}, best of {rounds}, in microseconds");
+    println!("seed {SEED}, best of {rounds}, in microseconds");
     println!(
-        "{:>5} {:>6} {:>8} {:>8} {:>8} {:>7}",
+        "{:>12} {:>6} {:>8} {:>8} {:>8} {:>7}",
         "case", "bytes", "copy", "check", "second", "ratio"
     );
     for place in 0..CASES {
         let input = cases::generator::case(&mut random, Wanted::of(Size::Full)).input();
-        assert_eq!(check(&input), Ok(()), "a full case is accepted");
-        let mut copy = vec![0; input.file.len()];
-        let copied = best(rounds, || {
-            for _ in 0..COPIES {
-                black_box(&mut copy).copy_from_slice(black_box(&input.file));
-            }
-        }) / COPIES;
-        let checked = best(rounds, || {
-            black_box(check(black_box(&input))).expect("a full case is accepted");
-        });
-        let second = best(rounds, || {
-            let number = second::refusal(black_box(&input.file), &input.correction, input.rows_len);
-            assert_eq!(black_box(number), 0);
-        });
-        println!(
-            "{place:>5} {:>6} {:>8.2} {:>8.2} {:>8.2} {:>7.1}",
-            input.file.len(),
-            micros(copied),
-            micros(checked),
-            micros(second),
-            checked.as_secs_f64() / copied.as_secs_f64(),
-        );
+        measure(&format!("generated {place}"), rounds, &input);
     }
+    measure("last unit", rounds, &bids_of_the_last_unit());
+}
+
+/// 200 bids of the last of 64 units, with 128 references and 256 corrections: the longest way to every
+/// unit and reference.
+fn bids_of_the_last_unit() -> Input {
+    let references = |count: u16| -> Vec<Reference> {
+        let reference = |unit, component| Reference {
+            unit,
+            component,
+            value: 1_000,
+        };
+        let last = (0..9).map(|component| reference(63, component));
+        (0..count - 9)
+            .map(|place| reference(place / 9, (place % 9) as u8))
+            .chain(last)
+            .collect()
+    };
+    let case = Case {
+        units: (0..64)
+            .map(|unit| Unit {
+                unit,
+                capability: 5_000,
+                ..Unit::default()
+            })
+            .collect(),
+        references: references(128),
+        past: Vec::new(),
+        events: (0..200)
+            .map(|place| Event::bids(place / 9, DAY_AHEAD, 63, (place % 9) as u8, 1_000, &[]))
+            .collect(),
+    };
+    Input::new(&case, &references(256))
+}
+
+/// Prints one line: the times of one accepted case.
+fn measure(name: &str, rounds: usize, input: &Input) {
+    assert_eq!(check(input), Ok(()), "the case is accepted");
+    let mut copy = vec![0; input.file.len()];
+    let copied = best(rounds, || {
+        for _ in 0..COPIES {
+            black_box(&mut copy).copy_from_slice(black_box(&input.file));
+        }
+    }) / COPIES;
+    let checked = best(rounds, || {
+        black_box(check(black_box(input))).expect("the case is accepted");
+    });
+    let second = best(rounds, || {
+        let number = second::refusal(black_box(&input.file), &input.correction, input.rows_len);
+        assert_eq!(black_box(number), 0);
+    });
+    println!(
+        "{name:>12} {:>6} {:>8.2} {:>8.2} {:>8.2} {:>7.1}",
+        input.file.len(),
+        micros(copied),
+        micros(checked),
+        micros(second),
+        checked.as_secs_f64() / copied.as_secs_f64(),
+    );
 }
 
 fn check(input: &Input) -> Result<(), attachment_h::Refused> {
