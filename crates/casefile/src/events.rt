@@ -6,8 +6,8 @@ ghost use lib.ListN.{length};
 ghost use Rattle.casefile.specs.Layout.{eventWidth, hours};
 ghost use Rattle.casefile.specs.Decode.{unitsIn, referencesIn, eventsIn, amountsIn};
 ghost use Rattle.casefile.specs.Lookup.{InOrder};
-ghost use Rattle.casefile.specs.Refusal.{quantitiesFine, fieldsFine, eventsFine, rises, eventKey, orderFine, eventListed, eventsListed, amountFine, amountsFine, readsCorrect, referenceFound, referencesFound, unless};
-ghost use Rattle.casefile.specs.Read.{eventOf, readEvent};
+ghost use Rattle.casefile.specs.Refusal.{quantitiesFine, fieldsFine, eventFine, eventsFine, rises, eventKey, orderFine, eventListed, eventsListed, amountFine, amountsFine, readsCorrect, referenceFound, referencesFound, unless};
+ghost use Rattle.casefile.specs.Read.{eventOf, numberOf, readEvent};
 use crate::cells::amounts_within;
 use crate::cells::cells_fine;
 use crate::layout;
@@ -101,7 +101,7 @@ fn fields_fine(
 // Event i, where its fields and its cells are in their ranges.
 pub fn read_event(events: &[u8], i: usize) -> EventRead
     requires { ⌜ i < length (now events) / eventWidth ⌝ }
-    ensures { λ r. ⌜ r ≡ readEvent (now (events .entry)) i ⌝ }
+    ensures { λ r. ⌜ (r ≡ readEvent (now (events .entry)) i) × (numberOf r ≡ unless (eventFine (eventsIn (now (events .entry))) (amountsIn (now (events .entry))) i) 10 0) ⌝ }
 {
     let e = event_at(events, i);
     let fields = fields_fine(
