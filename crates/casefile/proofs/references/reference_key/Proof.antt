@@ -13,4 +13,10 @@ reference-key-spec =
     (λ c κs. search needs)
     (λ c κs. search needs)
     (λ c κs. search needs)
-    (λ c. rw (c .key-of .ensures, c .before .load-u8 .ensures, c .before .before .load-u16 .ensures, c .before .before .before .record-at .ensures .0)))
+    (λ c.
+    rw (
+      c .key-of .ensures,
+      c .before .load-u8 .ensures,
+      c .before .before .load-u16 .ensures,
+      c .before .before .before .record-at .ensures .0,
+    )))
