@@ -5,6 +5,7 @@ use mathlib.Core.Bool.{Bool, true, false, Bool·beq}
 use mathlib.Core.List.{List, [], _∷_, _++_}
 use mathlib.Core.Path.{_≡_, refl, sym, _∙_, ap, subst}
 use native.Mathlib.Omega.{arith}
+use Rattle.binary.proofs.Implies.{true→T}
 use Rattle.binary.proofs.BoundedLaws.{all-at}
 use Rattle.default_bids.proofs.SpanLaws.{mitigated-span, span-same}
 use lib.Dec.{lit<, lit≤}
@@ -24,10 +25,10 @@ use Rattle.sanctions.specs.Penalties.{flaggedWithImpact, isInstance, countsHere
 use Rattle.default_bids.specs.Mitigation.{hit, mitigated, mitigatedMask, correctOf, bidInForce, makeUpTenths, makeUpOf, totalMakeUp}
 use Rattle.settlement.specs.Row.{joinTo, bidBytes, rowOf, rowsOf}
 use Rattle.settlement.specs.Settled.{accepted, answerOf, rowsAfter, settled}
-use Rattle.casefile.specs.Case.{Case}
+use Rattle.settlement.specs.Settled.{Settled}
 use Rattle.casefile.specs.Examples.{headed, fileOf, unitBytes, referenceBytes, entryBytes, units}
 use Rattle.settlement.specs.Examples.{minus, at, cellBytes, eventOf, empty, rowBytes, noBids}
-use Rattle.worse_conduct.specs.Changes.{Change, cell, entry, TakesAll, cellPlace, cellWritten, entryPlace, entryPut, longerPast, laterEvents, headerMoved, apply, applyAll, moreWithheld, lowerBid, worseBid, worseAmount}
+use Rattle.worse_conduct.specs.Changes.{Change, cell, entry, TakesAll, cellPlace, cellWritten, entryPlace, entryPut, longerPast, laterEvents, headerMoved, apply, applyAll, moreWithheld, lowerBid, movedBid, worseBid, worseAmount}
 use Rattle.worse_conduct.specs.Promise.{EnergyNotNegative, NoSmaller, NeverCheaper}
 use Rattle.worse_conduct.proofs.WorseConduct.{worse-conduct}
 
@@ -65,7 +66,7 @@ after =
     caseOf (entryBytes 1 3 0 44 7900 ++ entryBytes 1 1 0 43 0 ++ entryBytes 1 1 0 44 0 ++ entryBytes 1 1 0 42 0) 502 2000 2501 10
 
 changed : applyAll changes before ≡ after
-unfolding caseOf before changes after headed fileOf unitBytes referenceBytes entryBytes units cellBytes eventOf joinTo valueAt bytesOf offsetOf lengthOf sectionOf recordAt unitsIn referencesIn violationIn pastIn eventsIn amountsIn decode cellPlace cellWritten entryPlace entryPut longerPast laterEvents headerMoved apply applyAll moreWithheld lowerBid worseBid worseAmount
+unfolding caseOf before changes after headed fileOf unitBytes referenceBytes entryBytes units cellBytes eventOf joinTo valueAt bytesOf offsetOf lengthOf sectionOf recordAt unitsIn referencesIn violationIn pastIn eventsIn amountsIn decode cellPlace cellWritten entryPlace entryPut longerPast laterEvents headerMoved apply applyAll moreWithheld lowerBid movedBid worseBid worseAmount
 changed = refl
 
 accepted-before : refusal before [] 640 ≡ 0
@@ -77,7 +78,7 @@ unfolding caseOf after headed fileOf unitBytes referenceBytes entryBytes units c
 accepted-after = refl
 
 taken : TakesAll before changes
-unfolding caseOf before changes headed fileOf unitBytes referenceBytes entryBytes units cellBytes eventOf joinTo positivePart negativePart valueAt bytesOf offsetOf lengthOf sectionOf recordAt unitsIn referencesIn violationIn pastIn eventsIn amountsIn decode cellPlace cellWritten entryPlace entryPut longerPast laterEvents headerMoved apply applyAll moreWithheld lowerBid worseBid worseAmount
+unfolding caseOf before changes headed fileOf unitBytes referenceBytes entryBytes units cellBytes eventOf joinTo positivePart negativePart valueAt bytesOf offsetOf lengthOf sectionOf recordAt unitsIn referencesIn violationIn pastIn eventsIn amountsIn decode cellPlace cellWritten entryPlace entryPut longerPast laterEvents headerMoved apply applyAll moreWithheld lowerBid movedBid worseBid worseAmount
 taken = (record { event = lit< tt; hour = lit< tt; word = lit< tt; worse = refl }, (record { place = lit≤ tt; size = refl }, (record { event = lit< tt; hour = lit< tt; word = lit< tt; worse = refl }, (record { event = lit< tt; hour = lit< tt; word = lit< tt; worse = refl }, (record { place = lit≤ tt; size = refl }, (record { event = lit< tt; hour = lit< tt; word = lit< tt; worse = refl }, (record { event = lit< tt; hour = lit< tt; word = lit< tt; worse = refl }, (record { place = lit≤ tt; size = refl }, (record { event = lit< tt; hour = lit< tt; word = lit< tt; worse = refl }, (record { event = lit< tt; hour = lit< tt; word = lit< tt; worse = refl }, (record { event = lit< tt; hour = lit< tt; word = lit< tt; worse = refl }, tt)))))))))))
 
 energy : EnergyNotNegative (decode before)
@@ -96,26 +97,41 @@ worked =
     (worse-conduct before [] (replicate 640 0) (replicate 700 255) changes accepted-before (ap (λ (f : List ℕ). refusal f [] 700) changed ∙ accepted-after) taken energy)
 
 -- and what it costs: in every row something rose
-pub cost : (settled before [] (replicate 640 0)
-    ≡ record {
+unfoldable pub costBefore : Settled
+costBefore =
+    record {
       answer = record { number = 0; rowCount = 5; penalties = 0; makeUps = 0 };
       rows = rowBytes 0 0 0 0 0 0 0 noBids
           ++ rowBytes 0 0 0 0 0 0 0 noBids
           ++ rowBytes 1 0 0 0 2 0 0 noBids
           ++ rowBytes 0 0 0 0 0 0 0 (at 0 (minus 100) noBids)
           ++ rowBytes 16777214 0 0 0 0 0 0 (at 0 50 noBids);
-    })
-    × (settled after [] (replicate 640 0)
-    ≡ record {
+    }
+
+unfoldable pub costAfter : Settled
+costAfter =
+    record {
       answer = record { number = 0; rowCount = 5; penalties = 1153101; makeUps = 0 };
       rows = rowBytes 1 0 401600 0 4 4 3 noBids
           ++ rowBytes 1 0 1502 0 3 0 0 noBids
           ++ rowBytes 1 0 749999 0 3 0 0 noBids
           ++ rowBytes 1 0 0 0 0 0 0 (at 0 2501 noBids)
           ++ rowBytes 16777215 0 0 0 0 0 0 (at 0 10 noBids);
-    })
-unfolding caseOf before after headed fileOf unitBytes referenceBytes entryBytes units cellBytes eventOf rowBytes sumTo countTo anyTo allTo firstTo lastTo maskTo bitOf valueAt bytesOf positivePart negativePart within thresholdOf increase lowerTest constrainedTest percentTest timeTest maximumTest bidTest unitLimit groupLimit withheldTest dispatchTest cents periodCounts ladder withheldPenalty dispatchPenalty fuelDayCounts fuelCharge fuelPenalty between spanned spanMask atMost lesser greater defaultBid restores correctedBid correctedInForce excess hourMakeUp makeUp offsetOf lengthOf sectionOf recordAt unitsIn referencesIn violationIn pastIn eventsIn amountsIn decode isUnit isListed placeOf unitOf groupOf isReference hasReference levelOf correctReferences correctIn referenceOf lengthFine versionFine sectionsFine pairsFine sizeFine sizesFine rises unitFieldsFine unitSpareFine unitFine unitsFine referenceFieldsFine referenceKey referenceFine referencesFine correctionFine violationFine entryFine pastFine maskFine quantitiesFine fieldsFine bidFine cellFine hourFine eventFine eventsFine eventKey orderFine eventListed eventsListed withinCapability amountFine amountsFine readsCorrect referenceFound referencesFound rowsFine headerRefusal recordsRefusal eventsRefusal refusal tight together sumTogether timeBid timeTotal bidFlag groupCapability groupSum withheldFlag dispatchFlag fuelFlag flagged flagMask flaggedWithImpact isInstance countsHere countsPast instances N3 N2 withheldMultiplier withheldAmount withheldPenaltyOf dispatchMultiplier dispatchRevenue dispatchPenaltyOf energyPart gain loss tccChange lowestUnit countsFuel pastFuel fuelStands fuelMultiplierAfter fuelPenaltyUnder priorFuel fuelMultiplier fuelPenaltyOf multiplier penalty totalPenalty hit mitigated mitigatedMask correctOf bidInForce makeUpTenths makeUpOf totalMakeUp joinTo bidBytes rowOf rowsOf accepted answerOf rowsAfter settled
+    }
+
+pub cost : (settled before [] (replicate 640 0) ≡ costBefore) × (settled after [] (replicate 640 0) ≡ costAfter)
+unfolding costBefore costAfter caseOf before after headed fileOf unitBytes referenceBytes entryBytes units cellBytes eventOf rowBytes sumTo countTo anyTo allTo firstTo lastTo maskTo bitOf valueAt bytesOf positivePart negativePart within thresholdOf increase lowerTest constrainedTest percentTest timeTest maximumTest bidTest unitLimit groupLimit withheldTest dispatchTest cents periodCounts ladder withheldPenalty dispatchPenalty fuelDayCounts fuelCharge fuelPenalty between spanned spanMask atMost lesser greater defaultBid restores correctedBid correctedInForce excess hourMakeUp makeUp offsetOf lengthOf sectionOf recordAt unitsIn referencesIn violationIn pastIn eventsIn amountsIn decode isUnit isListed placeOf unitOf groupOf isReference hasReference levelOf correctReferences correctIn referenceOf lengthFine versionFine sectionsFine pairsFine sizeFine sizesFine rises unitFieldsFine unitSpareFine unitFine unitsFine referenceFieldsFine referenceKey referenceFine referencesFine correctionFine violationFine entryFine pastFine maskFine quantitiesFine fieldsFine bidFine cellFine hourFine eventFine eventsFine eventKey orderFine eventListed eventsListed withinCapability amountFine amountsFine readsCorrect referenceFound referencesFound rowsFine headerRefusal recordsRefusal eventsRefusal refusal tight together sumTogether timeBid timeTotal bidFlag groupCapability groupSum withheldFlag dispatchFlag fuelFlag flagged flagMask flaggedWithImpact isInstance countsHere countsPast instances N3 N2 withheldMultiplier withheldAmount withheldPenaltyOf dispatchMultiplier dispatchRevenue dispatchPenaltyOf energyPart gain loss tccChange lowestUnit countsFuel pastFuel fuelStands fuelMultiplierAfter fuelPenaltyUnder priorFuel fuelMultiplier fuelPenaltyOf multiplier penalty totalPenalty hit mitigated mitigatedMask correctOf bidInForce makeUpTenths makeUpOf totalMakeUp joinTo bidBytes rowOf rowsOf accepted answerOf rowsAfter settled
 cost = (refl, refl)
+
+-- each part of the promise rules the way back out
+pub no-way-back : NoSmaller costAfter costBefore → ⊥ × ⊥ × ⊥ × ⊥
+unfolding costBefore costAfter rowBytes bitOf valueAt bytesOf joinTo
+no-way-back claim =
+    let flag : false ≡ true = claim .flags 0 0 (lit< tt) refl in
+    let multiplier : 4 ≤ 0 = claim .multipliers 0 (lit< tt) in
+    let penalty : 401600 ≤ 0 = claim .penalties 0 (lit< tt) in
+    let total : 1153101 ≤ 0 = claim .total in
+    (absurd (true→T false flag), omega (arith, multiplier), omega (arith, penalty), omega (arith, total))
 
 -- ---- E below 0
 
@@ -125,7 +141,7 @@ lossMaking = fileOf (unitBytes 12 1 0 5000) [] [] (eventOf 8000 3 0 12 0 0 0 (mi
 
 -- a past entry turns M from 2 to 3, and the penalty falls from 1,000,000 to 500,000
 pub premise-needed : NeverCheaper (λ c. Unit {0}) → ⊥
-unfolding lossMaking headed fileOf unitBytes entryBytes eventOf cellPlace cellWritten entryPlace entryPut longerPast laterEvents headerMoved apply applyAll moreWithheld lowerBid worseBid worseAmount sumTo countTo anyTo allTo firstTo lastTo maskTo bitOf valueAt bytesOf positivePart negativePart within thresholdOf increase lowerTest constrainedTest percentTest timeTest maximumTest bidTest unitLimit groupLimit withheldTest dispatchTest cents periodCounts ladder withheldPenalty dispatchPenalty fuelDayCounts fuelCharge fuelPenalty between spanned spanMask atMost lesser greater defaultBid restores correctedBid correctedInForce excess hourMakeUp makeUp offsetOf lengthOf sectionOf recordAt unitsIn referencesIn violationIn pastIn eventsIn amountsIn decode isUnit isListed placeOf unitOf groupOf isReference hasReference levelOf correctReferences correctIn referenceOf lengthFine versionFine sectionsFine pairsFine sizeFine sizesFine rises unitFieldsFine unitSpareFine unitFine unitsFine referenceFieldsFine referenceKey referenceFine referencesFine correctionFine violationFine entryFine pastFine maskFine quantitiesFine fieldsFine bidFine cellFine hourFine eventFine eventsFine eventKey orderFine eventListed eventsListed withinCapability amountFine amountsFine readsCorrect referenceFound referencesFound rowsFine headerRefusal recordsRefusal eventsRefusal refusal tight together sumTogether timeBid timeTotal bidFlag groupCapability groupSum withheldFlag dispatchFlag fuelFlag flagged flagMask flaggedWithImpact isInstance countsHere countsPast instances N3 N2 withheldMultiplier withheldAmount withheldPenaltyOf dispatchMultiplier dispatchRevenue dispatchPenaltyOf energyPart gain loss tccChange lowestUnit countsFuel pastFuel fuelStands fuelMultiplierAfter fuelPenaltyUnder priorFuel fuelMultiplier fuelPenaltyOf multiplier penalty totalPenalty hit mitigated mitigatedMask correctOf bidInForce makeUpTenths makeUpOf totalMakeUp joinTo bidBytes rowOf rowsOf accepted answerOf rowsAfter settled
+unfolding lossMaking headed fileOf unitBytes entryBytes eventOf cellPlace cellWritten entryPlace entryPut longerPast laterEvents headerMoved apply applyAll moreWithheld lowerBid movedBid worseBid worseAmount sumTo countTo anyTo allTo firstTo lastTo maskTo bitOf valueAt bytesOf positivePart negativePart within thresholdOf increase lowerTest constrainedTest percentTest timeTest maximumTest bidTest unitLimit groupLimit withheldTest dispatchTest cents periodCounts ladder withheldPenalty dispatchPenalty fuelDayCounts fuelCharge fuelPenalty between spanned spanMask atMost lesser greater defaultBid restores correctedBid correctedInForce excess hourMakeUp makeUp offsetOf lengthOf sectionOf recordAt unitsIn referencesIn violationIn pastIn eventsIn amountsIn decode isUnit isListed placeOf unitOf groupOf isReference hasReference levelOf correctReferences correctIn referenceOf lengthFine versionFine sectionsFine pairsFine sizeFine sizesFine rises unitFieldsFine unitSpareFine unitFine unitsFine referenceFieldsFine referenceKey referenceFine referencesFine correctionFine violationFine entryFine pastFine maskFine quantitiesFine fieldsFine bidFine cellFine hourFine eventFine eventsFine eventKey orderFine eventListed eventsListed withinCapability amountFine amountsFine readsCorrect referenceFound referencesFound rowsFine headerRefusal recordsRefusal eventsRefusal refusal tight together sumTogether timeBid timeTotal bidFlag groupCapability groupSum withheldFlag dispatchFlag fuelFlag flagged flagMask flaggedWithImpact isInstance countsHere countsPast instances N3 N2 withheldMultiplier withheldAmount withheldPenaltyOf dispatchMultiplier dispatchRevenue dispatchPenaltyOf energyPart gain loss tccChange lowestUnit countsFuel pastFuel fuelStands fuelMultiplierAfter fuelPenaltyUnder priorFuel fuelMultiplier fuelPenaltyOf multiplier penalty totalPenalty hit mitigated mitigatedMask correctOf bidInForce makeUpTenths makeUpOf totalMakeUp joinTo bidBytes rowOf rowsOf accepted answerOf rowsAfter settled
 premise-needed claim =
     let fallen : 1000000 ≤ 500000 =
     claim lossMaking [] (replicate 128 0) (replicate 128 0) (entry 0 (entryBytes 1 3 0 44 7900) ∷ []) refl refl
@@ -158,5 +174,5 @@ spanned-by hour5 hits e =
 pub hours-cleared : (mitigatedMask (decode (runningUnit 4000)) 0 ≡ maskTo 24 (between 10 17))
     × (applyAll (cell 0 5 15001 ∷ []) (runningUnit 4000) ≡ runningUnit 15001)
     × (mitigatedMask (decode (runningUnit 15001)) 0 ≡ maskTo 24 (between 5 12))
-unfolding runningUnit headed fileOf unitBytes referenceBytes cellBytes eventOf cellPlace cellWritten entryPlace entryPut longerPast laterEvents headerMoved apply applyAll moreWithheld lowerBid worseBid worseAmount sumTo countTo anyTo allTo firstTo lastTo maskTo bitOf valueAt bytesOf positivePart negativePart within thresholdOf increase lowerTest constrainedTest percentTest timeTest maximumTest bidTest unitLimit groupLimit withheldTest dispatchTest cents periodCounts ladder withheldPenalty dispatchPenalty fuelDayCounts fuelCharge fuelPenalty between spanned spanMask atMost lesser greater defaultBid restores correctedBid correctedInForce excess hourMakeUp makeUp offsetOf lengthOf sectionOf recordAt unitsIn referencesIn violationIn pastIn eventsIn amountsIn decode isUnit isListed placeOf unitOf groupOf isReference hasReference levelOf correctReferences correctIn referenceOf lengthFine versionFine sectionsFine pairsFine sizeFine sizesFine rises unitFieldsFine unitSpareFine unitFine unitsFine referenceFieldsFine referenceKey referenceFine referencesFine correctionFine violationFine entryFine pastFine maskFine quantitiesFine fieldsFine bidFine cellFine hourFine eventFine eventsFine eventKey orderFine eventListed eventsListed withinCapability amountFine amountsFine readsCorrect referenceFound referencesFound rowsFine headerRefusal recordsRefusal eventsRefusal refusal tight together sumTogether timeBid timeTotal bidFlag groupCapability groupSum withheldFlag dispatchFlag fuelFlag flagged flagMask flaggedWithImpact isInstance countsHere countsPast instances N3 N2 withheldMultiplier withheldAmount withheldPenaltyOf dispatchMultiplier dispatchRevenue dispatchPenaltyOf energyPart gain loss tccChange lowestUnit countsFuel pastFuel fuelStands fuelMultiplierAfter fuelPenaltyUnder priorFuel fuelMultiplier fuelPenaltyOf multiplier penalty totalPenalty hit mitigated mitigatedMask correctOf bidInForce makeUpTenths makeUpOf totalMakeUp joinTo bidBytes rowOf rowsOf accepted answerOf rowsAfter settled
+unfolding runningUnit headed fileOf unitBytes referenceBytes cellBytes eventOf cellPlace cellWritten entryPlace entryPut longerPast laterEvents headerMoved apply applyAll moreWithheld lowerBid movedBid worseBid worseAmount sumTo countTo anyTo allTo firstTo lastTo maskTo bitOf valueAt bytesOf positivePart negativePart within thresholdOf increase lowerTest constrainedTest percentTest timeTest maximumTest bidTest unitLimit groupLimit withheldTest dispatchTest cents periodCounts ladder withheldPenalty dispatchPenalty fuelDayCounts fuelCharge fuelPenalty between spanned spanMask atMost lesser greater defaultBid restores correctedBid correctedInForce excess hourMakeUp makeUp offsetOf lengthOf sectionOf recordAt unitsIn referencesIn violationIn pastIn eventsIn amountsIn decode isUnit isListed placeOf unitOf groupOf isReference hasReference levelOf correctReferences correctIn referenceOf lengthFine versionFine sectionsFine pairsFine sizeFine sizesFine rises unitFieldsFine unitSpareFine unitFine unitsFine referenceFieldsFine referenceKey referenceFine referencesFine correctionFine violationFine entryFine pastFine maskFine quantitiesFine fieldsFine bidFine cellFine hourFine eventFine eventsFine eventKey orderFine eventListed eventsListed withinCapability amountFine amountsFine readsCorrect referenceFound referencesFound rowsFine headerRefusal recordsRefusal eventsRefusal refusal tight together sumTogether timeBid timeTotal bidFlag groupCapability groupSum withheldFlag dispatchFlag fuelFlag flagged flagMask flaggedWithImpact isInstance countsHere countsPast instances N3 N2 withheldMultiplier withheldAmount withheldPenaltyOf dispatchMultiplier dispatchRevenue dispatchPenaltyOf energyPart gain loss tccChange lowestUnit countsFuel pastFuel fuelStands fuelMultiplierAfter fuelPenaltyUnder priorFuel fuelMultiplier fuelPenaltyOf multiplier penalty totalPenalty hit mitigated mitigatedMask correctOf bidInForce makeUpTenths makeUpOf totalMakeUp joinTo bidBytes rowOf rowsOf accepted answerOf rowsAfter settled
 hours-cleared = (spanned-by 4000 1024 refl ∙ refl, refl, spanned-by 15001 1056 refl ∙ refl)

@@ -95,7 +95,7 @@ rows-worse f f′ k rows rows′ r r′ w =
           let p′ = rows-penalty c′ q′ rows′ i (later i l) (omega arith) in
           let z = w .penalties i l in
           omega arith;
-      total = w .total;
+      total = omega (arith, w .total);
     }
   where
     c : Case
