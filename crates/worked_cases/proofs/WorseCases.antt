@@ -5,7 +5,6 @@ use mathlib.Core.Bool.{Bool, true, false, Bool·beq}
 use mathlib.Core.List.{List, [], _∷_, _++_}
 use mathlib.Core.Path.{_≡_, refl, sym, _∙_, ap, subst}
 use native.Mathlib.Omega.{arith}
-use Rattle.binary.proofs.Implies.{true→T}
 use Rattle.binary.proofs.BoundedLaws.{all-at}
 use Rattle.default_bids.proofs.SpanLaws.{mitigated-span, span-same}
 use lib.Dec.{lit<, lit≤}
@@ -27,10 +26,10 @@ use Rattle.settlement.specs.Row.{joinTo, bidBytes, rowOf, rowsOf}
 use Rattle.settlement.specs.Settled.{accepted, answerOf, rowsAfter, settled}
 use Rattle.settlement.specs.Settled.{Settled}
 use Rattle.casefile.specs.Examples.{headed, fileOf, unitBytes, referenceBytes, entryBytes, units}
-use Rattle.settlement.specs.Examples.{minus, at, cellBytes, eventOf, empty, rowBytes, noBids}
+use Rattle.worked_cases.specs.Cases.{minus, at, cellBytes, eventOf, empty, rowBytes, noBids}
 use Rattle.worse_conduct.specs.Changes.{Change, cell, entry, TakesAll, cellPlace, cellWritten, entryPlace, entryPut, longerPast, laterEvents, headerMoved, apply, applyAll, moreWithheld, lowerBid, movedBid, worseBid, worseAmount}
 use Rattle.worse_conduct.specs.Promise.{EnergyNotNegative, NoSmaller, NeverCheaper}
 use Rattle.worse_conduct.proofs.WorseConduct.{worse-conduct}
 
 -- withheld MW, undelivered MW, fuel of E 4,999,990, an energy bid and a maximum parameter, all of unit 12 and hour 0
 unfoldable pub caseOf : (past : List ℕ) (withheld undelivered bid maximum : ℕ) → List ℕ
@@ -122,16 +121,6 @@ costAfter =
 pub cost : (settled before [] (replicate 640 0) ≡ costBefore) × (settled after [] (replicate 640 0) ≡ costAfter)
 unfolding costBefore costAfter caseOf before after headed fileOf unitBytes referenceBytes entryBytes units cellBytes eventOf rowBytes sumTo countTo anyTo allTo firstTo lastTo maskTo bitOf valueAt bytesOf positivePart negativePart within thresholdOf increase lowerTest constrainedTest percentTest timeTest maximumTest bidTest unitLimit groupLimit withheldTest dispatchTest cents periodCounts ladder withheldPenalty dispatchPenalty fuelDayCounts fuelCharge fuelPenalty between spanned spanMask atMost lesser greater defaultBid restores correctedBid correctedInForce excess hourMakeUp makeUp offsetOf lengthOf sectionOf recordAt unitsIn referencesIn violationIn pastIn eventsIn amountsIn decode isUnit isListed placeOf unitOf groupOf isReference hasReference levelOf correctReferences correctIn referenceOf lengthFine versionFine sectionsFine pairsFine sizeFine sizesFine rises unitFieldsFine unitSpareFine unitFine unitsFine referenceFieldsFine referenceKey referenceFine referencesFine correctionFine violationFine entryFine pastFine maskFine quantitiesFine fieldsFine bidFine cellFine hourFine eventFine eventsFine eventKey orderFine eventListed eventsListed withinCapability amountFine amountsFine readsCorrect referenceFound referencesFound rowsFine headerRefusal recordsRefusal eventsRefusal refusal tight together sumTogether timeBid timeTotal bidFlag groupCapability groupSum withheldFlag dispatchFlag fuelFlag flagged flagMask flaggedWithImpact isInstance countsHere countsPast instances N3 N2 withheldMultiplier withheldAmount withheldPenaltyOf dispatchMultiplier dispatchRevenue dispatchPenaltyOf energyPart gain loss tccChange lowestUnit countsFuel pastFuel fuelStands fuelMultiplierAfter fuelPenaltyUnder priorFuel fuelMultiplier fuelPenaltyOf multiplier penalty totalPenalty hit mitigated mitigatedMask correctOf bidInForce makeUpTenths makeUpOf totalMakeUp joinTo bidBytes rowOf rowsOf accepted answerOf rowsAfter settled
 cost = (refl, refl)
-
--- each part of the promise rules the way back out
-pub no-way-back : NoSmaller costAfter costBefore → ⊥ × ⊥ × ⊥ × ⊥
-unfolding costBefore costAfter rowBytes bitOf valueAt bytesOf joinTo
-no-way-back claim =
-    let flag : false ≡ true = claim .flags 0 0 (lit< tt) refl in
-    let multiplier : 4 ≤ 0 = claim .multipliers 0 (lit< tt) in
-    let penalty : 401600 ≤ 0 = claim .penalties 0 (lit< tt) in
-    let total : 1153101 ≤ 0 = claim .total in
-    (absurd (true→T false flag), omega (arith, multiplier), omega (arith, penalty), omega (arith, total))
 
 -- ---- E below 0
 
