@@ -1,11 +1,9 @@
 -- Settlements by computation, from the bytes of the file to the bytes of the rows: the listing's case, a rows buffer too short, a
 -- case of sanctions and two cases of bids.
-use Prim.Native.Nat.{ℕ, _+_, _-_, _^_}
-use mathlib.Core.Bool.{cond}
-use mathlib.Core.List.{List, [], _∷_, _++_}
+use Prim.Native.Nat.{_+_, _-_}
+use mathlib.Core.List.{[], _∷_, _++_}
 use mathlib.Core.Path.{_≡_, refl}
-use lib.Dec.{eqb}
-use lib.ListN.{length, replicate}
+use lib.ListN.{replicate}
 use Rattle.binary.specs.Bounded.{sumTo, countTo, anyTo, allTo, firstTo, lastTo, maskTo, bitOf}
 use Rattle.binary.specs.Bytes.{valueAt, bytesOf}
 use Rattle.binary.specs.Word.{positivePart, negativePart, within}
@@ -21,8 +19,8 @@ use Rattle.conduct.specs.Flags.{tight, together, sumTogether, timeBid, timeTota
 use Rattle.sanctions.specs.Penalties.{flaggedWithImpact, isInstance, countsHere, countsPast, instances, N3, N2, withheldMultiplier, withheldAmount, withheldPenaltyOf, dispatchMultiplier, dispatchRevenue, dispatchPenaltyOf, energyPart, gain, loss, tccChange, lowestUnit, countsFuel, pastFuel, fuelStands, fuelMultiplierAfter, fuelPenaltyUnder, priorFuel, fuelMultiplier, fuelPenaltyOf, multiplier, penalty, totalPenalty}
 use Rattle.default_bids.specs.Mitigation.{hit, mitigated, mitigatedMask, correctOf, bidInForce, makeUpTenths, makeUpOf, totalMakeUp}
 use Rattle.settlement.specs.Row.{joinTo, bidBytes, rowOf, rowsOf}
-use Rattle.settlement.specs.Settled.{Answer, refused, accepted, answerOf, rowsAfter, Settled, settled}
-use Rattle.worked_cases.specs.Cases.{minus, at, tightUnit, cellBytes, eventOf, empty, rowBytes, noBids, areaUnits, pastInstances, sanctionedEvents, sanctioned, sanctionedRows, bidReferences, bidEvents, bids, bidRows, minimumGeneration}
+use Rattle.settlement.specs.Settled.{refused, accepted, answerOf, rowsAfter, settled}
+use Rattle.worked_cases.specs.Cases.{at, tightUnit, cellBytes, eventOf, rowBytes, noBids, areaUnits, pastInstances, sanctionedEvents, sanctioned, sanctionedRows, bidReferences, bidEvents, bids, bidRows, minimumGeneration}
 
 -- the byte beyond the last row stays
 pub record Examples : Type 0 where

@@ -1,6 +1,6 @@
 -- Demand 3 at work: a case with events of every kind, eleven changes of it, and what they cost; the case that shows why E must
 -- not be negative; and the case that shows why mitigated hours are left out.
-use Prim.Native.Nat.{ℕ, zero, suc, _+_, _*_, _≤_, _<_}
+use Prim.Native.Nat.{ℕ, zero, suc, _+_, _≤_, _<_}
 use mathlib.Core.Bool.{Bool, true, false, Bool·beq}
 use mathlib.Core.List.{List, [], _∷_, _++_}
 use mathlib.Core.Path.{_≡_, refl, sym, _∙_, ap, subst}
@@ -8,7 +8,7 @@ use native.Mathlib.Omega.{arith}
 use Rattle.binary.proofs.BoundedLaws.{all-at}
 use Rattle.default_bids.proofs.SpanLaws.{mitigated-span, span-same}
 use lib.Dec.{lit<, lit≤}
-use lib.ListN.{length, replicate}
+use lib.ListN.{replicate}
 use Rattle.binary.specs.Bounded.{sumTo, countTo, anyTo, allTo, firstTo, lastTo, maskTo, bitOf}
 use Rattle.binary.specs.Bytes.{valueAt, bytesOf}
 use Rattle.binary.specs.Word.{positivePart, negativePart, within}

@@ -1,13 +1,13 @@
 -- A worse a, written into one cell of the file: the pairs follow on as before, and the case is worse.
 use Prim.Native.Nat.{ℕ, _+_, _-_, _*_, _/_, _^_, _≤_, _<_}
-use mathlib.Core.Bool.{Bool, true, false, cond, _&&_, _||_}
+use mathlib.Core.Bool.{Bool, true, false, cond}
 use mathlib.Core.List.{List}
 use mathlib.Core.Logic.{_≢_, _⊎_, inl, inr}
 use mathlib.Core.Path.{_≡_, refl, sym, _∙_, ap, ap₂, subst, subst₂}
 use native.Mathlib.Nat.{le-refl}
 use native.Mathlib.Decide.{ℕ-discrete}
 use native.Mathlib.Omega.{arith}
-use lib.Dec.{T, ltb, leb, eqb, ltb→lt, leb→le, eqb→eq}
+use lib.Dec.{T, ltb, ltb→lt, leb→le, eqb→eq}
 use borrow.Author.Tests.{eq-eqb, ne-eqb}
 use lib.ListN.{length, take, drop}
 use Rattle.binary.specs.Bytes.{byteAt, valueAt, u32At}
@@ -15,7 +15,6 @@ use Rattle.binary.specs.Word.{positivePart, negativePart}
 use Rattle.binary.proofs.Implies.{and-left, and-right, or-cases, true→T}
 use Rattle.binary.proofs.ByteLaws.{value-one, stretch-length}
 use Rattle.casefile.specs.Layout.{eventWidth, hours}
-use Rattle.casefile.specs.Case.{Events}
 use Rattle.casefile.specs.Decode.{offsetOf, lengthOf, sectionOf, FollowOn, recordAt, unitsIn, referencesIn, pastIn, cellAt, eventsIn, amountsIn, decode}
 use Rattle.worse_conduct.specs.Changes.{cellPlace, cellWritten, moreWithheld, lowerBid, movedBid, worseBid, worseAmount, WorseCell}
 use Rattle.worse_conduct.proofs.StoredWord.{Stored, sets-stored, value-apart, stretch-apart, stretch-stored}
