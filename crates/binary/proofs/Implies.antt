@@ -119,7 +119,3 @@ and-right false b t = absurd t
 pub or-cases : (a b : Bool) → T (a || b) → T a ⊎ T b
 or-cases true b t = inl tt
 or-cases false b t = inr t
-
-pub cond-cases : (b p q : Bool) → T (cond b p q) → (T b × T p) ⊎ (T (not b) × T q)
-cond-cases true p q t = inl (tt, t)
-cond-cases false p q t = inr (tt, t)

@@ -1,12 +1,10 @@
 -- What stands in a row of the settled rows buffer: its flag mask, penalty and multiplier.
 use Prim.Native.Nat.{ℕ, zero, suc, _+_, _*_, _^_, _≤_, _<_}
-use mathlib.Core.Bool.{Bool, true, cond}
-use mathlib.Core.List.{List, [], _∷_, _++_, append-assoc}
+use mathlib.Core.List.{List, _++_, append-assoc}
 use mathlib.Core.Logic.{_⊎_, inl, inr}
 use mathlib.Core.Path.{_≡_, refl, sym, _∙_, ap, ap₂}
-use native.Mathlib.Nat.{add-zero, add-assoc, lt-of-lt-of-le, not-suc-le-zero, eq-or-lt-of-le, le-of-suc-le-suc}
+use native.Mathlib.Nat.{add-zero, add-assoc, not-suc-le-zero, eq-or-lt-of-le, le-of-suc-le-suc}
 use native.Mathlib.Omega.{arith}
-use lib.Dec.{eqb}
 use lib.ListN.{length, drop, length-append, List·getD-append}
 use borrow.Author.Tests.{eq-eqb}
 use Rattle.binary.specs.Bytes.{byteAt, valueAt, u32At, u64At, bytesOf}
@@ -17,10 +15,10 @@ use Rattle.casefile.specs.Decode.{decode}
 use Rattle.casefile.specs.Lookup.{correctIn}
 use Rattle.casefile.specs.Refusal.{refusal}
 use Rattle.conduct.specs.Flags.{flagMask}
-use Rattle.sanctions.specs.Penalties.{N3, N2, multiplier, penalty}
+use Rattle.sanctions.specs.Penalties.{multiplier, penalty}
 use Rattle.default_bids.specs.Mitigation.{mitigatedMask, bidInForce, makeUpOf}
 use Rattle.settlement.specs.Row.{joinTo, bidBytes, rowOf, rowsOf}
-use Rattle.settlement.specs.Settled.{Answer, accepted, refused, answerOf, rowsAfter, Settled, settled}
+use Rattle.settlement.specs.Settled.{accepted, answerOf, rowsAfter, settled}
 
 pub join-length : (m n : ℕ) (f : ℕ → List ℕ) → ((i : ℕ) → length (f i) ≡ m) → length (joinTo n f) ≡ m * n
 unfolding joinTo
