@@ -1,1 +1,2 @@
 pub mod PenaltyBounds
+pub mod TableLaws

@@ -1,1 +1,6 @@
 // Multipliers and penalties of every event of a case.
+pub mod dispatch;
+pub mod fuel;
+pub mod instances;
+pub mod sanction;
+pub mod withheld;
