@@ -79,7 +79,7 @@ module _ (part : ℕ → ℕ) (q : Part part) (events leaders : List ℕ) (mask 
   pub led-amounts : (j : ℕ) → j < length events / eventWidth → getD leaders j 0 ≡ i → SmallAmounts (recordAt eventWidth events j)
   led-amounts j l e =
       let three : eventsIn events .kind j ≡ 3 = sym (s .kinds j l) ∙ ap (λ (x : ℕ). eventsIn events .kind x) e ∙ k in
-      s .amounts j l (omega arith)
+      s .fuel j l three
 
   pub energy-led : (j : ℕ) → j < length events / eventWidth → ledBy leaders i (energyAt part events mask) j ≤ 3000000000000000
   unfolding ledBy

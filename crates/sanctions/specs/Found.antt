@@ -39,11 +39,16 @@ pub record Found (c : Case) (n : ℕ) (groups leaders masks : List ℕ) : Type 0
 abbrev pub SmallAmounts : List ℕ → Type 0
 SmallAmounts event = (h : ℕ) → h < hours → u32At event (cellAt h) ≤ 50000
 
--- the amounts of kinds 1 to 3 are small; a leader is of its party's kind, and not after it
+-- the amounts of kinds 1 and 3 are small; a leader is of its party's kind, and not after it
 pub record Sound (events leaders : List ℕ) : Type 0 where
-  pub amounts : (j : ℕ) → j < length events / eventWidth → eventsIn events .kind j ≤ 3 → SmallAmounts (recordAt eventWidth events j)
+  pub withheld : (j : ℕ) → j < length events / eventWidth → eventsIn events .kind j ≡ 1 → SmallAmounts (recordAt eventWidth events j)
+  pub fuel : (j : ℕ) → j < length events / eventWidth → eventsIn events .kind j ≡ 3 → SmallAmounts (recordAt eventWidth events j)
   pub kinds : (j : ℕ) → j < length events / eventWidth → eventsIn events .kind (getD leaders j 0) ≡ eventsIn events .kind j
   pub before : (j : ℕ) → j < length events / eventWidth → getD leaders j 0 ≤ j
+
+-- no penalty on the first n rows is above 10 ^ 15 cents
+abbrev pub SmallPenalties : ℕ → List ℕ → Type 0
+SmallPenalties n l = (i : ℕ) → i < n → getD l i 0 ≤ 1000000000000000
 
 -- the row of event i
 unfoldable pub sanctionOf : Case → ℕ → Sanction

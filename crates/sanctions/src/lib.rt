@@ -2,5 +2,6 @@
 pub mod dispatch;
 pub mod fuel;
 pub mod instances;
+pub mod penalties;
 pub mod sanction;
 pub mod withheld;
