@@ -1,5 +1,5 @@
 -- What the checks of a case give to its penalties: the ranges of its figures.
-use Prim.Native.Nat.{ℕ, _/_, _≤_, _<_}
+use Prim.Native.Nat.{ℕ, _/_, _%_, _≤_, _<_}
 use mathlib.Core.Bool.{Bool, true, false, not, _&&_, _||_}
 use mathlib.Core.List.{List}
 use mathlib.Core.Path.{_≡_, sym, _∙_}
@@ -12,13 +12,15 @@ use Rattle.binary.specs.Bounded.{allTo}
 use Rattle.binary.specs.Word.{within, positivePart}
 use Rattle.binary.proofs.Implies.{and-l, and-r}
 use Rattle.binary.proofs.BoundedLaws.{all-at}
+use Rattle.binary.proofs.ByteLaws.{stretch-length}
 use Rattle.binary.proofs.WordLaws.{within-positive}
 use Rattle.casefile.specs.Layout.{unitWidth, eventWidth, hours}
 use Rattle.casefile.specs.Case.{Units, Events}
-use Rattle.casefile.specs.Decode.{unitsIn, eventsIn, amountsIn, caseIn}
+use Rattle.casefile.specs.Decode.{offsetOf, lengthOf, sectionOf, HasSection, unitsIn, eventsIn, amountsIn, caseIn}
 use Rattle.casefile.specs.Lookup.{placeOf}
-use Rattle.casefile.specs.Refusal.{unitFieldsFine, unitFine, unitsFine, ofKind, quantitiesFine, fieldsFine, cellFine, hourFine, eventFine, eventsFine, eventsListed, withinCapability, amountFine, amountsFine}
+use Rattle.casefile.specs.Refusal.{sizeFine, sizesFine, unitFieldsFine, unitFine, unitsFine, ofKind, quantitiesFine, fieldsFine, cellFine, hourFine, eventFine, eventsFine, eventsListed, withinCapability, amountFine, amountsFine}
 use Rattle.casefile.proofs.EventLaws.{events-place}
+use Rattle.casefile.proofs.RefusalLaws.{HeaderFine, RecordsFine, EventsFine, has-section}
 use Rattle.sanctions.specs.Found.{Accepted}
 use Rattle.sanctions.proofs.PenaltyBounds.{Ranges}
 
@@ -115,3 +117,38 @@ module _ (u p e : List ℕ) (acc : Accepted u p e) where
         fuel = λ i h l m k. cell-fuel _ _ _ _ _ (cell i h l m) k;
         money = λ i l k. money-fuel _ _ _ _ (quantities i l) k;
       }
+
+-- ---- from the refusal
+
+sizes : (f : List ℕ) → sizesFine f ≡ true → (sizeFine (lengthOf f 2) 12 256 ≡ true) × (sizeFine (lengthOf f 3) 312 200 ≡ true)
+unfolding sizesFine
+sizes f t = (search (and-l, and-r), search (and-l, and-r))
+
+section-few : (f : List ℕ) (k width most : ℕ) → HasSection f k → sizeFine (lengthOf f k) width most ≡ true
+    → length (sectionOf f k) / width ≤ most
+unfolding sizeFine sectionOf
+section-few f k width most s t =
+    let b : leb (lengthOf f k / width) most ≡ true = and-r (eqb (lengthOf f k % width) 0) (leb (lengthOf f k / width) most) t in
+    rw (stretch-length f (offsetOf f k) (lengthOf f k) (s .inside)) (leb-true _ _ b)
+
+-- a case that breaks no limit is accepted
+pub accepted : (f references correction correct : List ℕ) (rows : ℕ) → HeaderFine f
+    → RecordsFine (sectionOf f 0) references correction (sectionOf f 2)
+    → EventsFine (sectionOf f 0) references correct (sectionOf f 3) rows
+    → Accepted (sectionOf f 0) (sectionOf f 2) (sectionOf f 3)
+accepted f references correction correct rows h r v =
+    record {
+      few-past = few 2 12 256 (omega arith) (sized .0);
+      few-events = few 3 312 200 (omega arith) (sized .1);
+      units-fine = r .units-fine;
+      events-fine = v .events-fine;
+      order-fine = v .order-fine;
+      events-listed = v .events-listed;
+      amounts-fine = v .amounts-fine;
+    }
+  where
+    sized : (sizeFine (lengthOf f 2) 12 256 ≡ true) × (sizeFine (lengthOf f 3) 312 200 ≡ true)
+    sized = sizes f (h .sizes)
+
+    few : (k width most : ℕ) → k < 4 → sizeFine (lengthOf f k) width most ≡ true → length (sectionOf f k) / width ≤ most
+    few k width most l t = section-few f k width most (has-section f h k l) t

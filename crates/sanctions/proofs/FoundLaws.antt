@@ -197,7 +197,7 @@ module _ (u r p e groups leaders masks : List ℕ) (acc : Accepted u p e) (found
 
   -- ---- every kind
 
-  pub row-is : (n3 penalties : List ℕ) (i : ℕ) → i < n → Holds i n3 (N3 c) → Holds i penalties (penalty c)
+  row-is : (n3 penalties : List ℕ) (i : ℕ) → i < n → Holds i n3 (N3 c) → Holds i penalties (penalty c)
       → rowAt p e groups leaders masks n3 penalties i ≡ sanctionOf c i
   unfolding rowAt noSanction sanctionOf multiplier penalty caseIn
   row-is n3 penalties i l held-n3 held-penalties =
@@ -210,6 +210,19 @@ module _ (u r p e groups leaders masks : List ℕ) (acc : Accepted u p e) (found
       let x : eqb (eventsIn e .kind i) 3 ≡ true = and-l (eqb (eventsIn e .kind i) 3) (eqb (getD leaders i 0) i) t in
       let y : eqb (getD leaders i 0) i ≡ true = and-r (eqb (eventsIn e .kind i) 3) (eqb (getD leaders i 0) i) t in
       fuel-is penalties i l held-penalties (eqb-true _ 3 x) (sym (found .leader-held i l) ∙ eqb-true _ i y)))
+
+  -- the row that the code finds, where the rows before it stand in the tables
+  pub row-found : (s : Sanction) (n3 penalties : List ℕ) (i : ℕ) → s ≡ rowAt p e groups leaders masks n3 penalties i → i < n
+      → Holds i n3 (N3 c) → Holds i penalties (penalty c)
+      → (s .multiplier ≡ multiplier c i) × (s .n3 ≡ N3 c i) × (s .n2 ≡ N2 c i) × (s .penalty ≡ penalty c i)
+  unfolding sanctionOf
+  row-found s n3 penalties i found-row l held-n3 held-penalties =
+      let q : s ≡ sanctionOf c i = found-row ∙ row-is n3 penalties i l held-n3 held-penalties in (
+        ap (λ (x : Sanction). x .multiplier) q,
+        ap (λ (x : Sanction). x .n3) q,
+        ap (λ (x : Sanction). x .n2) q,
+        ap (λ (x : Sanction). x .penalty) q,
+      )
 
   pub sound : Sound e leaders
   unfolding caseIn eventsIn amountsIn

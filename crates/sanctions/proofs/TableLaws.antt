@@ -17,7 +17,8 @@ use Rattle.casefile.specs.Layout.{eventWidth, hours}
 use Rattle.casefile.specs.Decode.{cellAt, recordAt, eventsIn}
 use Rattle.sanctions.specs.Penalties.{fuelMultiplierAfter}
 use Rattle.sanctions.specs.Found.{SmallAmounts, Sound}
-use Rattle.sanctions.specs.Tables.{hourEnergy, energyIn, ledBy, energyAt, tccAt, partyDay}
+use Rattle.sanctions.specs.Tables.{hourEnergy, energyIn, ledBy, energyAt, tccAt, partyShare, partyDay}
+use Rattle.sanctions.specs.declared.fuel.PartyDay.{PartyDay}
 
 -- one turn of a loop that counts
 pub record CountTurn (j x y : ℕ) (p : ℕ → Bool) : Type 0 where
@@ -73,6 +74,16 @@ pub sum-turn : (j x y b : ℕ) (f : ℕ → ℕ) → ((k : ℕ) → k < j + 1 �
 sum-turn j x y b f small e g =
     let n : x + y ≡ sumTo (j + 1) f = ap₂ _+_ e g ∙ sym (sum-more j f) in
     (n, rw n (sum-bound (j + 1) f b small))
+
+-- what event j adds to each sum
+pub shares : (d : PartyDay) (events leaders : List ℕ) (mask i j : ℕ) → d ≡ partyShare events leaders mask i j
+    → (d .gain ≡ ledBy leaders i (energyAt (positivePart 32) events mask) j)
+    × (d .loss ≡ ledBy leaders i (energyAt (negativePart 32) events mask) j)
+    × (d .rise ≡ ledBy leaders i (tccAt (positivePart 32) events) j)
+    × (d .fall ≡ ledBy leaders i (tccAt (negativePart 32) events) j)
+unfolding partyShare
+shares d events leaders mask i j e =
+    (ap (λ (x : PartyDay). x .gain) e, ap (λ (x : PartyDay). x .loss) e, ap (λ (x : PartyDay). x .rise) e, ap (λ (x : PartyDay). x .fall) e)
 
 module _ (part : ℕ → ℕ) (q : Part part) (events leaders : List ℕ) (mask i : ℕ) (k : eventsIn events .kind i ≡ 3) (s : Sound events leaders) where
   -- an event that event i leads is of kind 3, and its amounts are small

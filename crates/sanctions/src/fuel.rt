@@ -168,10 +168,10 @@ fn is_prior_entry(past: &[u8], day: u32, group: u16, j: usize) -> bool
     ensures { λ r. ⌜ r ≡ fuelEntryCounts (now (past .entry)) day group j ⌝ }
 {
     let entry = record_at(past, j, layout::PAST_WIDTH);
-    let own = load_u16(entry, 0);
+    let its_group = load_u16(entry, 0);
     let kind = load_u8(entry, 2);
     let near = fuel_day_counts(day, load_u32(entry, 8));
-    (kind == 3) & (own == group) & near
+    (kind == 3) & (its_group == group) & near
 }
 
 fn prior_past(past: &[u8], day: u32, group: u16) -> bool

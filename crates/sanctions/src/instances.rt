@@ -39,8 +39,8 @@ fn is_instance(events: &[u8], groups: &[u16], n3: &[u16], group: u16, market: u8
     ensures { λ r. ⌜ r ≡ instanceOf (now (events .entry)) (now (groups .entry)) (now (n3 .entry)) group market j ⌝ }
 {
     let event = record_at(events, j, layout::EVENT_WIDTH);
-    let own = load_u8(event, 1);
-    (0 < n3[j]) & (groups[j] == group) & (own == market)
+    let its_market = load_u8(event, 1);
+    (0 < n3[j]) & (groups[j] == group) & (its_market == market)
 }
 
 fn period_of(events: &[u8], j: usize) -> u16
@@ -69,9 +69,9 @@ fn instances_here(
     let mut j = 0;
     while j < i {
         let same = is_instance(events, groups, n3, group, market, j);
-        let own = period_of(events, j);
-        three += one_where(same & period_counts(2, period, own));
-        two += one_where(same & period_counts(1, period, own));
+        let its_period = period_of(events, j);
+        three += one_where(same & period_counts(2, period, its_period));
+        two += one_where(same & period_counts(1, period, its_period));
         j += 1;
     }
     Instances { n3: three, n2: two }
@@ -83,10 +83,10 @@ fn is_entry(past: &[u8], group: u16, market: u8, j: usize) -> bool
     ensures { λ r. ⌜ r ≡ entryOf (now (past .entry)) group market j ⌝ }
 {
     let entry = record_at(past, j, layout::PAST_WIDTH);
-    let own = load_u16(entry, 0);
+    let its_group = load_u16(entry, 0);
     let kind = load_u8(entry, 2);
-    let place = load_u8(entry, 3);
-    (kind == 1) & (own == group) & (place == market)
+    let its_market = load_u8(entry, 3);
+    (kind == 1) & (its_group == group) & (its_market == market)
 }
 
 fn entry_period(past: &[u8], j: usize) -> u16
@@ -108,9 +108,9 @@ fn instances_past(past: &[u8], group: u16, market: u8, period: u16) -> Instances
     let mut j = 0;
     while j < n {
         let same = is_entry(past, group, market, j);
-        let own = entry_period(past, j);
-        three += one_where(same & period_counts(2, period, own));
-        two += one_where(same & period_counts(1, period, own));
+        let its_period = entry_period(past, j);
+        three += one_where(same & period_counts(2, period, its_period));
+        two += one_where(same & period_counts(1, period, its_period));
         j += 1;
     }
     Instances { n3: three, n2: two }

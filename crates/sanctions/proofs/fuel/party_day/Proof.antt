@@ -1,14 +1,13 @@
 use Prim.Native.Nat.{ℕ, _+_, _-_, _*_, _/_, _≤_, _<_}
 use mathlib.Core.List.{List}
-use mathlib.Core.Path.{_≡_, ap, _∙_}
+use mathlib.Core.Path.{_≡_}
 use borrow.Author.Needs.{needs}
 use native.Mathlib.Omega.{arith}
 use lib.ListN.{length}
 use Rattle.binary.specs.Bounded.{sumTo}
 use Rattle.binary.specs.Word.{positivePart, negativePart}
-use Rattle.sanctions.specs.Tables.{ledBy, energyAt, tccAt, partyShare, partyDay}
-use Rattle.sanctions.proofs.TableLaws.{positive-part, negative-part, sum-turn, energy-led, tcc-led, none-before}
-use Rattle.sanctions.specs.declared.fuel.PartyDay.{PartyDay}
+use Rattle.sanctions.specs.Tables.{ledBy, energyAt, tccAt, partyDay}
+use Rattle.sanctions.proofs.TableLaws.{positive-part, negative-part, sum-turn, shares, energy-led, tcc-led, none-before}
 use Rattle.sanctions.proofs.fuel.party_day.Statement.{statement}
 use Rattle.sanctions.proofs.fuel.party_day.Tie as tie
 
@@ -43,32 +42,28 @@ module _ (c : tie.After-party-share Inv-loop μ-loop) where
   below k b = let t = c .before .loop-test .taken in omega arith
 
   gained : Turn (c .before .before .loop .gain) (c .party-share .result .gain) 3000000000000000 (ledBy l i (energyAt (positivePart 32) e m))
-  unfolding partyShare
   gained =
       let s = c .before .before .before .before .before in
       sum-turn _ _ _ _ _ (λ k b. energy-led (positivePart 32) positive-part e l m i (s .pre .3) (s .pre .4) k (below k b))
-      (c .before .before .loop .inv .1) (ap (λ (d : PartyDay). d .gain) (c .party-share .ensures))
+      (c .before .before .loop .inv .1) (shares _ e l m i _ (c .party-share .ensures) .0)
 
   lost : Turn (c .before .before .loop .loss) (c .party-share .result .loss) 3000000000000000 (ledBy l i (energyAt (negativePart 32) e m))
-  unfolding partyShare
   lost =
       let s = c .before .before .before .before .before in
       sum-turn _ _ _ _ _ (λ k b. energy-led (negativePart 32) negative-part e l m i (s .pre .3) (s .pre .4) k (below k b))
-      (c .before .before .loop .inv .2) (ap (λ (d : PartyDay). d .loss) (c .party-share .ensures))
+      (c .before .before .loop .inv .2) (shares _ e l m i _ (c .party-share .ensures) .1)
 
   risen : Turn (c .before .before .loop .rise) (c .party-share .result .rise) 2147483648 (ledBy l i (tccAt (positivePart 32) e))
-  unfolding partyShare
   risen =
       let s = c .before .before .before .before .before in
       sum-turn _ _ _ _ _ (λ k b. tcc-led (positivePart 32) positive-part e l m i (s .pre .3) (s .pre .4) k (below k b))
-      (c .before .before .loop .inv .3) (ap (λ (d : PartyDay). d .rise) (c .party-share .ensures))
+      (c .before .before .loop .inv .3) (shares _ e l m i _ (c .party-share .ensures) .2)
 
   fallen : Turn (c .before .before .loop .fall) (c .party-share .result .fall) 2147483648 (ledBy l i (tccAt (negativePart 32) e))
-  unfolding partyShare
   fallen =
       let s = c .before .before .before .before .before in
       sum-turn _ _ _ _ _ (λ k b. tcc-led (negativePart 32) negative-part e l m i (s .pre .3) (s .pre .4) k (below k b))
-      (c .before .before .loop .inv .4) (ap (λ (d : PartyDay). d .fall) (c .party-share .ensures))
+      (c .before .before .loop .inv .4) (shares _ e l m i _ (c .party-share .ensures) .3)
 
 pub party-day-spec : {M : Type 1} → statement M
 unfolding partyDay

@@ -1,13 +1,11 @@
 use Prim.Native.Nat.{ℕ, _+_, _-_, _/_, _≤_}
-use mathlib.Core.Path.{_≡_, ap, _∙_}
+use mathlib.Core.Path.{_≡_}
 use borrow.Author.Needs.{needs}
 use native.Mathlib.Omega.{arith}
 use lib.ListN.{length}
 use Rattle.casefile.specs.Decode.{caseIn}
 use Rattle.sanctions.specs.Penalties.{multiplier, N3, N2, penalty}
-use Rattle.sanctions.specs.Found.{sanctionOf}
-use Rattle.sanctions.specs.declared.sanction.Sanction.{Sanction}
-use Rattle.sanctions.proofs.FoundLaws.{row-is, sound, Filled, filled-none, filled-more, filled-all, filled-holds}
+use Rattle.sanctions.proofs.FoundLaws.{row-found, sound, Filled, filled-none, filled-more, filled-all, filled-holds}
 use Rattle.sanctions.proofs.penalties.fill_rows.Statement.{statement}
 use Rattle.sanctions.proofs.penalties.fill_rows.Tie as tie
 
@@ -25,17 +23,18 @@ abbrev μ-loop : tie.MeasureT-loop
 -- the row that a turn finds
 row : (c : tie.After-sanction-at Inv-loop μ-loop)
     → let a = c .before .before .before .before .before .before .before .before .before .before .before .before .before .before .before .before .args in
-    c .sanction-at .result ≡ sanctionOf (caseIn (a .units .now) (a .references .now) (a .past .now) (a .events .now)) (c .before .before .before .before .loop .i)
+    let d = caseIn (a .units .now) (a .references .now) (a .past .now) (a .events .now) in
+    let i = c .before .before .before .before .loop .i in
+    let s = c .sanction-at .result in
+    (s .multiplier ≡ multiplier d i) × (s .n3 ≡ N3 d i) × (s .n2 ≡ N2 d i) × (s .penalty ≡ penalty d i)
 row c =
     let s = c .before .before .before .before .before .before .before .before .before .before .before .before .before .before .before .before in
     let l = c .before .before .before .before .loop in
-    c .sanction-at .ensures
-    ∙ row-is (s .args .units .now) (s .args .references .now) (s .args .past .now) (s .args .events .now) (s .args .groups .now)
-    (s .args .leaders .now) (s .args .masks .now) (s .pre .0) (s .pre .1 .0) (l .n3) (l .penalties) (l .i) (c .before .before .before .loop-test .taken)
-    (filled-holds _ _ _ _ (l .inv .2)) (filled-holds _ _ _ _ (l .inv .4))
+    row-found (s .args .units .now) (s .args .references .now) (s .args .past .now) (s .args .events .now) (s .args .groups .now)
+    (s .args .leaders .now) (s .args .masks .now) (s .pre .0) (s .pre .1 .0) _ (l .n3) (l .penalties) (l .i) (c .sanction-at .ensures)
+    (c .before .before .before .loop-test .taken) (filled-holds _ _ _ _ (l .inv .2)) (filled-holds _ _ _ _ (l .inv .4))
 
 pub fill-rows-spec : {M : Type 1} → statement M
-unfolding sanctionOf
 fill-rows-spec =
     tie.close
     (tie.spec
@@ -69,10 +68,10 @@ fill-rows-spec =
     let l = c .before .before .before .before .loop in
     let t = c .before .before .before .loop-test .taken in (
       omega arith,
-      filled-more _ _ _ _ _ (l .inv .1) (omega arith) (ap (λ (r : Sanction). r .multiplier) (row c)),
-      filled-more _ _ _ _ _ (l .inv .2) (omega arith) (ap (λ (r : Sanction). r .n3) (row c)),
-      filled-more _ _ _ _ _ (l .inv .3) (omega arith) (ap (λ (r : Sanction). r .n2) (row c)),
-      filled-more _ _ _ _ _ (l .inv .4) (omega arith) (ap (λ (r : Sanction). r .penalty) (row c)),
+      filled-more _ _ _ _ _ (l .inv .1) (omega arith) (row c .0),
+      filled-more _ _ _ _ _ (l .inv .2) (omega arith) (row c .1),
+      filled-more _ _ _ _ _ (l .inv .3) (omega arith) (row c .2),
+      filled-more _ _ _ _ _ (l .inv .4) (omega arith) (row c .3),
     ))
     (λ c. c .before .loop .inv .1 .same-length)
     (λ c. c .before .loop .inv .2 .same-length)
