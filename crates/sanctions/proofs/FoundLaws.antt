@@ -14,7 +14,7 @@ use Rattle.binary.specs.Lists.{listTo, Holds}
 use Rattle.binary.specs.Word.{positivePart, negativePart}
 use Rattle.binary.proofs.Implies.{and-l, and-r}
 use Rattle.binary.proofs.BoundedLaws.{sum-same, count-same, any-same}
-use Rattle.binary.proofs.MaskLaws.{bit-mask}
+use Rattle.binary.proofs.MaskLaws.{bit-mask, mask-any}
 use Rattle.binary.proofs.ListLaws.{fill-none, fill-more, holds-fill}
 use Rattle.tariff.specs.Sanctions.{cents, ladder, withheldPenalty, dispatchPenalty, fuelPenalty}
 use Rattle.casefile.specs.Layout.{eventWidth, pastWidth, hours}
@@ -31,17 +31,6 @@ use Rattle.sanctions.proofs.PenaltyBounds.{penalty-bound}
 use Rattle.sanctions.proofs.PartyLaws.{together-same, leader-le, leader-together, leads, lowest-leader}
 use Rattle.sanctions.proofs.PriorLaws.{hasPrior, prior-rows}
 use Rattle.sanctions.proofs.AcceptedLaws.{bare-component, ranges}
-
--- some hour is flagged where the mask is not 0
-pub mask-any : (n : ℕ) (p : ℕ → Bool) → anyTo n p ≡ ltb 0 (maskTo n p)
-unfolding anyTo maskTo
-mask-any zero p = refl
-mask-any (suc n) p = ap (λ (b : Bool). b || p n) (mask-any n p) ∙ go (maskTo n p) (p n)
-  where
-    go : (k : ℕ) (b : Bool) → (ltb 0 k || b) ≡ ltb 0 (k + cond b (2 ^ n) 0)
-    go zero true = let w : 0 < 2 ^ n = pow-pos n in sym (lt-ltb 0 (0 + 2 ^ n) (omega arith))
-    go zero false = refl
-    go (suc k) b = rw (lt-ltb 0 (suc k) (omega arith)) (sym (lt-ltb 0 (suc k + cond b (2 ^ n) 0) (omega arith)))
 
 -- a row is an instance where its N3 is above 0
 pub instance-n3 : (c : Case) (j : ℕ) → ltb 0 (N3 c j) ≡ isInstance c j

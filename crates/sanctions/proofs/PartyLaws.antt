@@ -9,8 +9,8 @@ use lib.Dec.{ltb, eqb}
 use borrow.Author.Tests.{eq-eqb, ne-eqb, eqb-true, eqb-false, lt-ltb, ltb-true, ltb-false}
 use Rattle.binary.specs.Bounded.{anyTo}
 use Rattle.binary.specs.Lists.{firstFrom}
-use Rattle.binary.proofs.Implies.{and-l, and-r}
-use Rattle.binary.proofs.BoundedLaws.{all-at, any-true}
+use Rattle.binary.proofs.Implies.{same-test, and-l, and-r}
+use Rattle.binary.proofs.BoundedLaws.{all-at, any-true, any-false}
 use Rattle.binary.proofs.ListLaws.{from-le, from-holds, from-passed}
 use Rattle.casefile.specs.Case.{Events, Case}
 use Rattle.casefile.specs.Lookup.{groupOf}
@@ -19,20 +19,10 @@ use Rattle.conduct.specs.Flags.{together}
 use Rattle.conduct.specs.Parties.{leaderOf}
 use Rattle.sanctions.specs.Penalties.{lowestUnit}
 
--- two tests that imply each other are equal
-pub same-test : (a b : Bool) → (a ≡ true → b ≡ true) → (b ≡ true → a ≡ true) → a ≡ b
-same-test true b f g = sym (f refl)
-same-test false true f g = g refl
-same-test false false f g = refl
-
+-- a test does not both hold and fail
 clash : {A : Type 0} (b : Bool) → b ≡ true → b ≡ false → A
 clash true t f = absurd (let z : _≡_ {A = ℕ} 0 1 = cc in omega arith)
 clash false t f = absurd (let z : _≡_ {A = ℕ} 0 1 = cc in omega arith)
-
-pub no-any : (n : ℕ) (p : ℕ → Bool) → ((i : ℕ) → i < n → p i ≡ false) → anyTo n p ≡ false
-unfolding anyTo
-no-any zero p h = refl
-no-any (suc n) p h = rw (no-any n p (λ i l. h i (omega arith)), h n (omega arith))
 
 -- ---- together
 
@@ -166,7 +156,7 @@ module _ (c : Case) (o : orderFine (c .events) ≡ true) (bare : (i : ℕ) → i
                   (eq-or-lt-of-le (ltb-false j i b))
 
       go : (b : Bool) → eqb (leaderOf c i) i ≡ b → not (anyTo (c .events .count) lower) ≡ b
-      go true e = rw (no-any (c .events .count) lower (none (eqb-true _ i e)))
+      go true e = rw (any-false (c .events .count) lower (none (eqb-true _ i e)))
       go false e =
           let x = eqb-false _ i e in
           let l : leaderOf c i < i = omega (arith, leader-le c i) in
