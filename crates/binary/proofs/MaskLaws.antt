@@ -1,14 +1,15 @@
--- Masks: a mask is below 2 ^ n, bit i of the mask of p is p i, and one turn of the loop that builds a mask.
+-- Masks: a mask is below 2 ^ n, bit i of the mask of p is p i, a mask is 0 where no i passes, and one turn of the loop that builds a mask.
 use Prim.Native.Nat.{ℕ, zero, suc, _+_, _-_, _*_, _/_, _%_, _^_, _≤_, _<_, zero-le}
-use mathlib.Core.Bool.{Bool, true, false, cond}
+use mathlib.Core.Bool.{Bool, true, false, cond, _||_}
 use mathlib.Core.Path.{_≡_, refl, sym, ap, ap₂, subst, _∙_}
 use mathlib.Core.Logic.{⊎-elim}
 use native.Mathlib.Numerals.{add-one}
 use native.Mathlib.Omega.{arith}
 use native.Mathlib.Nat.{add-zero, mul-comm, div-eq-of-lt, add-div-right, add-mul-div-left, add-mul-mod-self-left, pow-suc, le-refl, lt-of-lt-of-le, eq-or-lt-of-le, le-of-suc-le-suc, not-suc-le-zero}
-use lib.Dec.{eqb, lit<}
+use lib.Dec.{ltb, eqb, lit<}
 use lib.Pow.{pow-pos, pow-add, pow-mono}
-use Rattle.binary.specs.Bounded.{maskTo, bitOf}
+use borrow.Author.Tests.{lt-ltb}
+use Rattle.binary.specs.Bounded.{anyTo, maskTo, bitOf}
 
 pub mask-none : (p : ℕ → Bool) → 0 ≡ maskTo 0 p
 unfolding maskTo
@@ -62,6 +63,17 @@ bit-mask (suc n) i p l =
     (λ q. subst (λ (k : ℕ). eqb ((maskTo n p + cond (p n) (2 ^ n) 0) / 2 ^ k % 2) 1 ≡ p k) (sym q) (top (maskTo n p) n (p n) (mask-lt n p)))
     (λ k. kept (maskTo n p) i n (p n) k ∙ bit-mask n i p k)
     (eq-or-lt-of-le (le-of-suc-le-suc l))
+
+-- some bit is set where the mask is above 0
+pub mask-any : (n : ℕ) (p : ℕ → Bool) → anyTo n p ≡ ltb 0 (maskTo n p)
+unfolding anyTo maskTo
+mask-any zero p = refl
+mask-any (suc n) p = ap (λ (b : Bool). b || p n) (mask-any n p) ∙ go (maskTo n p) (p n)
+  where
+    go : (k : ℕ) (b : Bool) → (ltb 0 k || b) ≡ ltb 0 (k + cond b (2 ^ n) 0)
+    go zero true = let w : 0 < 2 ^ n = pow-pos n in sym (lt-ltb 0 (0 + 2 ^ n) (omega arith))
+    go zero false = refl
+    go (suc k) b = rw (lt-ltb 0 (suc k) (omega arith)) (sym (lt-ltb 0 (suc k + cond b (2 ^ n) 0) (omega arith)))
 
 -- one turn of the loop that builds a mask of at most 31 bits with a weight that doubles
 pub record MaskTurn (i mask weight x : ℕ) (p : ℕ → Bool) : Type 0 where

@@ -1,2 +1,6 @@
 pub mod PenaltyBounds
-pub mod FuelLaws
+pub mod TableLaws
+pub mod PartyLaws
+pub mod PriorLaws
+pub mod AcceptedLaws
+pub mod FoundLaws
