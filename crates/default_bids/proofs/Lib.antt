@@ -1,0 +1,4 @@
+pub mod LevelLaws
+pub mod FigureLaws
+pub mod MakeUpBounds
+pub mod PastLaws
