@@ -1,2 +1,3 @@
 pub mod Row
 pub mod Settled
+pub mod Written
