@@ -22,7 +22,8 @@ use Rattle.casefile.specs.Refusal.{lengthFine, versionFine, sectionsFine, pairs
 use Rattle.conduct.specs.Flags.{tight, together, sumTogether, timeBid, timeTotal, bidFlag, groupCapability, groupSum, withheldFlag, dispatchFlag, fuelFlag, flagged, flagMask}
 use Rattle.sanctions.specs.Penalties.{flaggedWithImpact, isInstance, countsHere, countsPast, instances, N3, N2, withheldMultiplier, withheldAmount, withheldPenaltyOf, dispatchMultiplier, dispatchRevenue, dispatchPenaltyOf, energyPart, gain, loss, tccChange, lowestUnit, countsFuel, pastFuel, fuelStands, fuelMultiplierAfter, fuelPenaltyUnder, priorFuel, fuelMultiplier, fuelPenaltyOf, multiplier, penalty, totalPenalty}
 use Rattle.default_bids.specs.Mitigation.{hit, mitigated, mitigatedMask, correctOf, bidInForce, makeUpTenths, makeUpOf, totalMakeUp}
-use Rattle.settlement.specs.Row.{joinTo, bidBytes, rowOf, rowsOf}
+use Rattle.binary.specs.Lists.{joinTo}
+use Rattle.settlement.specs.Row.{bidBytes, rowOf, rowsOf}
 use Rattle.settlement.specs.Settled.{accepted, answerOf, rowsAfter, settled}
 use Rattle.settlement.specs.Settled.{Settled}
 use Rattle.casefile.specs.Examples.{headed, fileOf, unitBytes, referenceBytes, entryBytes, units}

@@ -6,7 +6,7 @@ use lib.Dec.{eqb}
 use lib.ListN.{replicate}
 use Rattle.binary.specs.Bytes.{bytesOf}
 use Rattle.casefile.specs.Examples.{fileOf, unitBytes, referenceBytes, entryBytes, units}
-use Rattle.settlement.specs.Row.{joinTo}
+use Rattle.binary.specs.Lists.{joinTo}
 
 -- the word of a negative amount
 abbrev pub minus : ℕ → ℕ
