@@ -1,1 +1,2 @@
 // The flagged hours of every event of a case.
+pub mod parties;
