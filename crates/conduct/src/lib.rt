@@ -1,2 +1,3 @@
 // The flagged hours of every event of a case.
 pub mod parties;
+pub mod sums;

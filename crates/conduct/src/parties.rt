@@ -63,8 +63,8 @@ pub fn party_groups(units: &[u8], events: &[u8], places: &[usize], groups: &mut 
     }
 }
 
-// Kind, market, group and day in one number.
-fn pack(kind: u8, market: u8, group: u16, day: u32) -> u64
+// Two bytes, a number of 16 bits and a day in one number.
+pub fn pack(kind: u8, market: u8, group: u16, day: u32) -> u64
     ensures { λ r. ⌜ r ≡ kind + 256 * market + 65536 * group + 4294967296 * day ⌝ }
 {
     (kind as u64) + 256 * (market as u64) + 65536 * (group as u64) + 4294967296 * (day as u64)
