@@ -304,10 +304,13 @@ module _ (a : ℕ → ℕ → ℕ) (levels keys : List ℕ) (key : ℕ) where
 -- three arrays by hour are the table
 pub three : (figure : ℕ → ℕ → ℕ) (x y z : List ℕ) → Holds 24 x (figure 0) → Holds 24 y (figure 1) → Holds 24 z (figure 2)
     → HasIncreases figure (x ∷ y ∷ z ∷ [])
-three figure x y z hx hy hz zero h l q = hx h q
-three figure x y z hx hy hz (suc zero) h l q = hy h q
-three figure x y z hx hy hz (suc (suc zero)) h l q = hz h q
-three figure x y z hx hy hz (suc (suc (suc k))) h l q = absurd (let n : ⊥ = omega arith in n)
+three figure x y z hx hy hz = record { each = go }
+  where
+    go : (k h : ℕ) → k < 3 → h < 24 → cell (x ∷ y ∷ z ∷ []) k h ≡ figure k h
+    go zero h l q = hx h q
+    go (suc zero) h l q = hy h q
+    go (suc (suc zero)) h l q = hz h q
+    go (suc (suc (suc k))) h l q = absurd (let n : ⊥ = omega arith in n)
 
 pub keyed-as : (a : ℕ → ℕ → ℕ) (levels keys row : List ℕ) (key key′ n : ℕ) → key ≡ key′ → Holds 24 row (keyedIncrease a levels keys key n)
     → Holds 24 row (keyedIncrease a levels keys key′ n)

@@ -1,20 +1,23 @@
 -- What a stage reads in the tables of the stages before it, and adds to its own. The laws say that these are the figures of the case.
-use Prim.Native.Nat.{ℕ, _+_, _-_, _*_, _≤_, _<_}
-use mathlib.Core.Bool.{Bool, false, cond, _&&_}
+use Prim.Native.Nat.{ℕ, _+_, _-_, _*_, _/_, _≤_, _<_}
+use mathlib.Core.Bool.{Bool, true, false, cond, _&&_}
 use mathlib.Core.List.{List, []}
 use mathlib.Core.Path.{_≡_}
 use lib.Dec.{ltb, leb, eqb}
-use lib.ListN.{getD, drop}
+use lib.ListN.{length, getD, drop}
 use Rattle.binary.specs.Bounded.{sumTo, maskTo, bitOf}
-use Rattle.binary.specs.Lists.{firstFrom}
+use Rattle.binary.specs.Lists.{firstFrom, Holds}
 use Rattle.tariff.specs.Conduct.{increase, withheldTest, dispatchTest, bidTest}
 use Rattle.casefile.specs.Layout.{eventWidth, cellsOffset}
 use Rattle.casefile.specs.Case.{Units, Events, Case}
-use Rattle.casefile.specs.Decode.{recordAt}
-use Rattle.casefile.specs.Lookup.{unitOf}
+use Rattle.casefile.specs.Decode.{recordAt, unitsIn, eventsIn, caseIn}
+use Rattle.casefile.specs.Lookup.{unitOf, groupOf}
+use Rattle.casefile.specs.Refusal.{eventsListed}
 use Rattle.casefile.specs.Read.{cellOf}
 use Rattle.casefile.specs.declared.cells.Cell.{Cell}
-use Rattle.conduct.specs.Flags.{tight, timeBid, withheldFlag, dispatchFlag, fuelFlag}
+use Rattle.conduct.specs.declared.flags.Bid.{Bid}
+use Rattle.conduct.specs.Flags.{tight, sumTogether, timeBid, withheldFlag, dispatchFlag, fuelFlag}
+use Rattle.conduct.specs.Parties.{leaderOf}
 
 -- ---- keys and leaders
 
@@ -56,13 +59,21 @@ ledSum c leaders m l h = sumTo m (λ j. cond (eqb (getD leaders j 0) l) (partyFi
 pub record HasSums (c : Case) (leaders : List ℕ) (n m : ℕ) (sums : List ℕ) : Type 0 where
   pub each : (l h : ℕ) → l < n → h < 24 → getD sums (24 * l + h) 0 ≡ ledSum c leaders m l h
 
+-- the figures of the events together with event i, added
+unfoldable pub partySum : Case → (i h : ℕ) → ℕ
+partySum c i h = sumTogether c i (λ j. partyFigure c j h)
+
 -- every leader in the table is below n
 abbrev pub Below : (n : ℕ) → (leaders : List ℕ) → Type 0
 Below n leaders = (j : ℕ) → j < n → getD leaders j 0 < n
 
--- the sums of event i's party, in a row of their own
-abbrev pub HasRow : (figure : ℕ → ℕ) → (row : List ℕ) → Type 0
-HasRow figure row = (h : ℕ) → h < 24 → getD row h 0 ≡ figure h
+-- twenty-four figures, in a row of their own
+pub record HasRow (figure : ℕ → ℕ) (row : List ℕ) : Type 0 where
+  pub each : (h : ℕ) → h < 24 → getD row h 0 ≡ figure h
+
+-- no sum of a row is above 2 ^ 40
+abbrev pub SmallRow : (row : List ℕ) → Type 0
+SmallRow row = (h : ℕ) → h < 24 → getD row h 0 ≤ 1099511627776
 
 -- the capability of unit u where it is of this group
 unfoldable pub capabilityShare : Units → (group u : ℕ) → ℕ
@@ -93,8 +104,8 @@ keyedIncrease a levels keys key m h = sumTo m (λ j. countedIncrease a (getD lev
 abbrev pub cell : List (List ℕ) → (k h : ℕ) → ℕ
 cell t k h = getD (getD t k []) h 0
 
-abbrev pub HasIncreases : (figure : ℕ → ℕ → ℕ) → List (List ℕ) → Type 0
-HasIncreases figure t = (k h : ℕ) → k < 3 → h < 24 → cell t k h ≡ figure k h
+pub record HasIncreases (figure : ℕ → ℕ → ℕ) (t : List (List ℕ)) : Type 0 where
+  pub each : (k h : ℕ) → k < 3 → h < 24 → cell t k h ≡ figure k h
 
 abbrev pub SmallTable : List (List ℕ) → Type 0
 SmallTable t = (k h : ℕ) → k < 3 → h < 24 → cell t k h ≤ 4611686018427387904
@@ -111,13 +122,19 @@ dispatchIn cells sums rate constrained P h = dispatchTest (cellOf cells h .a) ra
 unfoldable pub fuelIn : (sums : List ℕ) → ℕ → Bool
 fuelIn sums h = ltb 0 (getD sums h 0)
 
-unfoldable pub bidIn : (cells totals : List ℕ) (component r market : ℕ) (constrained : Bool) (P averagePrice H h : ℕ) → Bool
-bidIn cells totals component r market constrained P averagePrice H h =
-    bidTest component r (cellOf cells h .a) market (constrained && bitOf P h) averagePrice H (getD totals h 0)
+unfoldable pub bidIn : (cells totals : List ℕ) → Bid → (h : ℕ) → Bool
+bidIn cells totals bid h =
+    bidTest (bid .component) (bid .reference) (cellOf cells h .a) (bid .market) (bid .constrained && bitOf (bid .p) h)
+    (bid .«average_price») (bid .«constrained_hours») (getD totals h 0)
 
 -- the flags of a case, its reference levels read in the table
 unfoldable pub timeTotalIn : Case → (levels : List ℕ) → (i h : ℕ) → ℕ
 timeTotalIn c levels i h = sumTo (c .events .count) (λ j. cond (timeBid c i j) (increase (getD levels j 0) (c .a j h)) 0)
+
+-- the same where the component's test reads it, else 0
+unfoldable pub totalRead : Case → (levels : List ℕ) → (i h : ℕ) → ℕ
+totalRead c levels i h =
+    cond (leb 4 (c .events .component i) && leb (c .events .component i) 6) (timeTotalIn c levels i h) 0
 
 unfoldable pub bidFlagIn : Case → (levels : List ℕ) → (i h : ℕ) → Bool
 bidFlagIn c levels i h =
@@ -133,3 +150,17 @@ flaggedIn c levels i h =
 
 unfoldable pub flagMaskIn : Case → (levels : List ℕ) → ℕ → ℕ
 flagMaskIn c levels i = maskTo (c .events .hours i) (flaggedIn c levels i)
+
+-- ---- what the flags are found from
+
+pub record Found (units events places groups leaders levels : List ℕ) : Type 0 where
+  pub short : length units ≤ 65000
+  pub few : length events / 312 ≤ 200
+  pub listed : eventsListed (unitsIn units) (eventsIn events) ≡ true
+  pub places-reach : length events / 312 ≤ length places
+  pub groups-reach : length events / 312 ≤ length groups
+  pub leaders-reach : length events / 312 ≤ length leaders
+  pub levels-reach : length events / 312 ≤ length levels
+  pub placed : Holds (length events / 312) places (unitOf (caseIn units [] [] events))
+  pub grouped : Holds (length events / 312) groups (groupOf (caseIn units [] [] events))
+  pub led : Holds (length events / 312) leaders (leaderOf (caseIn units [] [] events))

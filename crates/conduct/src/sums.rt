@@ -1,17 +1,16 @@
 // Sums over the events of a party-day, found in one pass, and the time increases of a unit's day.
-ghost use mathlib.Core.Bool.{Bool, cond, _&&_};
+ghost use mathlib.Core.Bool.{cond};
 ghost use mathlib.Core.List.{[]};
 ghost use mathlib.Core.Path.{_≡_};
 ghost use Prim.Native.Nat.{ℕ, _+_, _*_, _/_, _≤_, _<_};
 ghost use lib.Dec.{eqb};
-ghost use lib.ListN.{length, getD};
+ghost use lib.ListN.{length};
 ghost use Rattle.binary.specs.Bounded.{bitOf};
 ghost use Rattle.binary.specs.Lists.{Holds};
-ghost use Rattle.tariff.specs.Conduct.{increase as increaseOf};
 ghost use Rattle.casefile.specs.Decode.{unitsIn, eventsIn, amountsIn, caseIn};
 ghost use Rattle.casefile.specs.Read.{cellOf};
 ghost use Rattle.casefile.specs.declared.cells.Cell.{Cell};
-ghost use Rattle.conduct.specs.Stages.{cellsIn, Small, Added, partyFigure, HasSums, Below, capabilityShare, capabilityOf, timeComponent, timeKey, countedIncrease, keyedIncrease, cell, HasIncreases, SmallTable};
+ghost use Rattle.conduct.specs.Stages.{cellsIn, Small, Added, partyFigure, HasSums, HasRow, Below, capabilityShare, capabilityOf, timeComponent, timeKey, countedIncrease, keyedIncrease, cell, HasIncreases, SmallTable};
 use crate::parties::pack;
 use binary::bytes::load_u8;
 use binary::bytes::load_u16;
@@ -199,7 +198,7 @@ pub fn time_increases(
 // The increases of the three components added, by hour.
 pub fn hour_totals(increases: [[u64; 24]; 3]) -> [u64; 24]
     requires { ⌜ SmallTable increases ⌝ }
-    ensures { λ r. ⌜ Holds 24 r (λ (h : ℕ). cell increases 0 h + cell increases 1 h + cell increases 2 h) ⌝ }
+    ensures { λ r. ⌜ HasRow (λ (h : ℕ). cell increases 0 h + cell increases 1 h + cell increases 2 h) r ⌝ }
 {
     let mut totals = [0u64; 24];
     let mut h = 0;
