@@ -1,32 +1,31 @@
 -- The flags that are found from the tables are the flags of the case.
-use Prim.Native.Nat.{ℕ, zero, suc, _+_, _-_, _*_, _/_, _^_, _≤_, _<_}
+use Prim.Native.Nat.{ℕ, zero, suc, _+_, _-_, _*_, _/_, _≤_, _<_}
 use mathlib.Core.Bool.{Bool, true, false, cond, _&&_, _||_}
 use mathlib.Core.List.{List, []}
 use mathlib.Core.Path.{_≡_, refl, sym, ap, ap₂, _∙_}
 use native.Mathlib.Nat.{add-sub-cancel-left}
 use native.Mathlib.Omega.{arith}
-use borrow.Author.Tests.{eqb-true, eq-eqb, ne-eqb}
+use borrow.Author.Tests.{eqb-true, ne-eqb}
 use lib.Dec.{ltb, leb, eqb}
 use lib.ListN.{length, getD, take, drop, replicate}
-use Rattle.binary.specs.Bounded.{sumTo, anyTo, maskTo, bitOf}
+use Rattle.binary.specs.Bounded.{sumTo, maskTo}
 use Rattle.binary.specs.Bytes.{byteAt, u16At, u32At}
 use Rattle.binary.specs.Lists.{Bytes, Holds}
 use Rattle.binary.proofs.Implies.{and-l, and-r}
 use Rattle.binary.proofs.BoundedLaws.{sum-same}
 use Rattle.binary.proofs.MaskLaws.{mask-same}
 use Rattle.binary.proofs.ByteLaws.{stretch-byte, stretch-length}
-use Rattle.tariff.specs.Conduct.{increase, lowerTest, constrainedTest, percentTest, timeTest, maximumTest, bidTest, withheldTest, dispatchTest}
+use Rattle.tariff.specs.Conduct.{increase, lowerTest, constrainedTest, percentTest, timeTest, maximumTest, bidTest}
 use Rattle.tariff.specs.Threshold.{thresholdOf}
-use Rattle.casefile.specs.Case.{Units, Events, Case}
+use Rattle.casefile.specs.Case.{Units, Case}
 use Rattle.casefile.specs.Decode.{recordAt, unitsIn, referencesIn, eventsIn, amountsIn, caseIn}
-use Rattle.casefile.specs.Lookup.{unitOf, groupOf, levelOf, referenceOf}
+use Rattle.casefile.specs.Lookup.{unitOf, groupOf, referenceOf}
 use Rattle.casefile.specs.Read.{cellOf}
-use Rattle.casefile.specs.declared.cells.Cell.{Cell}
 use Rattle.conduct.specs.declared.flags.Bid.{Bid}
 use Rattle.conduct.specs.Flags.{tight, together, sumTogether, timeBid, timeTotal, bidFlag, groupCapability, groupSum, withheldFlag, dispatchFlag, fuelFlag, flagged, flagMask}
-use Rattle.conduct.specs.Parties.{leaderOf, bidLevel}
+use Rattle.conduct.specs.Parties.{bidLevel}
 use Rattle.conduct.specs.Stages.{cellsIn, partyFigure, partySum, HasSums, HasRow, SmallRow, Below, capabilityOf, timeKey, keyedIncrease, cell, HasIncreases, SmallTable, withheldIn, dispatchIn, fuelIn, bidIn, timeTotalIn, totalRead, bidFlagIn, flaggedIn, flagMaskIn, Found}
-use Rattle.conduct.proofs.PartyLaws.{leader-le, leader-sections}
+use Rattle.conduct.proofs.PartyLaws.{leader-le}
 use Rattle.conduct.proofs.StageLaws.{place-in}
 use Rattle.conduct.proofs.SumLaws.{cond-given, cell-amount, party-sum, party-sum-le, sum-amounts, sum-union, capability-is, zeros-at, increases-le, time-total}
 
@@ -167,10 +166,10 @@ module _ (u e event unit cells : List ℕ) (i place : ℕ) (ee : event ≡ recor
 
 -- ---- fuel
 
-pub fuel-mask-is : (c : Case) (i : ℕ) (row : List ℕ) → c .events .kind i ≡ 3 → HasRow (partySum c i) row
-    → maskTo 24 (fuelIn row) ≡ maskTo 24 (fuelFlag c i)
+pub fuel-mask-is : (c : Case) (i x : ℕ) (row : List ℕ) → c .events .kind i ≡ 3 → HasRow (partySum c i) row → x ≡ maskTo 24 (fuelIn row)
+    → x ≡ maskTo 24 (fuelFlag c i)
 unfolding fuelIn partySum sumTogether
-fuel-mask-is c i row k r = mask-same 24 _ _ (λ h l. ap (ltb 0) (r .each h l) ∙ sum-union c i h k)
+fuel-mask-is c i x row k r e = e ∙ mask-same 24 _ _ (λ h l. ap (ltb 0) (r .each h l) ∙ sum-union c i h k)
 
 -- ---- bids
 
@@ -303,21 +302,21 @@ module _ (u e event levels : List ℕ) (i kind : ℕ) (ee : event ≡ recordAt 3
   unfolding flagMaskIn caseIn eventsIn
   hours-are = refl
 
-  pub mask-1 : kind ≡ 1 → maskTo 24 (withheldFlag (caseIn u [] [] e) i) ≡ flagMaskIn (caseIn u [] [] e) levels i
+  pub mask-1 : (x : ℕ) → kind ≡ 1 → x ≡ maskTo 24 (withheldFlag (caseIn u [] [] e) i) → x ≡ flagMaskIn (caseIn u [] [] e) levels i
   unfolding flaggedIn
-  mask-1 q = sym (mask-same 24 _ _ (λ h l. rw (kind-is ∙ q))) ∙ hours-are
+  mask-1 x q r = r ∙ sym (mask-same 24 _ _ (λ h l. rw (kind-is ∙ q))) ∙ hours-are
 
-  pub mask-2 : kind ≡ 2 → maskTo 24 (dispatchFlag (caseIn u [] [] e) i) ≡ flagMaskIn (caseIn u [] [] e) levels i
+  pub mask-2 : (x : ℕ) → kind ≡ 2 → x ≡ maskTo 24 (dispatchFlag (caseIn u [] [] e) i) → x ≡ flagMaskIn (caseIn u [] [] e) levels i
   unfolding flaggedIn
-  mask-2 q = sym (mask-same 24 _ _ (λ h l. rw (kind-is ∙ q))) ∙ hours-are
+  mask-2 x q r = r ∙ sym (mask-same 24 _ _ (λ h l. rw (kind-is ∙ q))) ∙ hours-are
 
-  pub mask-3 : kind ≡ 3 → maskTo 24 (fuelFlag (caseIn u [] [] e) i) ≡ flagMaskIn (caseIn u [] [] e) levels i
+  pub mask-3 : (x : ℕ) → kind ≡ 3 → x ≡ maskTo 24 (fuelFlag (caseIn u [] [] e) i) → x ≡ flagMaskIn (caseIn u [] [] e) levels i
   unfolding flaggedIn
-  mask-3 q = sym (mask-same 24 _ _ (λ h l. rw (kind-is ∙ q))) ∙ hours-are
+  mask-3 x q r = r ∙ sym (mask-same 24 _ _ (λ h l. rw (kind-is ∙ q))) ∙ hours-are
 
-  pub mask-4 : kind ≡ 4 → maskTo 24 (bidFlagIn (caseIn u [] [] e) levels i) ≡ flagMaskIn (caseIn u [] [] e) levels i
+  pub mask-4 : (x : ℕ) → kind ≡ 4 → x ≡ maskTo 24 (bidFlagIn (caseIn u [] [] e) levels i) → x ≡ flagMaskIn (caseIn u [] [] e) levels i
   unfolding flaggedIn
-  mask-4 q = sym (mask-same 24 _ _ (λ h l. rw (kind-is ∙ q))) ∙ hours-are
+  mask-4 x q r = r ∙ sym (mask-same 24 _ _ (λ h l. rw (kind-is ∙ q))) ∙ hours-are
 
   none : (kind ≡ 1 → ⊥) → (kind ≡ 2 → ⊥) → (kind ≡ 3 → ⊥) → (kind ≡ 4 → ⊥) → (h : ℕ) → flaggedIn (caseIn u [] [] e) levels i h ≡ false
   unfolding flaggedIn

@@ -1,23 +1,22 @@
 -- Events together: an equivalence, told by one key, with a leader; what is summed or sought over the events together with an event
 -- is the same for its leader.
-use Prim.Native.Nat.{ℕ, zero, suc, _+_, _*_, _/_, _^_, _≤_, _<_, zero-le}
+use Prim.Native.Nat.{ℕ, zero, suc, _+_, _*_, _^_, _≤_, _<_, zero-le}
 use mathlib.Core.Bool.{Bool, true, false, cond, _&&_}
-use mathlib.Core.List.{List, []}
-use mathlib.Core.Logic.{⊎-elim}
+use mathlib.Core.List.{List}
 use mathlib.Core.Path.{_≡_, refl, sym, ap, _∙_}
 use native.Mathlib.Nat.{zero-add, pow-suc}
 use native.Mathlib.Omega.{arith}
 use borrow.Author.Tests.{eqb-true, eq-eqb}
 use lib.Dec.{eqb}
-use lib.ListN.{length, getD}
-use Rattle.binary.specs.Bounded.{sumTo, anyTo}
-use Rattle.binary.specs.Bytes.{byteAt, valueAt, u16At, u32At}
-use Rattle.binary.specs.Lists.{firstFrom, Bytes, Holds}
+use lib.ListN.{getD}
+use Rattle.binary.specs.Bounded.{anyTo}
+use Rattle.binary.specs.Bytes.{byteAt, valueAt}
+use Rattle.binary.specs.Lists.{Bytes, Holds}
 use Rattle.binary.proofs.Implies.{and-l, and-r}
 use Rattle.binary.proofs.BoundedLaws.{sum-same, any-same}
 use Rattle.binary.proofs.ByteLaws.{stretch-byte}
 use Rattle.binary.proofs.ListLaws.{from-le, from-holds, from-passed}
-use Rattle.casefile.specs.Case.{Units, Events, Case}
+use Rattle.casefile.specs.Case.{Case}
 use Rattle.casefile.specs.Decode.{recordAt, unitsIn, eventsIn, caseIn}
 use Rattle.casefile.specs.Lookup.{unitOf, groupOf}
 use Rattle.casefile.proofs.RecordLaws.{value-record}

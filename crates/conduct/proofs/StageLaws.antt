@@ -1,21 +1,23 @@
 -- What a stage reads in the tables of the stages before it is the figure of the case.
 use Prim.Native.Nat.{ℕ, zero, suc, _+_, _*_, _/_, _%_, _≤_, _<_}
 use mathlib.Core.Bool.{Bool, true, cond}
-use mathlib.Core.List.{List, [], _++_}
+use mathlib.Core.List.{List, _++_}
 use mathlib.Core.Path.{_≡_, refl, sym, ap, ap₂, _∙_}
 use native.Mathlib.Omega.{arith}
+use borrow.Author.Tests.{eqb-true, leb-true}
+use lib.Dec.{leb, eqb}
 use lib.ListN.{length, getD, drop, List·getD-eq-default}
 use Rattle.binary.specs.Bounded.{lastTo}
 use Rattle.binary.specs.Bytes.{valueAt}
 use Rattle.binary.specs.Lists.{listTo, firstFrom, Bytes, Holds}
+use Rattle.binary.proofs.Implies.{and-l, and-r}
 use Rattle.binary.proofs.BoundedLaws.{last-bound}
 use Rattle.binary.proofs.ListLaws.{list-same}
 use Rattle.casefile.specs.Decode.{unitsIn, referencesIn, eventsIn, caseIn}
 use Rattle.casefile.specs.Lookup.{unitOf, groupOf, isReference, levelOf}
-use Rattle.casefile.specs.Refusal.{eventsListed}
+use Rattle.casefile.specs.Refusal.{sizeFine, eventsListed}
 use Rattle.casefile.proofs.RecordLaws.{value-record}
 use Rattle.casefile.proofs.EventLaws.{events-place}
-use Rattle.conduct.specs.Flags.{together}
 use Rattle.conduct.specs.Parties.{partyKey, leaderOf}
 use Rattle.conduct.specs.Stages.{keyIn, sameKey, leaderIn}
 use Rattle.conduct.proofs.PartyLaws.{keys-together}
@@ -95,3 +97,13 @@ level-none s unit component place m e l = go (length s / 8) refl e l
 
 pub fill-same : (n : ℕ) (f g : ℕ → ℕ) (l d : List ℕ) → l ≡ listTo n f ++ drop n d → ((i : ℕ) → i < n → f i ≡ g i) → l ≡ listTo n g ++ drop n d
 fill-same n f g l d e h = e ∙ ap (λ (x : List ℕ). x ++ drop n d) (list-same n f g h)
+
+-- ---- what the check of sizes says
+
+pub size-whole : (n width most : ℕ) → sizeFine n width most ≡ true → n % width ≡ 0
+unfolding sizeFine
+size-whole n width most h = eqb-true _ _ (and-l (eqb (n % width) 0) (leb (n / width) most) h)
+
+pub size-most : (n width most : ℕ) → sizeFine n width most ≡ true → n / width ≤ most
+unfolding sizeFine
+size-most n width most h = leb-true _ _ (and-r (eqb (n % width) 0) (leb (n / width) most) h)

@@ -1,33 +1,30 @@
 -- Rows of sums: what a turn of the adding loops leaves, and that the sums of a leader are those of each event of its party.
-use Prim.Native.Nat.{ℕ, zero, suc, _+_, _-_, _*_, _/_, _^_, _≤_, _<_, zero-le}
+use Prim.Native.Nat.{ℕ, zero, suc, _+_, _-_, _*_, _/_, _≤_, _<_, zero-le}
 use mathlib.Core.Bool.{Bool, true, false, cond, _&&_}
 use mathlib.Core.List.{List, [], _∷_}
-use mathlib.Core.Logic.{⊎-elim}
 use mathlib.Core.Path.{_≡_, refl, sym, ap, ap₂, _∙_}
-use native.Mathlib.Nat.{add-zero, zero-add, add-assoc, le-refl, le-trans, sub-zero, add-sub-cancel-left}
+use native.Mathlib.Nat.{add-zero, zero-add, le-refl, sub-zero}
 use native.Mathlib.Omega.{arith}
 use borrow.Author.Tests.{eqb-true, eqb-false, eq-eqb, ne-eqb, ltb-true, ltb-false, leb-true, lt-ltb, le-leb}
 use lib.Dec.{ltb, leb, eqb}
-use lib.ListN.{length, getD, set, drop, replicate, getD-replicate, List·getD-eq-default, length-replicate}
+use lib.ListN.{length, getD, set, replicate, getD-replicate, List·getD-eq-default, length-replicate}
 use lib.Seq.{getD-set-same, getD-set-other}
-use Rattle.binary.specs.Bounded.{sumTo, countTo, anyTo, bitOf}
-use Rattle.binary.specs.Bytes.{byteAt, valueAt}
+use Rattle.binary.specs.Bounded.{sumTo, countTo, bitOf}
 use Rattle.binary.specs.Lists.{Bytes, Holds}
-use Rattle.binary.specs.Word.{positivePart}
 use Rattle.binary.proofs.Implies.{and-l, and-r}
 use Rattle.binary.proofs.BoundedLaws.{sum-none, sum-more, sum-same, sum-bound, any-count}
 use Rattle.binary.proofs.ByteLaws.{value-drop}
 use Rattle.binary.proofs.WordLaws.{positive-lt}
 use Rattle.tariff.specs.Conduct.{increase}
-use Rattle.casefile.specs.Case.{Units, Events, Case}
+use Rattle.casefile.specs.Case.{Case}
 use Rattle.casefile.specs.Decode.{recordAt, eventsIn, amountsIn, caseIn}
 use Rattle.casefile.specs.Lookup.{groupOf}
 use Rattle.casefile.specs.Read.{cellOf}
 use Rattle.casefile.specs.declared.cells.Cell.{Cell}
 use Rattle.conduct.specs.Flags.{together, sumTogether, groupSum, groupCapability, fuelFlag, timeBid}
 use Rattle.conduct.specs.Parties.{leaderOf}
-use Rattle.conduct.specs.Stages.{cellsIn, Small, Added, partyFigure, ledSum, HasSums, capabilityShare, capabilityOf, timeComponent, timeKey, countedIncrease, keyedIncrease, cell, HasIncreases, SmallTable, timeTotalIn}
-use Rattle.conduct.proofs.PartyLaws.{same-test, together-fields, SameParty, leader-eqb, record-byte-lt, record-value-lt, packed, packed-same}
+use Rattle.conduct.specs.Stages.{cellsIn, Added, partyFigure, ledSum, HasSums, capabilityShare, capabilityOf, timeComponent, timeKey, countedIncrease, keyedIncrease, cell, HasIncreases, timeTotalIn}
+use Rattle.conduct.proofs.PartyLaws.{same-test, together-fields, leader-eqb, record-byte-lt, record-value-lt, packed, packed-same}
 
 -- ---- choices and sums
 

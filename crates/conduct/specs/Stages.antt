@@ -14,7 +14,6 @@ use Rattle.casefile.specs.Decode.{recordAt, unitsIn, eventsIn, caseIn}
 use Rattle.casefile.specs.Lookup.{unitOf, groupOf}
 use Rattle.casefile.specs.Refusal.{eventsListed}
 use Rattle.casefile.specs.Read.{cellOf}
-use Rattle.casefile.specs.declared.cells.Cell.{Cell}
 use Rattle.conduct.specs.declared.flags.Bid.{Bid}
 use Rattle.conduct.specs.Flags.{tight, sumTogether, timeBid, withheldFlag, dispatchFlag, fuelFlag}
 use Rattle.conduct.specs.Parties.{leaderOf}

@@ -1,5 +1,5 @@
 // The flagged hours of every event of a case.
-ghost use mathlib.Core.Bool.{Bool, true, cond, _&&_};
+ghost use mathlib.Core.Bool.{true};
 ghost use mathlib.Core.List.{[], _++_};
 ghost use mathlib.Core.Path.{_≡_};
 ghost use Prim.Native.Nat.{_*_, _/_, _%_, _≤_, _<_};

@@ -3,7 +3,7 @@ ghost use mathlib.Core.Bool.{true};
 ghost use mathlib.Core.List.{[], _++_};
 ghost use mathlib.Core.Path.{_≡_};
 ghost use Prim.Native.Nat.{_+_, _*_, _/_, _%_, _≤_, _<_};
-ghost use lib.ListN.{length, drop, getD};
+ghost use lib.ListN.{length, drop};
 ghost use Rattle.binary.specs.Bounded.{lastTo};
 ghost use Rattle.binary.specs.Lists.{listTo, Holds};
 ghost use Rattle.casefile.specs.Decode.{unitsIn, referencesIn, eventsIn, caseIn};

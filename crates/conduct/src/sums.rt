@@ -9,7 +9,6 @@ ghost use Rattle.binary.specs.Bounded.{bitOf};
 ghost use Rattle.binary.specs.Lists.{Holds};
 ghost use Rattle.casefile.specs.Decode.{unitsIn, eventsIn, amountsIn, caseIn};
 ghost use Rattle.casefile.specs.Read.{cellOf};
-ghost use Rattle.casefile.specs.declared.cells.Cell.{Cell};
 ghost use Rattle.conduct.specs.Stages.{cellsIn, Small, Added, partyFigure, HasSums, HasRow, Below, capabilityShare, capabilityOf, timeComponent, timeKey, countedIncrease, keyedIncrease, cell, HasIncreases, SmallTable};
 use crate::parties::pack;
 use binary::bytes::load_u8;

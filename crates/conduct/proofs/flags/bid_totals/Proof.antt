@@ -1,5 +1,4 @@
 use borrow.Author.Needs.{needs}
-use Rattle.casefile.specs.Decode.{amountsIn}
 use Rattle.conduct.proofs.FlagLaws.{small-table, totals-none, totals-of}
 use Rattle.conduct.proofs.flags.bid_totals.Statement.{statement}
 use Rattle.conduct.proofs.flags.bid_totals.Tie as tie

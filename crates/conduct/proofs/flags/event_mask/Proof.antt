@@ -23,7 +23,7 @@ event-mask-spec =
     ((l, f .few, f .levels-reach, omega arith, found-place _ _ _ _ _ _ f _ l), (f .placed _ l, start .pre .1 .1 .1)))
     (λ c.
     let k = c .before .before .before in
-    c .bid-event .ensures ∙ mask-4 _ _ _ _ _ _ (k .before .record-at .ensures .0) (k .load-u8 .ensures) (c .before .if1 .taken))
+    mask-4 _ _ _ _ _ _ (k .before .record-at .ensures .0) (k .load-u8 .ensures) _ (c .before .if1 .taken) (c .bid-event .ensures))
     (λ c. omega arith)
     (λ c. let f = c .before .before .before .before .before .before .before .before .before .before .before .before .before .pre .0 in omega arith)
     (λ c. let start = c .before .before .before .before .before .before .before .before .before .before .before .before .before in let f = start .pre .0 in let q = leaders-below _ _ _ _ _ _ f _ (start .pre .1 .1 .0 .2) in omega arith)
@@ -54,7 +54,7 @@ event-mask-spec =
     ))
     (λ c.
     let k = c .before .before .before .before .before .before .before in
-    c .withheld-event .ensures ∙ mask-1 _ _ _ _ _ _ (k .before .record-at .ensures .0) (k .load-u8 .ensures) (c .before .before .if2 .taken))
+    mask-1 _ _ _ _ _ _ (k .before .record-at .ensures .0) (k .load-u8 .ensures) _ (c .before .before .if2 .taken) (c .withheld-event .ensures))
     (λ c κs.
     let k = c .before .before .before .before .before .before in
     let start = c .before .before .before .before .before .before .before .before .before .before .before .before .before .before .before .before in
@@ -72,7 +72,7 @@ event-mask-spec =
     ))
     (λ c.
     let k = c .before .before .before .before .before .before .before in
-    c .dispatch-event .ensures ∙ mask-2 _ _ _ _ _ _ (k .before .record-at .ensures .0) (k .load-u8 .ensures) (c .before .if3 .taken))
+    mask-2 _ _ _ _ _ _ (k .before .record-at .ensures .0) (k .load-u8 .ensures) _ (c .before .if3 .taken) (c .dispatch-event .ensures))
     (λ c κs.
     let start = c .before .before .before .before .before .before .before .before .before .before .before .before .before .before .before .before .before in
     let f = start .pre .0 in
@@ -84,8 +84,8 @@ event-mask-spec =
     let row = found-row _ _ _ _ _ _ f _ (start .pre .1 .1 .0 .2) _ (start .pre .1 .0) in
     let a = start .args in
     let kind = kind-is (a .units .now) (a .events .now) _ (a .levels .now) (a .i) _ (k .before .record-at .ensures .0) (k .load-u8 .ensures) in
-    c .fuel-mask .ensures ∙ fuel-mask-is _ _ _ (kind ∙ c .before .if4 .taken) row
-    ∙ mask-3 _ _ _ _ _ _ (k .before .record-at .ensures .0) (k .load-u8 .ensures) (c .before .if4 .taken))
+    mask-3 _ _ _ _ _ _ (k .before .record-at .ensures .0) (k .load-u8 .ensures) _ (c .before .if4 .taken)
+    (fuel-mask-is (caseIn (a .units .now) [] [] (a .events .now)) (a .i) _ _ (kind ∙ c .before .if4 .taken) row (c .fuel-mask .ensures)))
     (λ c.
     let k = c .before .before .before .before .before .before .before in
     mask-0 _ _ _ _ _ _ (k .before .record-at .ensures .0) (k .load-u8 .ensures) (c .before .before .if2 .left) (c .before .if3 .left)

@@ -1,5 +1,4 @@
 use mathlib.Core.List.{[]}
-use mathlib.Core.Path.{_∙_}
 use borrow.Author.Needs.{needs}
 use native.Mathlib.Omega.{arith}
 use Rattle.binary.proofs.ListLaws.{holds-fill}

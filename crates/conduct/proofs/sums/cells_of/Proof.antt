@@ -1,6 +1,4 @@
-use mathlib.Core.Path.{_∙_}
 use borrow.Author.Needs.{needs}
-use native.Mathlib.Omega.{arith}
 use lib.ListN.{length-drop}
 use Rattle.casefile.proofs.RecordLaws.{rest}
 use Rattle.conduct.specs.Stages.{cellsIn}

@@ -1,11 +1,11 @@
 use Prim.Native.Nat.{ℕ, _≤_, _-_, _*_, _/_}
 use mathlib.Core.List.{[]}
-use mathlib.Core.Path.{_≡_, refl, sym, _∙_}
+use mathlib.Core.Path.{_≡_, refl, sym}
 use borrow.Author.Needs.{needs}
 use native.Mathlib.Omega.{arith}
 use lib.ListN.{length, getD}
 use Rattle.casefile.specs.Decode.{caseIn}
-use Rattle.conduct.specs.Stages.{partyFigure, HasSums}
+use Rattle.conduct.specs.Stages.{HasSums}
 use Rattle.conduct.proofs.SumLaws.{zeros-at, sums-none, sums-more, added-bound, figure-le}
 use Rattle.conduct.proofs.sums.party_sums.Statement.{statement}
 use Rattle.conduct.proofs.sums.party_sums.Tie as tie
