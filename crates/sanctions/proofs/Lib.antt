@@ -1,2 +1,2 @@
 pub mod PenaltyBounds
-pub mod FuelLaws
+pub mod WholeFile
