@@ -4,3 +4,4 @@ pub mod PartyLaws
 pub mod PriorLaws
 pub mod AcceptedLaws
 pub mod FoundLaws
+pub mod WholeFile
