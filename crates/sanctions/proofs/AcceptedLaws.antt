@@ -1,11 +1,11 @@
 -- What the checks of a case give to its penalties: the ranges of its figures.
 use Prim.Native.Nat.{ℕ, _/_, _%_, _≤_, _<_}
-use mathlib.Core.Bool.{Bool, true, false, not, _&&_, _||_}
+use mathlib.Core.Bool.{Bool, true, _&&_, _||_}
 use mathlib.Core.List.{List}
-use mathlib.Core.Path.{_≡_, sym, _∙_}
+use mathlib.Core.Path.{_≡_}
 use native.Mathlib.Nat.{le-refl, le-trans}
 use native.Mathlib.Omega.{arith}
-use lib.Dec.{ltb, leb, eqb}
+use lib.Dec.{leb, eqb}
 use lib.ListN.{length}
 use borrow.Author.Tests.{eq-eqb, eqb-true, leb-true, le-ltb}
 use Rattle.binary.specs.Bounded.{allTo}
@@ -14,11 +14,9 @@ use Rattle.binary.proofs.Implies.{and-l, and-r}
 use Rattle.binary.proofs.BoundedLaws.{all-at}
 use Rattle.binary.proofs.ByteLaws.{stretch-length}
 use Rattle.binary.proofs.WordLaws.{within-positive}
-use Rattle.casefile.specs.Layout.{unitWidth, eventWidth, hours}
-use Rattle.casefile.specs.Case.{Units, Events}
+use Rattle.casefile.specs.Layout.{eventWidth, hours}
 use Rattle.casefile.specs.Decode.{offsetOf, lengthOf, sectionOf, HasSection, unitsIn, eventsIn, amountsIn, caseIn}
-use Rattle.casefile.specs.Lookup.{placeOf}
-use Rattle.casefile.specs.Refusal.{sizeFine, sizesFine, unitFieldsFine, unitFine, unitsFine, ofKind, quantitiesFine, fieldsFine, cellFine, hourFine, eventFine, eventsFine, eventsListed, withinCapability, amountFine, amountsFine}
+use Rattle.casefile.specs.Refusal.{sizeFine, sizesFine, unitFieldsFine, unitFine, unitsFine, ofKind, quantitiesFine, fieldsFine, cellFine, hourFine, eventFine, eventsFine, withinCapability, amountFine, amountsFine}
 use Rattle.casefile.proofs.EventLaws.{events-place}
 use Rattle.casefile.proofs.RefusalLaws.{HeaderFine, RecordsFine, EventsFine, has-section}
 use Rattle.sanctions.specs.Found.{Accepted}

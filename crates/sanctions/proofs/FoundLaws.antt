@@ -1,5 +1,5 @@
 -- What the code finds in bytes and tables is what the definitions say of the case.
-use Prim.Native.Nat.{ℕ, zero, suc, _+_, _-_, _*_, _/_, _^_, _≤_, _<_}
+use Prim.Native.Nat.{ℕ, _+_, _*_, _/_, _<_}
 use mathlib.Core.Bool.{Bool, true, false, cond, _&&_, _||_}
 use mathlib.Core.List.{List, _++_}
 use mathlib.Core.Path.{_≡_, refl, sym, ap, ap₂, _∙_}
@@ -7,25 +7,24 @@ use native.Mathlib.Nat.{zero-mul}
 use native.Mathlib.Omega.{arith}
 use lib.Dec.{ltb, eqb}
 use lib.ListN.{length, getD, drop, set, length-set}
-use lib.Pow.{pow-pos}
 use borrow.Author.Tests.{lt-ltb, eq-eqb, eqb-true}
-use Rattle.binary.specs.Bounded.{sumTo, countTo, anyTo, maskTo, bitOf}
+use Rattle.binary.specs.Bounded.{sumTo, countTo, bitOf}
 use Rattle.binary.specs.Lists.{listTo, Holds}
 use Rattle.binary.specs.Word.{positivePart, negativePart}
 use Rattle.binary.proofs.Implies.{and-l, and-r}
 use Rattle.binary.proofs.BoundedLaws.{sum-same, count-same, any-same}
 use Rattle.binary.proofs.MaskLaws.{bit-mask, mask-any}
 use Rattle.binary.proofs.ListLaws.{fill-none, fill-more, holds-fill}
-use Rattle.tariff.specs.Sanctions.{cents, ladder, withheldPenalty, dispatchPenalty, fuelPenalty}
+use Rattle.tariff.specs.Sanctions.{cents, ladder, withheldPenalty}
 use Rattle.casefile.specs.Layout.{eventWidth, pastWidth, hours}
 use Rattle.casefile.specs.Case.{Case}
 use Rattle.casefile.specs.Decode.{recordAt, pastIn, eventsIn, amountsIn, caseIn}
 use Rattle.casefile.specs.Lookup.{groupOf}
-use Rattle.conduct.specs.Flags.{together, sumTogether, fuelFlag, flagged, flagMask}
+use Rattle.conduct.specs.Flags.{sumTogether, fuelFlag, flagged, flagMask}
 use Rattle.conduct.specs.Parties.{leaderOf}
 use Rattle.sanctions.specs.Penalties.{flaggedWithImpact, isInstance, countsHere, countsPast, instances, N3, N2, withheldMultiplier, withheldAmount, withheldPenaltyOf, dispatchMultiplier, dispatchRevenue, dispatchPenaltyOf, energyPart, gain, loss, tccChange, lowestUnit, pastFuel, fuelMultiplierAfter, fuelPenaltyUnder, fuelMultiplier, fuelPenaltyOf, multiplier, penalty, totalPenalty}
-use Rattle.sanctions.specs.Found.{Accepted, Found, Sound, SmallPenalties, sanctionOf}
-use Rattle.sanctions.specs.Tables.{hourEnergy, hourRevenue, instanceOf, rowCounts, entryOf, entryCounts, instancesAt, withImpact, noSanction, withheldRow, dispatchRow, energyIn, ledBy, energyAt, tccAt, partyDay, fuelRowCounts, fuelEntryCounts, multiplierAt, partyPenalty, fuelRow, rowAt}
+use Rattle.sanctions.specs.Found.{Accepted, Found, Sound, SmallPenalties}
+use Rattle.sanctions.specs.Tables.{hourEnergy, hourRevenue, instanceOf, rowCounts, entryOf, entryCounts, instancesHere, instancesPast, instancesAt, withImpact, noSanction, instanceRow, withheldRow, dispatchRow, energyIn, ledBy, energyAt, tccAt, partyDay, fuelRowCounts, fuelEntryCounts, multiplierAt, partyPenalty, fuelRow, rowAt}
 use Rattle.sanctions.specs.declared.sanction.Sanction.{Sanction}
 use Rattle.sanctions.proofs.PenaltyBounds.{penalty-bound}
 use Rattle.sanctions.proofs.PartyLaws.{together-same, leader-le, leader-together, leads, lowest-leader}
@@ -48,6 +47,10 @@ no-multiplier x = rw (zero-mul x)
 -- the row of event i by its figures
 abbrev row : (m n k p : ℕ) → Sanction
 row m n k p = record { multiplier = m; n3 = n; n2 = k; penalty = p }
+
+-- what the definitions say of it
+unfoldable sanctionOf : Case → ℕ → Sanction
+sanctionOf c i = row (multiplier c i) (N3 c i) (N2 c i) (penalty c i)
 
 pick : (b1 b2 b3 : Bool) (W D F : Sanction) (wm dm fm x y wp dp fp : ℕ)
     → (b1 ≡ true → W ≡ row wm x y wp) → (b1 ≡ false → (x ≡ 0) × (y ≡ 0)) → (b2 ≡ true → D ≡ row dm 0 0 dp)
@@ -94,11 +97,11 @@ module _ (u r p e groups leaders masks : List ℕ) (acc : Accepted u p e) (found
   entries i k l = count-same (length p / pastWidth) _ _ (λ j m. rw (found .group-held i l))
 
   instances-three : (n3 : List ℕ) (i : ℕ) → i < n → Holds i n3 (N3 c) → instancesAt p e groups n3 i .n3 ≡ instances c 2 i
-  unfolding instancesAt instances caseIn pastIn
+  unfolding instancesAt instancesHere instancesPast instances caseIn pastIn
   instances-three n3 i l held = rw (rows-here n3 i 2 l held, entries i 2 l)
 
   instances-two : (n3 : List ℕ) (i : ℕ) → i < n → Holds i n3 (N3 c) → instancesAt p e groups n3 i .n2 ≡ instances c 1 i
-  unfolding instancesAt instances caseIn pastIn
+  unfolding instancesAt instancesHere instancesPast instances caseIn pastIn
   instances-two n3 i l held = rw (rows-here n3 i 1 l held, entries i 1 l)
 
   amount-is : (i : ℕ) → i < n → sumTo hours (hourEnergy (positivePart 32) (recordAt eventWidth e i) (getD masks i 0)) ≡ withheldAmount c i
@@ -107,7 +110,7 @@ module _ (u r p e groups leaders masks : List ℕ) (acc : Accepted u p e) (found
 
   withheld-is : (n3 : List ℕ) (i : ℕ) → i < n → Holds i n3 (N3 c) → eventsIn e .kind i ≡ 1
       → withheldRow p e groups masks n3 i ≡ row (withheldMultiplier c i) (N3 c i) (N2 c i) (withheldPenaltyOf c i)
-  unfolding withheldRow noSanction withheldMultiplier N3 N2 withheldPenaltyOf isInstance caseIn
+  unfolding withheldRow instanceRow noSanction withheldMultiplier N3 N2 withheldPenaltyOf isInstance caseIn
   withheld-is n3 i l held k =
       rw (impact-mask i l, instances-three n3 i l held, instances-two n3 i l held, amount-is i l, eq-eqb (eventsIn e .kind i) 1 k)
       (go (flaggedWithImpact c i) (instances c 2 i) (instances c 1 i) (withheldAmount c i))

@@ -1,6 +1,6 @@
 -- Events together: they are led by the first of them, and for kind 3 that is the one of the lowest unit, by the order of check 11.
-use Prim.Native.Nat.{ℕ, zero, suc, _+_, _-_, _*_, _≤_, _<_, zero-le}
-use mathlib.Core.Bool.{Bool, true, false, cond, not, _&&_, _||_}
+use Prim.Native.Nat.{ℕ, zero, suc, _-_, _≤_, _<_, zero-le}
+use mathlib.Core.Bool.{Bool, true, false, not, _&&_}
 use mathlib.Core.Logic.{⊎-elim}
 use mathlib.Core.Path.{_≡_, refl, sym, ap, subst, _∙_}
 use native.Mathlib.Nat.{zero-add, suc-ne-zero, eq-or-lt-of-le, le-of-suc-le-suc, not-suc-le-zero}
@@ -8,7 +8,6 @@ use native.Mathlib.Omega.{arith}
 use lib.Dec.{ltb, eqb}
 use borrow.Author.Tests.{eq-eqb, ne-eqb, eqb-true, eqb-false, lt-ltb, ltb-true, ltb-false}
 use Rattle.binary.specs.Bounded.{anyTo}
-use Rattle.binary.specs.Lists.{firstFrom}
 use Rattle.binary.proofs.Implies.{same-test, and-l, and-r}
 use Rattle.binary.proofs.BoundedLaws.{all-at, any-true, any-false}
 use Rattle.binary.proofs.ListLaws.{from-le, from-holds, from-passed}

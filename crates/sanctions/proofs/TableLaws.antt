@@ -1,17 +1,17 @@
 -- Bounds of the figures that the code finds in bytes and tables.
 use Prim.Native.Nat.{ℕ, _+_, _-_, _*_, _/_, _≤_, _<_, zero-le}
-use mathlib.Core.Bool.{Bool, true, false, cond}
+use mathlib.Core.Bool.{Bool, cond}
 use mathlib.Core.List.{List}
 use mathlib.Core.Path.{_≡_, sym, ap, ap₂, _∙_}
-use native.Mathlib.Nat.{add-assoc, add-zero, le-refl, mul-le-mul, sub-le}
+use native.Mathlib.Nat.{add-assoc, mul-le-mul, sub-le}
 use native.Mathlib.Omega.{arith}
-use lib.Dec.{T, eqb, eqb→eq}
+use lib.Dec.{eqb, eqb→eq}
 use lib.ListN.{length, getD}
 use Rattle.binary.specs.Bounded.{sumTo, countTo, bitOf}
 use Rattle.binary.specs.Bytes.{u32At}
 use Rattle.binary.specs.Word.{positivePart, negativePart}
 use Rattle.binary.proofs.Implies.{cond-bound}
-use Rattle.binary.proofs.BoundedLaws.{count-more, count-bound, sum-none, sum-more, sum-bound}
+use Rattle.binary.proofs.BoundedLaws.{count-more, count-bound, sum-more, sum-bound}
 use Rattle.binary.proofs.WordLaws.{positive-lt, negative-le}
 use Rattle.casefile.specs.Layout.{eventWidth, hours}
 use Rattle.casefile.specs.Decode.{cellAt, recordAt, eventsIn}

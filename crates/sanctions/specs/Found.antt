@@ -13,8 +13,6 @@ use Rattle.casefile.specs.Lookup.{groupOf}
 use Rattle.casefile.specs.Refusal.{unitsFine, eventsFine, orderFine, eventsListed, amountsFine}
 use Rattle.conduct.specs.Flags.{flagMask}
 use Rattle.conduct.specs.Parties.{leaderOf}
-use Rattle.sanctions.specs.Penalties.{multiplier, N3, N2, penalty}
-use Rattle.sanctions.specs.declared.sanction.Sanction.{Sanction}
 
 -- the checks that penalties lean on: numbers 5, 6 and 10 to 13
 pub record Accepted (units past events : List ℕ) : Type 0 where
@@ -49,7 +47,3 @@ pub record Sound (events leaders : List ℕ) : Type 0 where
 -- no penalty on the first n rows is above 10 ^ 15 cents
 abbrev pub SmallPenalties : ℕ → List ℕ → Type 0
 SmallPenalties n l = (i : ℕ) → i < n → getD l i 0 ≤ 1000000000000000
-
--- the row of event i
-unfoldable pub sanctionOf : Case → ℕ → Sanction
-sanctionOf c i = record { multiplier = multiplier c i; n3 = N3 c i; n2 = N2 c i; penalty = penalty c i }

@@ -6,11 +6,10 @@ use mathlib.Core.List.{List}
 use lib.Dec.{ltb, eqb}
 use lib.ListN.{length, getD}
 use Rattle.binary.specs.Bounded.{sumTo, countTo, anyTo, bitOf}
-use Rattle.binary.specs.Bytes.{byteAt, u32At}
+use Rattle.binary.specs.Bytes.{u32At}
 use Rattle.binary.specs.Word.{positivePart, negativePart}
 use Rattle.tariff.specs.Sanctions.{periodCounts, ladder, withheldPenalty, dispatchPenalty, fuelDayCounts, fuelPenalty}
 use Rattle.casefile.specs.Layout.{eventWidth, pastWidth, hours}
-use Rattle.casefile.specs.Case.{Violation}
 use Rattle.casefile.specs.Decode.{recordAt, cellAt, pastIn, eventsIn}
 use Rattle.sanctions.specs.Penalties.{countsFuel, fuelMultiplierAfter}
 use Rattle.sanctions.specs.declared.instances.Instances.{Instances}
@@ -65,17 +64,14 @@ instancesPast past group market period =
       n2 = countTo (length past / pastWidth) (entryCounts past group market period 1);
     }
 
--- 1 plus both
+-- N3 and N2 of row i, where it is an instance: 1 plus both
 unfoldable pub instancesAt : (past events groups n3 : List ℕ) (i : ℕ) → Instances
 instancesAt past events groups n3 i =
-    record {
-      n3 = 1
-          + countTo i (rowCounts events groups n3 (getD groups i 0) (eventsIn events .market i) (eventsIn events .period i) 2)
-          + countTo (length past / pastWidth) (entryCounts past (getD groups i 0) (eventsIn events .market i) (eventsIn events .period i) 2);
-      n2 = 1
-          + countTo i (rowCounts events groups n3 (getD groups i 0) (eventsIn events .market i) (eventsIn events .period i) 1)
-          + countTo (length past / pastWidth) (entryCounts past (getD groups i 0) (eventsIn events .market i) (eventsIn events .period i) 1);
-    }
+    onePlus (instancesHere events groups n3 (getD groups i 0) (eventsIn events .market i) (eventsIn events .period i) i)
+    (instancesPast past (getD groups i 0) (eventsIn events .market i) (eventsIn events .period i))
+  where
+    onePlus : Instances → Instances → Instances
+    onePlus here outside = record { n3 = 1 + here .n3 + outside .n3; n2 = 1 + here .n2 + outside .n2 }
 
 -- impact 1 and a flagged hour
 unfoldable pub withImpact : (events masks : List ℕ) (i : ℕ) → Bool
@@ -84,17 +80,21 @@ withImpact events masks i = eqb (eventsIn events .impact i) 1 && ltb 0 (getD mas
 unfoldable pub noSanction : Sanction
 noSanction = record { multiplier = 0; n3 = 0; n2 = 0; penalty = 0 }
 
+-- the row of an instance
+unfoldable pub instanceRow : Instances → (amount : ℕ) → Sanction
+instanceRow x amount =
+    record {
+      multiplier = ladder (x .n3) (x .n2);
+      n3 = x .n3;
+      n2 = x .n2;
+      penalty = withheldPenalty (ladder (x .n3) (x .n2)) amount;
+    }
+
 unfoldable pub withheldRow : (past events groups masks n3 : List ℕ) (i : ℕ) → Sanction
 withheldRow past events groups masks n3 i =
     cond (withImpact events masks i)
-    (record {
-      multiplier = ladder (instancesAt past events groups n3 i .n3) (instancesAt past events groups n3 i .n2);
-      n3 = instancesAt past events groups n3 i .n3;
-      n2 = instancesAt past events groups n3 i .n2;
-      penalty =
-          withheldPenalty (ladder (instancesAt past events groups n3 i .n3) (instancesAt past events groups n3 i .n2))
-          (sumTo hours (hourEnergy (positivePart 32) (recordAt eventWidth events i) (getD masks i 0)));
-    })
+    (instanceRow (instancesAt past events groups n3 i)
+    (sumTo hours (hourEnergy (positivePart 32) (recordAt eventWidth events i) (getD masks i 0))))
     noSanction
 
 -- ---- Dispatch

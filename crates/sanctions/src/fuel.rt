@@ -1,13 +1,13 @@
 // The sanction of a party-day with inaccurate fuel data (tariff 23.4.3.3.3), found at its first event.
 ghost use mathlib.Core.Path.{_≡_};
-ghost use Prim.Native.Nat.{ℕ, _/_, _≤_, _<_};
-ghost use lib.ListN.{length, getD};
+ghost use Prim.Native.Nat.{_/_, _≤_, _<_};
+ghost use lib.ListN.{length};
 ghost use Rattle.binary.specs.Bounded.{anyTo};
 ghost use Rattle.binary.specs.Word.{positivePart, negativePart};
-ghost use Rattle.casefile.specs.Decode.{recordAt, eventsIn};
+ghost use Rattle.casefile.specs.Decode.{eventsIn};
 ghost use Rattle.sanctions.specs.Penalties.{fuelMultiplierAfter};
 ghost use Rattle.sanctions.specs.Found.{SmallAmounts, Sound};
-ghost use Rattle.sanctions.specs.Tables.{hourEnergy, energyOf, partyShare, partyDay, fuelRowCounts, fuelEntryCounts, partyPenalty, fuelRow};
+ghost use Rattle.sanctions.specs.Tables.{hourEnergy, energyOf, partyShare, partyDay, fuelRowCounts, fuelEntryCounts, fuelRow};
 use crate::sanction::Sanction;
 use binary::bytes::load_u8;
 use binary::bytes::load_u16;

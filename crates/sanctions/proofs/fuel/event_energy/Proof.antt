@@ -1,13 +1,12 @@
 use Prim.Native.Nat.{ℕ, _+_, _-_, _*_, _≤_}
-use mathlib.Core.Path.{_≡_, sym, ap, _∙_}
-use native.Mathlib.Nat.{add-zero}
+use mathlib.Core.Path.{_≡_, _∙_}
 use borrow.Author.Needs.{needs}
 use native.Mathlib.Omega.{arith}
 use Rattle.binary.specs.Bounded.{sumTo}
 use Rattle.binary.specs.Word.{positivePart, negativePart}
 use Rattle.binary.proofs.BoundedLaws.{sum-none}
 use Rattle.sanctions.specs.Tables.{hourEnergy, energyIn, energyOf}
-use Rattle.sanctions.proofs.TableLaws.{Part, positive-part, negative-part, energy-turn}
+use Rattle.sanctions.proofs.TableLaws.{positive-part, negative-part, energy-turn}
 use Rattle.sanctions.proofs.fuel.event_energy.Statement.{statement}
 use Rattle.sanctions.proofs.fuel.event_energy.Tie as tie
 

@@ -1,6 +1,5 @@
 use Prim.Native.Nat.{_≤_}
 use borrow.Author.Needs.{needs}
-use native.Mathlib.Omega.{arith}
 use Rattle.casefile.specs.Decode.{eventsIn}
 use Rattle.sanctions.specs.Tables.{multiplierAt, partyPenalty, fuelRow}
 use Rattle.sanctions.proofs.TableLaws.{SmallDay, day-small, after-small}

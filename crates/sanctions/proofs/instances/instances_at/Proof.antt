@@ -21,7 +21,7 @@ unfolding instancesPast
 outside c = rw (c .instances-past .ensures) (count-bound _ _, count-bound _ _)
 
 pub instances-at-spec : {M : Type 1} → statement M
-unfolding instancesAt instancesHere instancesPast eventsIn
+unfolding instancesAt eventsIn
 instances-at-spec =
     tie.close
     (tie.spec

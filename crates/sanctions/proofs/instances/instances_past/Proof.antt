@@ -1,5 +1,4 @@
 use Prim.Native.Nat.{_≤_, _-_, _/_}
-use mathlib.Core.Bool.{cond}
 use mathlib.Core.Path.{_≡_}
 use borrow.Author.Needs.{needs}
 use native.Mathlib.Omega.{arith}

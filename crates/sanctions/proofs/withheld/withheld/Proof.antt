@@ -1,12 +1,12 @@
 use mathlib.Core.Path.{sym, _∙_}
 use borrow.Author.Needs.{needs}
 use borrow.Author.Tests.{not-true, not-false}
-use Rattle.sanctions.specs.Tables.{noSanction, withheldRow}
+use Rattle.sanctions.specs.Tables.{noSanction, instanceRow, withheldRow}
 use Rattle.sanctions.proofs.withheld.withheld.Statement.{statement}
 use Rattle.sanctions.proofs.withheld.withheld.Tie as tie
 
 pub withheld-spec : {M : Type 1} → statement M
-unfolding withheldRow noSanction
+unfolding withheldRow instanceRow noSanction
 withheld-spec =
     tie.close
     (tie.spec
