@@ -23,7 +23,7 @@ use Rattle.default_bids.specs.Mitigation.{mitigatedMask, makeUpOf}
 use Rattle.default_bids.specs.Figures.{correctLevel, bidBy}
 use Rattle.default_bids.proofs.FigureLaws.{bid-by}
 use Rattle.settlement.specs.Row.{bidBytes, rowOf}
-use Rattle.settlement.specs.Written.{wordOf, wordsOf, rowBytes, tableBids, tableRow}
+use Rattle.settlement.specs.Written.{wordOf, wordsOf, rowBytes, tableBids, tableSanction, tableRow}
 use Rattle.settlement.specs.declared.rows.Row.{Row}
 
 -- a run of stores after another
@@ -112,9 +112,9 @@ words-bids u r p k e i =
 
 pub row-held : (u r p k e places levels corrects masks mitigated penalties makeUps multipliers n3 n2 : List ℕ) (i : ℕ)
     → RowHeld u r p k e places levels corrects masks mitigated penalties makeUps multipliers n3 n2 i
-    → rowBytes (tableRow masks mitigated penalties makeUps multipliers n3 n2 (tableBids (unitsIn u) (eventsIn e) (amountsIn e) places levels corrects mitigated i) i)
+    → rowBytes (tableRow masks mitigated makeUps (tableSanction penalties multipliers n3 n2 i) (tableBids (unitsIn u) (eventsIn e) (amountsIn e) places levels corrects mitigated i) i)
     ≡ rowOf (caseIn u r p e) (referencesIn k) i
-unfolding rowBytes tableRow tableBids rowOf
+unfolding rowBytes tableRow tableSanction tableBids rowOf
 row-held u r p k e places levels corrects masks mitigated penalties makeUps multipliers n3 n2 i t =
     rw (
       t .place-held,
