@@ -132,8 +132,7 @@ fn row_at(
     }
 }
 
-// Every row, from the tables of the stages before; the bytes beyond the last row stay. The contract says what case the tables
-// are of.
+// Every row, from the tables of the stages before; the bytes beyond the last row stay.
 pub fn write_rows(
     units: &[u8],
     references: &[u8],
