@@ -18,7 +18,7 @@ use Rattle.binary.proofs.ListLaws.{list-same}
 use Rattle.tariff.specs.DefaultBids.{spanned, spanMask, correctedInForce, hourMakeUp, makeUp}
 use Rattle.casefile.specs.Layout.{eventWidth, cellsOffset, hours}
 use Rattle.casefile.specs.Case.{Units, References, Events, Case}
-use Rattle.casefile.specs.Decode.{recordAt, referencesIn, eventsIn, amountsIn, caseIn}
+use Rattle.casefile.specs.Decode.{recordAt, unitsIn, referencesIn, eventsIn, amountsIn, caseIn}
 use Rattle.casefile.specs.Lookup.{unitOf, levelOf, referenceOf}
 use Rattle.casefile.specs.Refusal.{readsCorrect}
 use Rattle.casefile.specs.Read.{cellOf}
@@ -99,6 +99,14 @@ bid-by c correct i h l = cond-same (eqb (c .events .kind i) 4) (λ t. body (T→
         (c .units .averagePrice (unitOf c i)) (c .units .constrainedHours (unitOf c i)) (bitOf (maskTo (c .events .hours i) (mitigated c i)) h)
         ≡ bid other (mitigated c i h)
     body e = rw (e, bit-mask (c .events .hours i) h (mitigated c i) l) (reads (readsCorrect component) refl (mitigated c i h))
+
+-- the bids in force of event i, whole
+pub bids-by : (u r p s : List ℕ) (correct : References) (i : ℕ) → let c = caseIn u r p s in
+    listTo hours (bidBy (unitsIn u) (eventsIn s) (amountsIn s) i (unitOf c i) (bidLevel (referencesIn r) (eventsIn s) i)
+    (correctLevel correct (eventsIn s) i) (mitigatedMask c i))
+    ≡ listTo hours (bidInForce c correct i)
+unfolding caseIn eventsIn
+bids-by u r p s correct i = list-same hours _ _ (λ h l. bid-by (caseIn u r p s) correct i h l)
 
 -- what the code reads in the cells
 pub bids-read : (u : Units) (s : List ℕ) (i place r k mask : ℕ) → eqb (eventsIn s .kind i) 4 ≡ true

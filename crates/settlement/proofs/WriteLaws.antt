@@ -19,11 +19,11 @@ use Rattle.casefile.proofs.EventLaws.{events-place}
 use Rattle.conduct.specs.Flags.{flagMask}
 use Rattle.conduct.specs.Parties.{bidLevel}
 use Rattle.sanctions.specs.Penalties.{N3, N2, multiplier, penalty}
-use Rattle.default_bids.specs.Mitigation.{mitigatedMask, makeUpOf}
+use Rattle.default_bids.specs.Mitigation.{mitigatedMask, bidInForce, makeUpOf}
 use Rattle.default_bids.specs.Figures.{correctLevel, bidBy}
-use Rattle.default_bids.proofs.FigureLaws.{bid-by}
+use Rattle.default_bids.proofs.FigureLaws.{bids-by}
 use Rattle.settlement.specs.Row.{bidBytes, rowOf}
-use Rattle.settlement.specs.Written.{wordOf, wordsOf, rowBytes, tableBids, tableRow}
+use Rattle.settlement.specs.Written.{wordOf, wordsOf, rowBytes, tableBids, tableSanction, tableRow}
 use Rattle.settlement.specs.declared.rows.Row.{Row}
 
 -- a run of stores after another
@@ -106,15 +106,16 @@ words-bids : (u r p k e : List ℕ) (i : ℕ) → let c = caseIn u r p e in
     wordsOf (listTo hours (bidBy (unitsIn u) (eventsIn e) (amountsIn e) i (unitOf c i) (bidLevel (referencesIn r) (eventsIn e) i)
     (correctLevel (referencesIn k) (eventsIn e) i) (mitigatedMask c i)))
     ≡ bidBytes c (referencesIn k) i
-unfolding wordsOf wordOf bidBytes caseIn eventsIn
+unfolding wordsOf wordOf bidBytes
 words-bids u r p k e i =
-    join-same hours _ _ (λ h l. ap (bytesOf 4) (list-at _ hours h 0 l ∙ bid-by (caseIn u r p e) (referencesIn k) i h l))
+    ap wordsOf (bids-by u r p e (referencesIn k) i)
+    ∙ join-same hours _ _ (λ h l. ap (bytesOf 4) (list-at (bidInForce (caseIn u r p e) (referencesIn k) i) hours h 0 l))
 
 pub row-held : (u r p k e places levels corrects masks mitigated penalties makeUps multipliers n3 n2 : List ℕ) (i : ℕ)
     → RowHeld u r p k e places levels corrects masks mitigated penalties makeUps multipliers n3 n2 i
-    → rowBytes (tableRow masks mitigated penalties makeUps multipliers n3 n2 (tableBids (unitsIn u) (eventsIn e) (amountsIn e) places levels corrects mitigated i) i)
+    → rowBytes (tableRow masks mitigated makeUps (tableSanction penalties multipliers n3 n2 i) (tableBids (unitsIn u) (eventsIn e) (amountsIn e) places levels corrects mitigated i) i)
     ≡ rowOf (caseIn u r p e) (referencesIn k) i
-unfolding rowBytes tableRow tableBids rowOf
+unfolding rowBytes tableRow tableSanction tableBids rowOf
 row-held u r p k e places levels corrects masks mitigated penalties makeUps multipliers n3 n2 i t =
     rw (
       t .place-held,

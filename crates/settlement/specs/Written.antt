@@ -8,6 +8,7 @@ use Rattle.casefile.specs.Layout.{hours}
 use Rattle.casefile.specs.Case.{Units, Events}
 use Rattle.default_bids.specs.Figures.{bidBy}
 use Rattle.settlement.specs.declared.rows.Row.{Row}
+use Rattle.settlement.specs.declared.rows.Sanction.{Sanction}
 
 -- the bid of hour h
 unfoldable pub wordOf : (bids : List ℕ) → ℕ → List ℕ
@@ -34,15 +35,19 @@ unfoldable pub tableBids : Units → Events → (a : ℕ → ℕ → ℕ) → (p
 tableBids u e a places levels corrects mitigated i =
     listTo hours (bidBy u e a i (getD places i 0) (getD levels i 0) (getD corrects i 0) (getD mitigated i 0))
 
-unfoldable pub tableRow : (masks mitigated penalties makeUps multipliers n3 n2 bids : List ℕ) → ℕ → Row
-tableRow masks mitigated penalties makeUps multipliers N3 N2 bids i =
+unfoldable pub tableSanction : (penalties multipliers n3 n2 : List ℕ) → ℕ → Sanction
+tableSanction penalties multipliers N3 N2 i =
+    record { penalty = getD penalties i 0; multiplier = getD multipliers i 0; n3 = getD N3 i 0; n2 = getD N2 i 0 }
+
+unfoldable pub tableRow : (masks mitigated makeUps : List ℕ) → Sanction → (bids : List ℕ) → ℕ → Row
+tableRow masks mitigated makeUps s bids i =
     record {
       flags = getD masks i 0;
       mitigated = getD mitigated i 0;
-      penalty = getD penalties i 0;
+      penalty = s .penalty;
       «make_up» = getD makeUps i 0;
-      multiplier = getD multipliers i 0;
-      n3 = getD N3 i 0;
-      n2 = getD N2 i 0;
+      multiplier = s .multiplier;
+      n3 = s .n3;
+      n2 = s .n2;
       bids = bids;
     }

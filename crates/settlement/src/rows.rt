@@ -14,7 +14,7 @@ ghost use Rattle.sanctions.specs.Penalties.{N3, N2, multiplier, penalty};
 ghost use Rattle.default_bids.specs.Mitigation.{mitigatedMask, makeUpOf};
 ghost use Rattle.default_bids.specs.Figures.{correctLevel};
 ghost use Rattle.settlement.specs.Row.{rowsOf};
-ghost use Rattle.settlement.specs.Written.{wordsOf, rowBytes, tableBids, tableRow};
+ghost use Rattle.settlement.specs.Written.{wordsOf, rowBytes, tableBids, tableSanction, tableRow};
 use binary::bytes::store_u8;
 use binary::bytes::store_u16;
 use binary::bytes::store_u32;
@@ -31,6 +31,14 @@ pub struct Row {
     pub n3: u16,
     pub n2: u16,
     pub bids: [u32; 24],
+}
+
+// What a row says of penalties.
+pub struct Sanction {
+    pub penalty: u64,
+    pub multiplier: u8,
+    pub n3: u16,
+    pub n2: u16,
 }
 
 // The bids in force, from byte 32 on.
@@ -87,35 +95,44 @@ fn bids_at(
     )
 }
 
-// The row of event i, from the tables and its bids in force.
+// The sanction of event i, from the tables.
+fn sanction_at(penalties: &[u64], multipliers: &[u8], n3: &[u16], n2: &[u16], i: usize) -> Sanction
+    requires { ⌜ (i < length (now penalties)) × (i < length (now multipliers)) × (i < length (now n3)) × (i < length (now n2)) ⌝ }
+    ensures { λ r. ⌜ r ≡ tableSanction (now (penalties .entry)) (now (multipliers .entry)) (now (n3 .entry)) (now (n2 .entry)) i ⌝ }
+{
+    Sanction {
+        penalty: penalties[i],
+        multiplier: multipliers[i],
+        n3: n3[i],
+        n2: n2[i],
+    }
+}
+
+// The row of event i, from the tables, its sanction and its bids in force.
 fn row_at(
     masks: &[u32],
     mitigated: &[u32],
-    penalties: &[u64],
     make_ups: &[u64],
-    multipliers: &[u8],
-    n3: &[u16],
-    n2: &[u16],
+    sanction: Sanction,
     bids: [u32; 24],
     i: usize,
 ) -> Row
-    requires { ⌜ (i < length (now masks)) × (i < length (now mitigated)) × (i < length (now penalties)) × (i < length (now «make_ups»)) × (i < length (now multipliers)) × (i < length (now n3)) × (i < length (now n2)) ⌝ }
-    ensures { λ r. ⌜ r ≡ tableRow (now (masks .entry)) (now (mitigated .entry)) (now (penalties .entry)) (now («make_ups» .entry)) (now (multipliers .entry)) (now (n3 .entry)) (now (n2 .entry)) bids i ⌝ }
+    requires { ⌜ (i < length (now masks)) × (i < length (now mitigated)) × (i < length (now «make_ups»)) ⌝ }
+    ensures { λ r. ⌜ r ≡ tableRow (now (masks .entry)) (now (mitigated .entry)) (now («make_ups» .entry)) sanction bids i ⌝ }
 {
     Row {
         flags: masks[i],
         mitigated: mitigated[i],
-        penalty: penalties[i],
+        penalty: sanction.penalty,
         make_up: make_ups[i],
-        multiplier: multipliers[i],
-        n3: n3[i],
-        n2: n2[i],
+        multiplier: sanction.multiplier,
+        n3: sanction.n3,
+        n2: sanction.n2,
         bids,
     }
 }
 
-// Every row, from the tables of the stages before; the bytes beyond the last row stay. The contract says what case the tables
-// are of.
+// Every row, from the tables of the stages before; the bytes beyond the last row stay.
 pub fn write_rows(
     units: &[u8],
     references: &[u8],
@@ -145,17 +162,8 @@ pub fn write_rows(
     let mut i = 0;
     while i < n {
         let bids = bids_at(units, events, places, levels, correct_levels, mitigated, i);
-        let row = row_at(
-            masks,
-            mitigated,
-            penalties,
-            make_ups,
-            multipliers,
-            n3,
-            n2,
-            bids,
-            i,
-        );
+        let sanction = sanction_at(penalties, multipliers, n3, n2, i);
+        let row = row_at(masks, mitigated, make_ups, sanction, bids, i);
         let at = layout::ROW_WIDTH * i;
         let end = at + layout::ROW_WIDTH;
         write_row(&mut rows[at..end], row);

@@ -71,38 +71,35 @@ write-rows-spec =
     ))
     (λ c κs.
     let p = first (c .before .before) .pre .1 .0 in
-    let t = c .before .loop-test .taken in (
-      omega (arith, p .3),
-      omega (arith, p .4),
-      omega (arith, p .5),
-      omega (arith, p .6),
-      omega (arith, p .7),
-      omega (arith, p .8),
-      omega (arith, p .9),
-    ))
-    (λ c. let p = first (c .before .before .before) .pre .0 in omega (arith, p .0))
-    (λ c. let p = first (c .before .before .before) .pre .0 in omega (arith, p .0))
-    (λ c. let p = first (c .before .before .before) .pre .0 in omega (arith, p .0))
-    (λ c. let p = first (c .before .before .before) .pre .0 in omega (arith, p .0, p .2))
-    (λ c. let p = first (c .before .before .before) .pre .0 in omega (arith, p .0, p .2))
+    let t = c .before .loop-test .taken in
+    (omega (arith, p .5), omega (arith, p .7), omega (arith, p .8), omega (arith, p .9)))
     (λ c κs.
-    let p = first (c .before .before .before .before) .pre .0 in
+    let p = first (c .before .before .before) .pre .1 .0 in
+    let t = c .before .before .loop-test .taken in
+    (omega (arith, p .3), omega (arith, p .4), omega (arith, p .6)))
+    (λ c. let p = first (c .before .before .before .before) .pre .0 in omega (arith, p .0))
+    (λ c. let p = first (c .before .before .before .before) .pre .0 in omega (arith, p .0))
+    (λ c. let p = first (c .before .before .before .before) .pre .0 in omega (arith, p .0))
+    (λ c. let p = first (c .before .before .before .before) .pre .0 in omega (arith, p .0, p .2))
+    (λ c. let p = first (c .before .before .before .before) .pre .0 in omega (arith, p .0, p .2))
+    (λ c κs.
+    let p = first (c .before .before .before .before .before) .pre .0 in
     simp (add-sub-cancel-left, length-take, length-drop) (omega (arith, p .2)))
     (λ c.
-    let t = c .before .before .before .before .before .before in
+    let t = c .before .before .before .before .before .before .before in
     omega (arith, t .loop-test .taken, first (t .before) .pre .0 .0))
-    (λ c. let t = c .before .before .before .before .before .before in omega (arith, t .loop-test .taken))
+    (λ c. let t = c .before .before .before .before .before .before .before in omega (arith, t .loop-test .taken))
     (λ c.
     let w = c .before .before in
     let r = w .before .before in
-    let t = r .before .before in
+    let t = r .before .before .before in
     let l = t .before in
     let a = first l .args in (
       omega arith,
       search needs,
       join-part 128 _ (row-length (caseIn (a .units .now) (a .references .now) (a .past .now) (a .events .now)) (referencesIn (a .correct .now)))
           (a .rows .now) (l .loop .rows) (w .write-row .last .0) (l .loop .i) (l .loop .inv .2)
-          (w .write-row .ensures ∙ rw (r .row-at .ensures, r .before .bids-at .ensures) (row-held _ _ _ _ _ _ _ _ _ _ _ _ _ _ _ _ (held t))),
+          (w .write-row .ensures ∙ rw (r .row-at .ensures, r .before .sanction-at .ensures, r .before .before .bids-at .ensures) (row-held _ _ _ _ _ _ _ _ _ _ _ _ _ _ _ _ (held t))),
     ))
     (λ c. c .before .loop .inv .1)
     (λ c.
