@@ -203,6 +203,12 @@ any-at (suc n) i p h e =
     (λ l. any-at n i p l (or-l (anyTo n p) (p n) e))
     (eq-or-lt-of-le (le-of-suc-le-suc h))
 
+-- no index passes
+pub any-false : (n : ℕ) (p : ℕ → Bool) → ((i : ℕ) → i < n → p i ≡ false) → anyTo n p ≡ false
+unfolding anyTo
+any-false zero p h = refl
+any-false (suc n) p h = rw (any-false n p (λ i l. h i (omega arith)), h n (omega arith))
+
 -- where some index passes, the last one does
 pub last-holds : (n : ℕ) (p : ℕ → Bool) → anyTo n p ≡ true → p (lastTo n p) ≡ true
 unfolding anyTo lastTo

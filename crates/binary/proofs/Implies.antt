@@ -2,7 +2,7 @@
 -- what a test that holds or fails says of its parts.
 use mathlib.Core.Bool.{Bool, true, false, cond, not, _&&_, _||_}
 use mathlib.Core.Logic.{_⊎_, inl, inr}
-use mathlib.Core.Path.{_≡_, refl}
+use mathlib.Core.Path.{_≡_, refl, sym}
 use Prim.Native.Nat.{ℕ, _*_, _≤_, zero-le}
 use native.Mathlib.Nat.{le-refl, mul-le-mul-left, mul-le-mul-right}
 use native.Mathlib.Omega.{arith}
@@ -88,6 +88,12 @@ T→true false t = absurd t
 pub true→T : (b : Bool) → b ≡ true → T b
 true→T b e = rw e tt
 
+-- two tests that imply each other are equal
+pub same-test : (a b : Bool) → (a ≡ true → b ≡ true) → (b ≡ true → a ≡ true) → a ≡ b
+same-test true b f g = sym (f refl)
+same-test false true f g = g refl
+same-test false false f g = refl
+
 -- the parts of an && that holds, and of an || that fails
 pub and-l : (x y : Bool) → (x && y) ≡ true → x ≡ true
 and-l true y h = refl
@@ -119,7 +125,3 @@ and-right false b t = absurd t
 pub or-cases : (a b : Bool) → T (a || b) → T a ⊎ T b
 or-cases true b t = inl tt
 or-cases false b t = inr t
-
-pub cond-cases : (b p q : Bool) → T (cond b p q) → (T b × T p) ⊎ (T (not b) × T q)
-cond-cases true p q t = inl (tt, t)
-cond-cases false p q t = inr (tt, t)

@@ -1,14 +1,16 @@
--- Masks: a mask is below 2 ^ n, bit i of the mask of p is p i, and one turn of the loop that builds a mask.
+-- Masks: a mask is below 2 ^ n, bit i of the mask of p is p i, a mask is 0 where no i passes, and one turn of the loop that builds a mask.
 use Prim.Native.Nat.{ℕ, zero, suc, _+_, _-_, _*_, _/_, _%_, _^_, _≤_, _<_, zero-le}
-use mathlib.Core.Bool.{Bool, true, false, cond}
+use mathlib.Core.Bool.{Bool, true, false, cond, _&&_, _||_}
 use mathlib.Core.Path.{_≡_, refl, sym, ap, ap₂, subst, _∙_}
 use mathlib.Core.Logic.{⊎-elim}
 use native.Mathlib.Numerals.{add-one}
 use native.Mathlib.Omega.{arith}
-use native.Mathlib.Nat.{add-zero, mul-comm, div-eq-of-lt, add-div-right, add-mul-div-left, add-mul-mod-self-left, pow-suc, le-refl, lt-of-lt-of-le, eq-or-lt-of-le, le-of-suc-le-suc, not-suc-le-zero}
-use lib.Dec.{eqb, lit<}
+use native.Mathlib.Nat.{add-zero, mul-comm, mod-lt, div-add-mod, div-eq-of-lt, add-div-right, add-mul-div-left, add-mul-mod-self-left, mul-le-mul-left, pow-suc, le-refl, lt-of-lt-of-le, eq-or-lt-of-le, le-of-suc-le-suc, not-suc-le-zero}
+use lib.Bits.{bitAnd, and-shr, and-mod}
+use lib.Dec.{ltb, eqb, lit<}
 use lib.Pow.{pow-pos, pow-add, pow-mono}
-use Rattle.binary.specs.Bounded.{maskTo, bitOf}
+use borrow.Author.Tests.{lt-ltb}
+use Rattle.binary.specs.Bounded.{anyTo, maskTo, bitOf}
 
 pub mask-none : (p : ℕ → Bool) → 0 ≡ maskTo 0 p
 unfolding maskTo
@@ -62,6 +64,60 @@ bit-mask (suc n) i p l =
     (λ q. subst (λ (k : ℕ). eqb ((maskTo n p + cond (p n) (2 ^ n) 0) / 2 ^ k % 2) 1 ≡ p k) (sym q) (top (maskTo n p) n (p n) (mask-lt n p)))
     (λ k. kept (maskTo n p) i n (p n) k ∙ bit-mask n i p k)
     (eq-or-lt-of-le (le-of-suc-le-suc l))
+
+-- some bit is set where the mask is above 0
+pub mask-any : (n : ℕ) (p : ℕ → Bool) → anyTo n p ≡ ltb 0 (maskTo n p)
+unfolding anyTo maskTo
+mask-any zero p = refl
+mask-any (suc n) p = ap (λ (b : Bool). b || p n) (mask-any n p) ∙ go (maskTo n p) (p n)
+  where
+    go : (k : ℕ) (b : Bool) → (ltb 0 k || b) ≡ ltb 0 (k + cond b (2 ^ n) 0)
+    go zero true = let w : 0 < 2 ^ n = pow-pos n in sym (lt-ltb 0 (0 + 2 ^ n) (omega arith))
+    go zero false = refl
+    go (suc k) b = rw (lt-ltb 0 (suc k) (omega arith)) (sym (lt-ltb 0 (suc k + cond b (2 ^ n) 0) (omega arith)))
+
+mask-top : (n m low : ℕ) (b : Bool) → low < 2 ^ n → m ≡ low + cond b (2 ^ n) 0 → maskTo n (bitOf low) ≡ low → maskTo (suc n) (bitOf m) ≡ m
+unfolding maskTo bitOf
+mask-top n m low b small e rest =
+    let bits : maskTo n (bitOf m) ≡ low =
+    mask-same n (bitOf m) (bitOf low) (λ i k. ap (λ (x : ℕ). bitOf x i) e ∙ kept low i n b k) ∙ rest in
+    let last : bitOf m n ≡ b = ap (λ (x : ℕ). bitOf x n) e ∙ top low n b small in
+    ap₂ (λ (x : ℕ) (t : Bool). x + cond t (2 ^ n) 0) bits last ∙ sym e
+
+-- a number is the mask of its bits
+pub mask-bits : (n m : ℕ) → m < 2 ^ n → maskTo n (bitOf m) ≡ m
+unfolding maskTo
+mask-bits zero m l = omega arith
+mask-bits (suc n) m l = go (m / 2 ^ n) refl (mask-bits n (m % 2 ^ n) small)
+  where
+    small : m % 2 ^ n < 2 ^ n
+    small = mod-lt m (pow-pos n)
+
+    go : (q : ℕ) → m / 2 ^ n ≡ q → maskTo n (bitOf (m % 2 ^ n)) ≡ m % 2 ^ n → maskTo (suc n) (bitOf m) ≡ m
+    go zero e rest =
+        let d : 2 ^ n * 0 + m % 2 ^ n ≡ m = rw e at (div-add-mod m (2 ^ n)) in
+        mask-top n m (m % 2 ^ n) false small (omega arith) rest
+    go (suc zero) e rest =
+        let d : 2 ^ n * 1 + m % 2 ^ n ≡ m = rw e at (div-add-mod m (2 ^ n)) in
+        mask-top n m (m % 2 ^ n) true small (omega arith) rest
+    go (suc (suc q)) e rest =
+        let d : 2 ^ n * suc (suc q) + m % 2 ^ n ≡ m = rw e at (div-add-mod m (2 ^ n)) in
+        let more : 2 ^ n * 2 ≤ 2 ^ n * suc (suc q) = mul-le-mul-left (2 ^ n) (omega arith) in
+        absurd (omega (arith, pow-suc 2 n))
+
+-- a bit that both numbers have
+pub bit-and : (a b i : ℕ) → bitOf (bitAnd a b) i ≡ (bitOf a i && bitOf b i)
+unfolding bitOf
+bit-and a b i =
+    rw (and-shr a b i, and-mod (a / 2 ^ i) (b / 2 ^ i) 1)
+    (go (a / 2 ^ i % 2) (b / 2 ^ i % 2) (mod-lt (a / 2 ^ i) (lit< tt)) (mod-lt (b / 2 ^ i) (lit< tt)))
+  where
+    go : (x y : ℕ) → x < 2 → y < 2 → eqb (bitAnd x y) 1 ≡ (eqb x 1 && eqb y 1)
+    go zero y l k = refl
+    go (suc zero) zero l k = refl
+    go (suc zero) (suc zero) l k = refl
+    go (suc zero) (suc (suc y)) l k = absurd (omega arith)
+    go (suc (suc x)) y l k = absurd (omega arith)
 
 -- one turn of the loop that builds a mask of at most 31 bits with a weight that doubles
 pub record MaskTurn (i mask weight x : ℕ) (p : ℕ → Bool) : Type 0 where

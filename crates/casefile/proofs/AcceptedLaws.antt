@@ -14,10 +14,10 @@ use Rattle.binary.proofs.Implies.{and-l, and-r}
 use Rattle.binary.proofs.BoundedLaws.{all-at, any-true}
 use Rattle.casefile.specs.Layout.{sectionCount, headerWidth, longestFile, unitWidth, referenceWidth, pastWidth, eventWidth, mostUnits, mostReferences, mostPast, mostEvents, rowWidth}
 use Rattle.casefile.specs.Decode.{caseIn, lengthOf, sectionOf, FollowOn, HasSection, unitsIn, referencesIn, pastIn, eventsIn, amountsIn, decode}
-use Rattle.casefile.specs.Lookup.{isUnit, isListed, placeOf, unitOf, hasReference, levelOf, correctReferences, correctIn, referenceOf}
-use Rattle.casefile.specs.Refusal.{sizeFine, sizesFine, rises, unitFine, unitsFine, highestReference, referenceKey, referenceFine, referencesFine, correctionFine, entryFine, pastFine, hourFine, eventFine, eventsFine, eventKey, orderFine, eventListed, eventsListed, withinCapability, amountFine, amountsFine, readsCorrect, referenceFound, referencesFound, rowsFine, eventsRefusal, refusal}
+use Rattle.casefile.specs.Lookup.{isUnit, isListed, placeOf, unitOf, hasReference, levelOf, Rising, InOrder, correctReferences, correctIn, referenceOf}
+use Rattle.casefile.specs.Refusal.{sizeFine, sizesFine, rises, unitFine, unitsFine, highestReference, referenceFine, referencesFine, correctionFine, entryFine, pastFine, hourFine, eventFine, eventsFine, eventKey, orderFine, eventListed, eventsListed, withinCapability, amountFine, amountsFine, readsCorrect, referenceFound, referencesFound, rowsFine, eventsRefusal, refusal}
 use Rattle.casefile.proofs.LookupLaws.{listed-place, listed-number}
-use Rattle.casefile.proofs.RangeLaws.{or-right, of-kind, UnitRange, ReferenceRange, ViolationRange, EventRange, CellRange, unit-range, reference-range, violation-range, event-range, cell-range, level-bound, rising}
+use Rattle.casefile.proofs.RangeLaws.{or-right, of-kind, UnitRange, ReferenceRange, ViolationRange, EventRange, CellRange, unit-range, reference-range, violation-range, event-range, cell-range, level-bound, rising, references-in-order, correct-in-order}
 use Rattle.casefile.proofs.RefusalLaws as stages
 use Rattle.casefile.proofs.RefusalLaws.{HeaderFine, RecordsFine, EventsFine}
 
@@ -133,7 +133,7 @@ module _ (f k : List ℕ) (n : ℕ) (h : refusal f k n ≡ 0) where
   unfolding decode caseIn
   unit-ranges i l = unit-range (sectionOf f 0) i (unit-fine i l)
 
-  pub units-rise : (i j : ℕ) → i < j → j < decode f .units .count → decode f .units .number i < decode f .units .number j
+  pub units-rise : Rising (decode f .units .number) (decode f .units .count)
   unfolding decode caseIn unitFine
   units-rise i j l m = rising (unitsIn (sectionOf f 0) .number) _ (λ x lx. let t = unit-fine x lx in search (and-l, and-r)) i j l m
 
@@ -172,9 +172,8 @@ module _ (f k : List ℕ) (n : ℕ) (h : refusal f k n ≡ 0) where
   unfolding decode caseIn
   reference-ranges i l = reference-range (unitsIn (sectionOf f 0)) (sectionOf f 1) i (reference-fine i l)
 
-  pub references-rise : (i j : ℕ) → i < j → j < decode f .references .count → referenceKey (decode f .references) i < referenceKey (decode f .references) j
-  unfolding decode caseIn referenceFine
-  references-rise i j l m = rising (referenceKey (referencesIn (sectionOf f 1))) _ (λ x lx. let t = reference-fine x lx in search (and-l, and-r)) i j l m
+  pub references-rise : InOrder (sectionOf f 1)
+  references-rise = references-in-order (unitsIn (sectionOf f 0)) (sectionOf f 1) (records .references-fine)
 
   correction-reference-fine : (i : ℕ) → i < referencesIn k .count → referenceFine (decode f .units) k i ≡ true
   unfolding decode caseIn correctionFine referencesFine
@@ -196,10 +195,8 @@ module _ (f k : List ℕ) (n : ℕ) (h : refusal f k n ≡ 0) where
   unfolding correctIn
   correct-ranges i l = reference-range (decode f .units) (correctReferences k (sectionOf f 1)) i (correct-fine i l)
 
-  pub correct-rise : (i j : ℕ) → i < j → j < correctIn f k .count → referenceKey (correctIn f k) i < referenceKey (correctIn f k) j
-  unfolding correctIn referenceFine
-  correct-rise i j l m =
-      rising (referenceKey (referencesIn (correctReferences k (sectionOf f 1)))) _ (λ x lx. let t = correct-fine x lx in search (and-l, and-r)) i j l m
+  pub correct-rise : InOrder (correctReferences k (sectionOf f 1))
+  correct-rise = correct-in-order (unitsIn (sectionOf f 0)) k (sectionOf f 1) (records .references-fine) (records .correction-fine)
 
   pub correct-count : correctIn f k .count ≤ mostReferences
   unfolding correctIn correctReferences decode caseIn
@@ -235,7 +232,7 @@ module _ (f k : List ℕ) (n : ℕ) (h : refusal f k n ≡ 0) where
       let u = event-fine i l in search and-r in
       cell-range _ _ _ _ _ (all-at (decode f .events .hours i) x (hourFine (decode f .events) (decode f .a) i) m t)
 
-  pub events-rise : (i j : ℕ) → i < j → j < decode f .events .count → eventKey (decode f .events) i < eventKey (decode f .events) j
+  pub events-rise : Rising (eventKey (decode f .events)) (decode f .events .count)
   unfolding decode caseIn orderFine
   events-rise i j l m =
       rising (eventKey (eventsIn (sectionOf f 3))) _

@@ -12,9 +12,10 @@ use Rattle.casefile.specs.Layout.{eventWidth, cellsOffset, hours}
 use Rattle.casefile.specs.Case.{Units, Events}
 use Rattle.casefile.specs.Decode.{recordAt, eventsIn, amountsIn}
 use Rattle.casefile.specs.Lookup.{placeOf}
-use Rattle.casefile.specs.Refusal.{fieldsFine, hourFine, eventFine, eventsFine, eventListed, eventsListed, withinCapability}
-use Rattle.casefile.specs.Read.{cellOf, cellFineAt, amountWithin, eventOf, readIf, readEvent}
+use Rattle.casefile.specs.Refusal.{fieldsFine, hourFine, eventFine, eventsFine, eventListed, eventsListed, withinCapability, unless}
+use Rattle.casefile.specs.Read.{cellOf, cellFineAt, amountWithin, eventOf, numberOf, readIf, readEvent}
 use Rattle.casefile.specs.declared.events.Event.{Event}
+use Rattle.casefile.specs.declared.events.EventRead.{EventRead}
 use Rattle.casefile.specs.declared.events.EventRead.the-variants.{Event as Readable, Unreadable}
 use Rattle.casefile.proofs.RecordLaws.{rest}
 use Rattle.casefile.proofs.LookupLaws.{listed-place}
@@ -56,6 +57,14 @@ read-is s i e r fields cells b same f part t d =
   where
     o : Event
     o = eventOf (eventsIn s) i
+
+pub read-number : (s : List ℕ) (i : ℕ) (a : EventRead) → a ≡ readEvent s i → numberOf a ≡ unless (eventFine (eventsIn s) (amountsIn s) i) 10 0
+unfolding readEvent numberOf readIf
+read-number s i a h = ap numberOf h ∙ go (eventFine (eventsIn s) (amountsIn s) i)
+  where
+    go : (b : Bool) → numberOf (readIf b (eventOf (eventsIn s) i)) ≡ unless b 10 0
+    go true = refl
+    go false = refl
 
 readable-of : (b : Bool) (e e′ : Event) → readIf b e ≡ Readable e′ → b ≡ true
 unfolding readIf

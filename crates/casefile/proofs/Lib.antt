@@ -1,5 +1,6 @@
 pub mod RecordLaws
 pub mod LookupLaws
+pub mod SearchLaws
 pub mod RangeLaws
 pub mod EventLaws
 pub mod RefusalLaws

@@ -1,22 +1,24 @@
 -- What the tests of records and cells say: each field's range, and the strict orders.
-use Prim.Native.Nat.{ℕ, zero, suc, _-_, _^_, _≤_, _<_}
-use mathlib.Core.Bool.{Bool, true, false, not, _&&_, _||_}
+use Prim.Native.Nat.{ℕ, zero, suc, _-_, _/_, _^_, _≤_, _<_}
+use mathlib.Core.Bool.{Bool, true, false, cond, not, _&&_, _||_}
 use mathlib.Core.List.{List}
 use mathlib.Core.Logic.{_⊎_, inl, inr, ⊎-elim}
 use mathlib.Core.Path.{_≡_, refl, sym, ap, subst}
 use native.Mathlib.Nat.{eq-or-lt-of-le, le-of-suc-le-suc, not-suc-le-zero}
 use native.Mathlib.Omega.{arith}
 use lib.Dec.{ltb, leb, eqb}
+use lib.ListN.{length}
 use borrow.Author.Tests.{ltb-true, leb-true, eqb-true, eq-eqb, ne-eqb, le-ltb, lt-leb}
 use Rattle.binary.specs.Bounded.{lastTo}
 use Rattle.binary.specs.Word.{positivePart, negativePart, within}
 use Rattle.binary.proofs.Implies.{and-l, and-r}
-use Rattle.binary.proofs.BoundedLaws.{last-holds}
+use Rattle.binary.proofs.BoundedLaws.{all-at, last-holds}
 use Rattle.binary.proofs.WordLaws.{within-positive, within-negative}
+use Rattle.casefile.specs.Layout.{referenceWidth}
 use Rattle.casefile.specs.Case.{Units, References, Violation, Events}
 use Rattle.casefile.specs.Decode.{unitsIn, referencesIn}
-use Rattle.casefile.specs.Lookup.{isListed, isReference, hasReference, levelOf}
-use Rattle.casefile.specs.Refusal.{rises, unitFieldsFine, unitFine, highestReference, referenceFieldsFine, referenceFine, violationFine, maskFine, quantitiesFine, fieldsFine, bidFine, cellFine, eventFine}
+use Rattle.casefile.specs.Lookup.{isListed, isReference, hasReference, levelOf, referenceKey, Rising, InOrder, correctReferences}
+use Rattle.casefile.specs.Refusal.{referencesFine, correctionFine, rises, unitFieldsFine, unitFine, highestReference, referenceFieldsFine, referenceFine, violationFine, maskFine, quantitiesFine, fieldsFine, bidFine, cellFine, eventFine}
 use Rattle.casefile.proofs.LookupLaws.{last-below}
 
 -- ---- tests
@@ -206,7 +208,7 @@ level-bound u r unit component ranges h =
 -- ---- strict orders
 
 -- a key that rises at each place below n rises from any place to any later one
-pub rising : (key : ℕ → ℕ) (n : ℕ) → ((j : ℕ) → j < n → rises key j ≡ true) → (i j : ℕ) → i < j → j < n → key i < key j
+pub rising : (key : ℕ → ℕ) (n : ℕ) → ((j : ℕ) → j < n → rises key j ≡ true) → Rising key n
 unfolding rises
 rising key n h i zero l m = absurd (not-suc-le-zero l)
 rising key n h i (suc j) l m =
@@ -220,3 +222,18 @@ rising key n h i (suc j) l m =
         let e : suc j - 1 ≡ j = omega arith in
         ltb-true (key j) (key (suc j))
         (rw e at (or-right (eqb (suc j) 0) (ltb (key (suc j - 1)) (key (suc j))) (h (suc j) m) (ne-eqb (suc j) 0 (λ q. omega arith))))
+
+pub references-in-order : (u : Units) (s : List ℕ) → referencesFine u s ≡ true → InOrder s
+unfolding referencesFine referenceFine referencesIn
+references-in-order u s h =
+    rising (referenceKey (referencesIn s)) (length s / referenceWidth)
+    (λ j l. let t = all-at (length s / referenceWidth) j (referenceFine u s) l h in search (and-l, and-r))
+
+pub correct-in-order : (u : Units) (correction own : List ℕ) → referencesFine u own ≡ true → correctionFine u correction ≡ true
+    → InOrder (correctReferences correction own)
+unfolding correctReferences correctionFine
+correct-in-order u correction own h k = go (eqb (length correction) 0)
+  where
+    go : (b : Bool) → InOrder (cond b own correction)
+    go true = references-in-order u own h
+    go false = references-in-order u correction (search (and-l, and-r))

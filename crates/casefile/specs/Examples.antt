@@ -8,8 +8,8 @@ use Rattle.binary.specs.Bytes.{valueAt, bytesOf}
 use Rattle.binary.specs.Word.{positivePart, negativePart, within}
 use Rattle.casefile.specs.Layout.{version, sectionCount, headerWidth}
 use Rattle.casefile.specs.Decode.{offsetOf, lengthOf, sectionOf, recordAt, unitsIn, referencesIn, violationIn, pastIn, eventsIn, amountsIn}
-use Rattle.casefile.specs.Lookup.{isUnit, isListed, placeOf, isReference, hasReference, correctReferences}
-use Rattle.casefile.specs.Refusal.{lengthFine, versionFine, sectionsFine, pairsFine, sizeFine, sizesFine, rises, unitFieldsFine, unitSpareFine, unitFine, unitsFine, referenceFieldsFine, referenceKey, referenceFine, referencesFine, correctionFine, violationFine, entryFine, pastFine, maskFine, quantitiesFine, fieldsFine, bidFine, cellFine, hourFine, eventFine, eventsFine, eventKey, orderFine, eventListed, eventsListed, withinCapability, amountFine, amountsFine, readsCorrect, referenceFound, referencesFound, rowsFine, headerRefusal, recordsRefusal, eventsRefusal, refusal}
+use Rattle.casefile.specs.Lookup.{isUnit, isListed, placeOf, isReference, referenceKey, hasReference, correctReferences}
+use Rattle.casefile.specs.Refusal.{lengthFine, versionFine, sectionsFine, pairsFine, sizeFine, sizesFine, rises, unitFieldsFine, unitSpareFine, unitFine, unitsFine, referenceFieldsFine, referenceFine, referencesFine, correctionFine, violationFine, entryFine, pastFine, maskFine, quantitiesFine, fieldsFine, bidFine, cellFine, hourFine, eventFine, eventsFine, eventKey, orderFine, eventListed, eventsListed, withinCapability, amountFine, amountsFine, readsCorrect, referenceFound, referencesFound, rowsFine, headerRefusal, recordsRefusal, eventsRefusal, refusal}
 
 -- a file with this version, section count and first offset, and these lengths for its pairs
 unfoldable pub headed : (version sections first units references past events : ℕ) → List ℕ → List ℕ
@@ -47,7 +47,7 @@ withheld market unit a = eventBytes 1 market unit 44 1 8000 a 4000
 unfoldable pub listing : List ℕ
 listing = fileOf units [] [] (withheld 0 12 501)
 
--- accepted: the empty case, the listing's case, and one with every section and a correction; then the table's examples in number order
+-- accepted: the empty case, the listing's case, and one with every section and a correction; then the table's examples in number order, and four easy to get wrong
 pub record Examples : Type 0 where
   pub empty-case : refusal (fileOf [] [] [] []) [] 0 ≡ 0
   pub listing-case : refusal listing [] 128 ≡ 0
@@ -67,6 +67,10 @@ pub record Examples : Type 0 where
   pub above-capability : refusal (fileOf units [] [] (withheld 0 12 5001)) [] 128 ≡ 13
   pub no-references : refusal (fileOf units [] [] (eventBytes 4 0 12 44 0 8000 2500 3000)) [] 128 ≡ 14
   pub rows-short : refusal listing [] 127 ≡ 15
+  pub wrapped-pairs : refusal (headed 1 4 36 4294967260 36 0 0 []) [] 0 ≡ 4
+  pub largest-amount : refusal (fileOf units [] [] (withheld 0 12 4294967295)) [] 128 ≡ 13
+  pub correction-first : refusal (fileOf units [] (entryBytes 1 2 0 44 8000) []) (replicate 7 0) 0 ≡ 8
+  pub reading-first : refusal (fileOf units [] [] (withheld 0 12 501 ++ withheld 0 12 501 ++ withheld 2 12 501)) [] 384 ≡ 10
 
 pub examples : Examples
 unfolding headed fileOf unitBytes referenceBytes entryBytes eventBytes units withheld listing anyTo allTo lastTo valueAt bytesOf positivePart negativePart within offsetOf lengthOf sectionOf recordAt unitsIn referencesIn violationIn pastIn eventsIn amountsIn isUnit isListed placeOf isReference hasReference correctReferences lengthFine versionFine sectionsFine pairsFine sizeFine sizesFine rises unitFieldsFine unitSpareFine unitFine unitsFine referenceFieldsFine referenceKey referenceFine referencesFine correctionFine violationFine entryFine pastFine maskFine quantitiesFine fieldsFine bidFine cellFine hourFine eventFine eventsFine eventKey orderFine eventListed eventsListed withinCapability amountFine amountsFine readsCorrect referenceFound referencesFound rowsFine headerRefusal recordsRefusal eventsRefusal refusal
@@ -90,4 +94,8 @@ examples =
       above-capability = refl;
       no-references = refl;
       rows-short = refl;
+      wrapped-pairs = refl;
+      largest-amount = refl;
+      correction-first = refl;
+      reading-first = refl;
     }

@@ -1,11 +1,12 @@
 -- A unit found by its number, and a reference by its unit and component. Numbers and references strictly rise (checks 6 to 8),
 -- so that the last match is the only one.
-use Prim.Native.Nat.{ℕ}
+use Prim.Native.Nat.{ℕ, _+_, _*_, _/_, _≤_, _<_}
 use mathlib.Core.Bool.{Bool, cond, _&&_}
 use mathlib.Core.List.{List}
 use lib.Dec.{eqb}
 use lib.ListN.{length}
 use Rattle.binary.specs.Bounded.{anyTo, lastTo}
+use Rattle.casefile.specs.Layout.{referenceWidth}
 use Rattle.casefile.specs.Case.{Units, References, Case}
 use Rattle.casefile.specs.Decode.{referencesIn, sectionOf}
 
@@ -37,6 +38,25 @@ hasReference r unit component = anyTo (r .count) (isReference r unit component)
 -- the reference level of a unit and component
 unfoldable pub levelOf : References → (unit component : ℕ) → ℕ
 levelOf r unit component = r .value (lastTo (r .count) (isReference r unit component))
+
+-- the order of references: by unit, then component
+unfoldable pub referenceKey : References → ℕ → ℕ
+referenceKey r i = 256 * r .unit i + r .component i
+
+-- keys strictly rise below n
+abbrev pub Rising : (key : ℕ → ℕ) (n : ℕ) → Type 0
+Rising key n = (i j : ℕ) → i < j → j < n → key i < key j
+
+-- the references of a section stand in their order
+abbrev pub InOrder : (references : List ℕ) → Type 0
+InOrder s = Rising (referenceKey (referencesIn s)) (length s / referenceWidth)
+
+-- every key before lo is below the target, and none from hi on is
+pub record Between (key : ℕ → ℕ) (n target lo hi : ℕ) : Type 0 where
+  pub order : lo ≤ hi
+  pub end : hi ≤ n
+  pub before : (j : ℕ) → j < lo → key j < target
+  pub after : (j : ℕ) → hi ≤ j → j < n → target ≤ key j
 
 -- the correction slice where it isn't empty, otherwise the case's own reference section (document 01, Default bids and make-up)
 unfoldable pub correctReferences : (correction own : List ℕ) → List ℕ

@@ -39,6 +39,11 @@ eventOf e i =
       r = e .R i;
     }
 
+-- the refusal's number of an answer
+unfoldable pub numberOf : EventRead → ℕ
+numberOf (Readable e) = 0
+numberOf Unreadable = 10
+
 -- the fields where the test passes
 unfoldable pub readIf : Bool → Event → EventRead
 readIf true e = Readable e

@@ -10,7 +10,7 @@ use Rattle.binary.specs.Word.{within}
 use Rattle.casefile.specs.Layout.{version, sectionCount, headerWidth, longestFile, unitWidth, referenceWidth, pastWidth, eventWidth, mostUnits, mostReferences, mostPast, mostEvents, rowWidth}
 use Rattle.casefile.specs.Case.{Units, References, Violation, Events}
 use Rattle.casefile.specs.Decode.{offsetOf, lengthOf, sectionOf, recordAt, unitsIn, referencesIn, pastIn, eventsIn, amountsIn}
-use Rattle.casefile.specs.Lookup.{isListed, placeOf, hasReference, correctReferences}
+use Rattle.casefile.specs.Lookup.{isListed, placeOf, referenceKey, hasReference, correctReferences}
 
 -- 1: the length
 unfoldable pub lengthFine : List ℕ → Bool
@@ -71,10 +71,6 @@ highestReference component = cond (leb component 2) 1000000 1000000000
 
 unfoldable pub referenceFieldsFine : (component value : ℕ) → Bool
 referenceFieldsFine component value = leb component 8 && leb value (highestReference component)
-
--- the order of references: by unit, then component
-unfoldable pub referenceKey : References → ℕ → ℕ
-referenceKey r i = 256 * r .unit i + r .component i
 
 unfoldable pub referenceFine : Units → List ℕ → ℕ → Bool
 referenceFine u s i =

@@ -1,5 +1,6 @@
 // The check of a whole case, in number order.
 ghost use mathlib.Core.Path.{_≡_};
+ghost use Rattle.casefile.specs.Lookup.{InOrder};
 ghost use Rattle.casefile.specs.Refusal.{recordsRefusal, eventsRefusal, refusal};
 use crate::events::amounts_fine;
 use crate::events::events_listed;
@@ -38,6 +39,7 @@ fn events_refusal(
     events: &[u8],
     rows_length: usize,
 ) -> u8
+    requires { ⌜ InOrder (now references) × InOrder (now correct) ⌝ }
     ensures { λ r. ⌜ r ≡ eventsRefusal (now (units .entry)) (now (references .entry)) (now (correct .entry)) (now (events .entry)) «rows_length» ⌝ }
 {
     let unreadable = reading_refusal(events);

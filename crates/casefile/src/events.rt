@@ -5,9 +5,9 @@ ghost use Prim.Native.Nat.{_/_, _<_, _≤_};
 ghost use lib.ListN.{length};
 ghost use Rattle.casefile.specs.Layout.{eventWidth, hours};
 ghost use Rattle.casefile.specs.Decode.{unitsIn, referencesIn, eventsIn, amountsIn};
-ghost use Rattle.casefile.specs.Lookup.{isListed};
-ghost use Rattle.casefile.specs.Refusal.{quantitiesFine, fieldsFine, eventsFine, rises, eventKey, orderFine, eventListed, eventsListed, amountFine, amountsFine, readsCorrect, referenceFound, referencesFound, unless};
-ghost use Rattle.casefile.specs.Read.{eventOf, readEvent};
+ghost use Rattle.casefile.specs.Lookup.{InOrder};
+ghost use Rattle.casefile.specs.Refusal.{quantitiesFine, fieldsFine, eventFine, eventsFine, rises, eventKey, orderFine, eventListed, eventsListed, amountFine, amountsFine, readsCorrect, referenceFound, referencesFound, unless};
+ghost use Rattle.casefile.specs.Read.{eventOf, numberOf, readEvent};
 use crate::cells::amounts_within;
 use crate::cells::cells_fine;
 use crate::layout;
@@ -101,7 +101,7 @@ fn fields_fine(
 // Event i, where its fields and its cells are in their ranges.
 pub fn read_event(events: &[u8], i: usize) -> EventRead
     requires { ⌜ i < length (now events) / eventWidth ⌝ }
-    ensures { λ r. ⌜ r ≡ readEvent (now (events .entry)) i ⌝ }
+    ensures { λ r. ⌜ (r ≡ readEvent (now (events .entry)) i) × (numberOf r ≡ unless (eventFine (eventsIn (now (events .entry))) (amountsIn (now (events .entry))) i) 10 0) ⌝ }
 {
     let e = event_at(events, i);
     let fields = fields_fine(
@@ -237,7 +237,7 @@ fn reads_correct(component: u8) -> bool
 
 // Whether event i, of kind 4, has its reference, and the correct one where it is read.
 fn reference_found(references: &[u8], correct: &[u8], events: &[u8], i: usize) -> bool
-    requires { ⌜ i < length (now events) / eventWidth ⌝ }
+    requires { ⌜ (i < length (now events) / eventWidth) × InOrder (now references) × InOrder (now correct) ⌝ }
     ensures { λ r. ⌜ r ≡ referenceFound (referencesIn (now (references .entry))) (referencesIn (now (correct .entry))) (eventsIn (now (events .entry))) i ⌝ }
 {
     let event = record_at(events, i, layout::EVENT_WIDTH);
@@ -253,6 +253,7 @@ fn reference_found(references: &[u8], correct: &[u8], events: &[u8], i: usize) -
 }
 
 pub fn references_found(references: &[u8], correct: &[u8], events: &[u8]) -> bool
+    requires { ⌜ InOrder (now references) × InOrder (now correct) ⌝ }
     ensures { λ r. ⌜ r ≡ referencesFound (referencesIn (now (references .entry))) (referencesIn (now (correct .entry))) (eventsIn (now (events .entry))) ⌝ }
 {
     let n = events.len() / layout::EVENT_WIDTH;

@@ -1,11 +1,12 @@
 // References: checks 7 and 8, look-ups, and the correct references.
+ghost use mathlib.Core.Bool.{true};
 ghost use mathlib.Core.Path.{_≡_};
-ghost use Prim.Native.Nat.{_/_, _<_};
+ghost use Prim.Native.Nat.{_+_, _*_, _/_, _<_};
 ghost use lib.ListN.{length};
 ghost use Rattle.casefile.specs.Layout.{referenceWidth};
 ghost use Rattle.casefile.specs.Decode.{unitsIn, referencesIn};
-ghost use Rattle.casefile.specs.Lookup.{isReference, hasReference, correctReferences};
-ghost use Rattle.casefile.specs.Refusal.{referenceFieldsFine, referenceKey, referenceFine, referencesFine, correctionFine};
+ghost use Rattle.casefile.specs.Lookup.{hasReference, levelOf, referenceKey, InOrder, Between, correctReferences};
+ghost use Rattle.casefile.specs.Refusal.{referenceFieldsFine, referenceFine, referencesFine, correctionFine};
 use crate::layout;
 use crate::records::place_before;
 use crate::records::record_at;
@@ -15,6 +16,7 @@ use binary::bytes::load_u8;
 use binary::bytes::load_u16;
 use binary::bytes::load_u32;
 use binary::numbers::choose_u32;
+use binary::numbers::choose_usize;
 
 // The correction slice where it isn't empty, otherwise the case's own reference section.
 pub fn correct_references<'a>(correction: &'a [u8], own: &'a [u8]) -> &'a [u8]
@@ -34,7 +36,13 @@ fn reference_fields_fine(component: u8, value: u32) -> bool
     (component <= 8) & (value <= highest)
 }
 
-// The place of reference i in the order, by unit and component.
+// The order of references: by unit, then component.
+fn key_of(unit: u16, component: u8) -> u32
+    ensures { λ r. ⌜ r ≡ 256 * unit + component ⌝ }
+{
+    256 * (unit as u32) + (component as u32)
+}
+
 fn reference_key(references: &[u8], i: usize) -> u32
     requires { ⌜ i < length (now references) / referenceWidth ⌝ }
     ensures { λ r. ⌜ r ≡ referenceKey (referencesIn (now (references .entry))) i ⌝ }
@@ -42,7 +50,7 @@ fn reference_key(references: &[u8], i: usize) -> u32
     let reference = record_at(references, i, layout::REFERENCE_WIDTH);
     let unit = load_u16(reference, 0);
     let component = load_u8(reference, 2);
-    256 * (unit as u32) + (component as u32)
+    key_of(unit, component)
 }
 
 fn reference_fine(units: &[u8], references: &[u8], i: usize) -> bool
@@ -88,25 +96,40 @@ pub fn correction_fine(units: &[u8], correction: &[u8]) -> bool
     false
 }
 
-fn is_reference(references: &[u8], unit: u16, component: u8, j: usize) -> bool
-    requires { ⌜ j < length (now references) / referenceWidth ⌝ }
-    ensures { λ r. ⌜ r ≡ isReference (referencesIn (now (references .entry))) unit component j ⌝ }
+// The first place whose key is not below this one: the stretch where it stands is halved each time.
+fn reference_from(references: &[u8], key: u32) -> usize
+    requires { ⌜ InOrder (now references) ⌝ }
+    ensures { λ r. ⌜ Between (referenceKey (referencesIn (now (references .entry)))) (length (now (references .entry)) / referenceWidth) key r r ⌝ }
 {
-    let reference = record_at(references, j, layout::REFERENCE_WIDTH);
-    let here = load_u16(reference, 0);
-    let of = load_u8(reference, 2);
-    (here == unit) & (of == component)
+    let mut lo = 0;
+    let mut hi = references.len() / layout::REFERENCE_WIDTH;
+    while lo < hi {
+        let middle = lo + (hi - lo) / 2;
+        let below = reference_key(references, middle) < key;
+        lo = choose_usize(below, middle + 1, lo);
+        hi = choose_usize(below, hi, middle);
+    }
+    lo
 }
 
 pub fn has_reference(references: &[u8], unit: u16, component: u8) -> bool
+    requires { ⌜ InOrder (now references) ⌝ }
     ensures { λ r. ⌜ r ≡ hasReference (referencesIn (now (references .entry))) unit component ⌝ }
 {
-    let n = references.len() / layout::REFERENCE_WIDTH;
-    let mut found = false;
-    let mut j = 0;
-    while j < n {
-        found = found | is_reference(references, unit, component, j);
-        j += 1;
+    let key = key_of(unit, component);
+    let at = reference_from(references, key);
+    if at < references.len() / layout::REFERENCE_WIDTH {
+        return reference_key(references, at) == key;
     }
-    found
+    false
+}
+
+// The reference level of a unit and component that is there.
+pub fn reference_level(references: &[u8], unit: u16, component: u8) -> u32
+    requires { ⌜ InOrder (now references) × (hasReference (referencesIn (now references)) unit component ≡ true) ⌝ }
+    ensures { λ r. ⌜ r ≡ levelOf (referencesIn (now (references .entry))) unit component ⌝ }
+{
+    let key = key_of(unit, component);
+    let at = reference_from(references, key);
+    load_u32(record_at(references, at, layout::REFERENCE_WIDTH), 4)
 }

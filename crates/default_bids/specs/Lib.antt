@@ -1,1 +1,2 @@
 pub mod Mitigation
+pub mod Figures

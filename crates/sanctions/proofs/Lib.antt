@@ -1,1 +1,7 @@
 pub mod PenaltyBounds
+pub mod TableLaws
+pub mod PartyLaws
+pub mod PriorLaws
+pub mod AcceptedLaws
+pub mod FoundLaws
+pub mod WholeFile

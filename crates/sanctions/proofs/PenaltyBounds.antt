@@ -1,6 +1,6 @@
 -- Every multiplier and penalty of a case in its ranges is small enough for its field of the row.
 use Prim.Native.Nat.{ℕ, _+_, _-_, _*_, _^_, _≤_, _<_, zero-le}
-use mathlib.Core.Bool.{Bool, cond, _&&_, _||_}
+use mathlib.Core.Bool.{Bool, cond, _&&_}
 use mathlib.Core.Path.{_≡_, _∙_}
 use native.Mathlib.Nat.{mul-le-mul, mul-le-mul-right, sub-le}
 use native.Mathlib.Omega.{arith}
@@ -11,9 +11,8 @@ use Rattle.binary.proofs.Implies.{cond-bound, and-left}
 use Rattle.binary.proofs.BoundedLaws.{sum-bound}
 use Rattle.tariff.specs.Sanctions.{cents, ladder, withheldPenalty, dispatchPenalty, fuelCharge, fuelPenalty}
 use Rattle.casefile.specs.Case.{Case}
-use Rattle.casefile.specs.Lookup.{groupOf}
 use Rattle.conduct.specs.Flags.{together, sumTogether, fuelFlag, flagged}
-use Rattle.sanctions.specs.Penalties.{flaggedWithImpact, isInstance, instances, withheldMultiplier, withheldAmount, withheldPenaltyOf, dispatchMultiplier, dispatchRevenue, dispatchPenaltyOf, energyPart, gain, loss, tccChange, lowestUnit, fuelMultiplierAfter, fuelPenaltyUnder, priorFuel, pastFuel, fuelMultiplier, fuelPenaltyOf, multiplier, penalty}
+use Rattle.sanctions.specs.Penalties.{flaggedWithImpact, isInstance, instances, withheldMultiplier, withheldAmount, withheldPenaltyOf, dispatchMultiplier, dispatchRevenue, dispatchPenaltyOf, energyPart, gain, loss, tccChange, lowestUnit, fuelMultiplierAfter, fuelPenaltyUnder, fuelMultiplier, fuelPenaltyOf, multiplier, penalty}
 
 -- the ranges of an accepted case that its penalties depend on
 pub record Ranges (c : Case) : Type 0 where

@@ -1,1 +1,3 @@
 pub mod Penalties
+pub mod Tables
+pub mod Found

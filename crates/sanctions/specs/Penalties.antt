@@ -25,7 +25,7 @@ countsHere c k i j =
     isInstance c j && eqb (groupOf c j) (groupOf c i) && eqb (c .events .market j) (c .events .market i)
     && periodCounts k (c .events .period i) (c .events .period j)
 
--- so is a past entry of kind 1
+-- a past entry of kind 1 counts likewise
 unfoldable pub countsPast : Case → (k i : ℕ) → Violation → Bool
 countsPast c k i v =
     eqb (v .kind) 1 && eqb (v .group) (groupOf c i) && eqb (v .market) (c .events .market i)

@@ -1,51 +1,37 @@
 -- What stands in a row of the settled rows buffer: its flag mask, penalty and multiplier.
-use Prim.Native.Nat.{ℕ, zero, suc, _+_, _*_, _^_, _≤_, _<_}
-use mathlib.Core.Bool.{Bool, true, cond}
-use mathlib.Core.List.{List, [], _∷_, _++_, append-assoc}
-use mathlib.Core.Logic.{_⊎_, inl, inr}
-use mathlib.Core.Path.{_≡_, refl, sym, _∙_, ap, ap₂}
-use native.Mathlib.Nat.{add-zero, add-assoc, lt-of-lt-of-le, not-suc-le-zero, eq-or-lt-of-le, le-of-suc-le-suc}
+use Prim.Native.Nat.{ℕ, _+_, _*_, _^_, _≤_, _<_}
+use mathlib.Core.List.{List, _++_}
+use mathlib.Core.Path.{_≡_, refl, sym, _∙_, subst}
+use native.Mathlib.Nat.{add-zero, add-assoc, mul-suc, mul-le-mul-left}
 use native.Mathlib.Omega.{arith}
-use lib.Dec.{eqb}
 use lib.ListN.{length, drop, length-append, List·getD-append}
 use borrow.Author.Tests.{eq-eqb}
 use Rattle.binary.specs.Bytes.{byteAt, valueAt, u32At, u64At, bytesOf}
-use Rattle.binary.proofs.ByteLaws.{value-one, value-same, value-skip, byte-skip, bytes-length, bytes-read}
+use Rattle.binary.specs.Lists.{joinTo}
+use Rattle.binary.proofs.ByteLaws.{value-one, value-same, value-skip, bytes-length, bytes-read}
+use Rattle.binary.proofs.ListLaws.{join-length, join-at}
 use Rattle.casefile.specs.Layout.{hours, rowWidth}
 use Rattle.casefile.specs.Case.{References, Case}
 use Rattle.casefile.specs.Decode.{decode}
 use Rattle.casefile.specs.Lookup.{correctIn}
 use Rattle.casefile.specs.Refusal.{refusal}
 use Rattle.conduct.specs.Flags.{flagMask}
-use Rattle.sanctions.specs.Penalties.{N3, N2, multiplier, penalty}
+use Rattle.sanctions.specs.Penalties.{multiplier, penalty}
 use Rattle.default_bids.specs.Mitigation.{mitigatedMask, bidInForce, makeUpOf}
-use Rattle.settlement.specs.Row.{joinTo, bidBytes, rowOf, rowsOf}
-use Rattle.settlement.specs.Settled.{Answer, accepted, refused, answerOf, rowsAfter, Settled, settled}
+use Rattle.settlement.specs.Row.{bidBytes, rowOf, rowsOf}
+use Rattle.settlement.specs.Settled.{accepted, answerOf, rowsAfter, settled}
 
-pub join-length : (m n : ℕ) (f : ℕ → List ℕ) → ((i : ℕ) → length (f i) ≡ m) → length (joinTo n f) ≡ m * n
-unfolding joinTo
-join-length m zero f h = omega arith
-join-length m (suc n) f h = length-append (joinTo n f) (f n) ∙ ap₂ _+_ (join-length m n f h) (h n) ∙ omega arith
-
-pub join-byte : (m n : ℕ) (f : ℕ → List ℕ) → ((i : ℕ) → length (f i) ≡ m) → (zs : List ℕ) (i j : ℕ) → i < n → j < m
+-- byte j of stretch i, of stretches of m bytes
+join-byte : (m n : ℕ) (f : ℕ → List ℕ) → ((i : ℕ) → length (f i) ≡ m) → (zs : List ℕ) (i j : ℕ) → i < n → j < m
     → byteAt (joinTo n f ++ zs) (m * i + j) ≡ byteAt (f i) j
-unfolding joinTo
-join-byte m zero f h zs i j l lj = absurd (not-suc-le-zero l)
-join-byte m (suc n) f h zs i j l lj =
-    ap (λ (s : List ℕ). byteAt s (m * i + j)) (append-assoc (joinTo n f) (f n) zs)
-    ∙ go (λ k. join-byte m n f h (f n ++ zs) i j k lj) (eq-or-lt-of-le (le-of-suc-le-suc l))
-  where
-    go : (i < n → byteAt (joinTo n f ++ (f n ++ zs)) (m * i + j) ≡ byteAt (f i) j) → (i ≡ n) ⊎ (i < n)
-        → byteAt (joinTo n f ++ (f n ++ zs)) (m * i + j) ≡ byteAt (f i) j
-    go ih (inl e) =
-        rw e (byte-skip (m * n) (joinTo n f) (f n ++ zs) j (join-length m n f h)
-        ∙ List·getD-append (f n) zs 0 j (omega (arith, h n)))
-    go ih (inr k) = ih k
+join-byte m n f h zs i j l lj =
+    let r : m * i + m ≤ m * n = subst (λ (x : ℕ). x ≤ m * n) (mul-suc m i) (mul-le-mul-left m l) in
+    List·getD-append (joinTo n f) zs 0 (m * i + j) (rw (join-length m f h n) (omega arith)) ∙ join-at m f h n i j l lj
 
 module _ (c : Case) (k : References) where
   bids-length : (i : ℕ) → length (bidBytes c k i) ≡ 4 * hours
   unfolding bidBytes
-  bids-length i = join-length 4 hours (λ h. bytesOf 4 (bidInForce c k i h)) (λ h. bytes-length 4 (bidInForce c k i h))
+  bids-length i = join-length 4 (λ h. bytesOf 4 (bidInForce c k i h)) (λ h. bytes-length 4 (bidInForce c k i h)) hours
 
   pub row-length : (i : ℕ) → length (rowOf c k i) ≡ rowWidth
   unfolding rowOf

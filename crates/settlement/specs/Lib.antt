@@ -1,3 +1,3 @@
 pub mod Row
 pub mod Settled
-pub mod Examples
+pub mod Written

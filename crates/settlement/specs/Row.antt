@@ -1,18 +1,14 @@
 -- A row of the rows buffer, and the buffer (document 01, Rows and listing).
-use Prim.Native.Nat.{ℕ, zero, suc, _*_}
-use mathlib.Core.List.{List, [], _++_}
+use Prim.Native.Nat.{ℕ, _*_}
+use mathlib.Core.List.{List, _++_}
 use lib.ListN.{drop}
 use Rattle.binary.specs.Bytes.{bytesOf}
+use Rattle.binary.specs.Lists.{joinTo}
 use Rattle.casefile.specs.Layout.{hours, rowWidth}
 use Rattle.casefile.specs.Case.{References, Case}
 use Rattle.conduct.specs.Flags.{flagMask}
 use Rattle.sanctions.specs.Penalties.{N3, N2, multiplier, penalty}
 use Rattle.default_bids.specs.Mitigation.{mitigatedMask, bidInForce, makeUpOf}
-
--- f 0, .. , f (n - 1), one after the other
-unfoldable pub joinTo : ℕ → (ℕ → List ℕ) → List ℕ
-joinTo zero f = []
-joinTo (suc n) f = joinTo n f ++ f n
 
 -- @32, the bids in force
 unfoldable pub bidBytes : Case → (correct : References) → ℕ → List ℕ

@@ -1,1 +1,2 @@
 // The settlement of a case into rows.
+pub mod rows;

@@ -1,24 +1,23 @@
 -- What an accepted case is known to keep: its pairs follow on, it is short, and its amounts are in their ranges.
-use Prim.Native.Nat.{ℕ, zero, suc, _+_, _*_, _/_, _%_, _≤_, _<_}
-use mathlib.Core.Bool.{Bool, true, false, cond, not, _&&_, _||_}
+use Prim.Native.Nat.{ℕ, zero, suc, _+_, _/_, _≤_, _<_}
+use mathlib.Core.Bool.{Bool, true, false, cond, _&&_, _||_}
 use mathlib.Core.List.{List}
-use mathlib.Core.Path.{_≡_, refl, sym, _∙_, ap, subst}
+use mathlib.Core.Path.{_≡_, refl, subst}
 use native.Mathlib.Nat.{le-trans, suc-ne-zero, le-refl}
 use native.Mathlib.Omega.{arith}
-use lib.Dec.{ltb, leb, eqb}
+use lib.Dec.{leb, eqb}
 use lib.ListN.{length}
 use borrow.Author.Tests.{leb-true, eqb-true, le-ltb}
-use Rattle.binary.specs.Bounded.{anyTo, allTo, lastTo}
+use Rattle.binary.specs.Bounded.{anyTo, allTo}
 use Rattle.binary.specs.Word.{positivePart, within}
 use Rattle.binary.proofs.Implies.{and-l, and-r}
 use Rattle.binary.proofs.BoundedLaws.{all-at, last-bound}
 use Rattle.binary.proofs.ByteLaws.{stretch-length}
 use Rattle.binary.proofs.WordLaws.{within-positive}
-use Rattle.casefile.specs.Layout.{headerWidth, longestFile, unitWidth, referenceWidth, pastWidth, eventWidth, mostUnits, mostReferences, mostPast, mostEvents}
-use Rattle.casefile.specs.Case.{Units, Events}
-use Rattle.casefile.specs.Decode.{caseIn, offsetOf, lengthOf, sectionOf, FollowOn, recordAt, unitsIn, referencesIn, eventsIn, amountsIn, decode}
-use Rattle.casefile.specs.Lookup.{isUnit, isListed, placeOf, correctReferences}
-use Rattle.casefile.specs.Refusal.{lengthFine, versionFine, sectionsFine, pairsFine, sizeFine, sizesFine, rises, unitFieldsFine, unitSpareFine, unitFine, unitsFine, referencesFine, correctionFine, pastFine, quantitiesFine, fieldsFine, cellFine, hourFine, eventFine, eventsFine, orderFine, eventListed, eventsListed, withinCapability, amountFine, amountsFine, referencesFound, rowsFine, headerRefusal, recordsRefusal, eventsRefusal, refusal}
+use Rattle.casefile.specs.Layout.{headerWidth, longestFile, eventWidth, mostEvents}
+use Rattle.casefile.specs.Decode.{caseIn, offsetOf, lengthOf, sectionOf, FollowOn, unitsIn, eventsIn, amountsIn, decode}
+use Rattle.casefile.specs.Lookup.{isUnit, isListed, placeOf}
+use Rattle.casefile.specs.Refusal.{lengthFine, versionFine, sectionsFine, pairsFine, sizeFine, sizesFine, unitFieldsFine, unitFine, unitsFine, referencesFine, correctionFine, pastFine, quantitiesFine, fieldsFine, cellFine, hourFine, eventFine, eventsFine, orderFine, eventListed, eventsListed, withinCapability, amountFine, amountsFine, headerRefusal, recordsRefusal, eventsRefusal, refusal}
 use Rattle.sanctions.proofs.PenaltyBounds.{Ranges}
 
 pass : (t : Bool) (n m : ℕ) → cond t m (suc n) ≡ 0 → (t ≡ true) × (m ≡ 0)

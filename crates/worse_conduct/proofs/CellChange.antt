@@ -1,22 +1,22 @@
 -- A worse a, written into one cell of the file: the pairs follow on as before, and the case is worse.
 use Prim.Native.Nat.{ℕ, _+_, _-_, _*_, _/_, _^_, _≤_, _<_}
-use mathlib.Core.Bool.{Bool, true, false, cond, not, _&&_, _||_}
+use mathlib.Core.Bool.{Bool, true, false, cond}
 use mathlib.Core.List.{List}
 use mathlib.Core.Logic.{_≢_, _⊎_, inl, inr}
 use mathlib.Core.Path.{_≡_, refl, sym, _∙_, ap, ap₂, subst, subst₂}
 use native.Mathlib.Nat.{le-refl}
 use native.Mathlib.Decide.{ℕ-discrete}
 use native.Mathlib.Omega.{arith}
-use lib.Dec.{T, ltb, eqb, ltb→lt, eqb→eq, T-not, eqb-refl}
+use lib.Dec.{T, ltb, ltb→lt, leb→le, eqb→eq}
+use borrow.Author.Tests.{eq-eqb, ne-eqb}
 use lib.ListN.{length, take, drop}
 use Rattle.binary.specs.Bytes.{byteAt, valueAt, u32At}
 use Rattle.binary.specs.Word.{positivePart, negativePart}
-use Rattle.binary.proofs.Implies.{and-left, and-right, or-cases, cond-cases, true→T}
+use Rattle.binary.proofs.Implies.{and-left, and-right, or-cases, true→T}
 use Rattle.binary.proofs.ByteLaws.{value-one, stretch-length}
 use Rattle.casefile.specs.Layout.{eventWidth, hours}
-use Rattle.casefile.specs.Case.{Events}
 use Rattle.casefile.specs.Decode.{caseIn, offsetOf, lengthOf, sectionOf, FollowOn, recordAt, unitsIn, referencesIn, pastIn, cellAt, eventsIn, amountsIn, decode}
-use Rattle.worse_conduct.specs.Changes.{cellPlace, cellWritten, moreWithheld, lowerBid, worseBid, worseAmount, WorseCell}
+use Rattle.worse_conduct.specs.Changes.{cellPlace, cellWritten, moreWithheld, lowerBid, movedBid, worseBid, worseAmount, WorseCell}
 use Rattle.worse_conduct.proofs.StoredWord.{Stored, sets-stored, value-apart, stretch-apart, stretch-stored}
 use Rattle.worse_conduct.proofs.WorseCase.{WorseAmounts, MoreEntries, Worse, entries-refl}
 
@@ -40,8 +40,13 @@ lower-positive x y t = go (one-sign x) (one-sign y)
     go (inr p) (inl q) = omega (arith, ltb→lt)
     go (inr p) (inr q) = omega (arith, ltb→lt)
 
-not-eq : (m n : ℕ) → T (not (eqb m n)) → m ≢ n
-not-eq m n t e = T-not (eqb m n) t (subst (λ (k : ℕ). T (eqb m k)) e (eqb-refl m))
+moved-higher : (component x w : ℕ) → component ≢ 8 → T (movedBid component x w) → positivePart 32 x ≤ positivePart 32 w
+unfolding movedBid
+moved-higher component x w n t = lower-positive x w (rw (ne-eqb component 8 n) at t)
+
+moved-lower : (component x w : ℕ) → component ≡ 8 → T (movedBid component x w) → positivePart 32 w ≤ positivePart 32 x
+unfolding movedBid
+moved-lower component x w e t = lower-positive w x (rw (eq-eqb component 8 e) at t)
 
 -- what w is against the x before it, for an event of that kind and component
 record WorseThan (kind component x w : ℕ) : Type 0 where
@@ -54,39 +59,25 @@ more-withheld : (kind component x w : ℕ) → T (moreWithheld kind x w) → Wor
 unfolding moreWithheld
 more-withheld kind component x w t =
     let l : x < w = ltb→lt x w (search and-right) in
-    let k : kind ≤ 2 = low (or-cases (eqb kind 1) (eqb kind 2) (search and-left)) in
+    let k : kind ≤ 2 = leb→le kind 2 (search (and-left, and-right)) in
     record {
       withheld = λ _. omega arith;
       fuel = λ e. absurd (omega arith);
       higher = λ e n. absurd (omega arith);
       lower = λ e n. absurd (omega arith);
     }
-  where
-    low : T (eqb kind 1) ⊎ T (eqb kind 2) → kind ≤ 2
-    low (inl s) = omega (arith, eqb→eq)
-    low (inr s) = omega (arith, eqb→eq)
 
 worse-bid : (kind component x w : ℕ) → T (worseBid kind component x w) → WorseThan kind component x w
 unfolding worseBid
 worse-bid kind component x w t =
     let k : kind ≡ 4 = eqb→eq kind 4 (search and-left) in
-    let s = cond-cases (eqb component 8) (lowerBid w x) (lowerBid x w) (search and-right) in
+    let m : T (movedBid component x w) = search and-right in
     record {
       withheld = λ l. absurd (omega arith);
       fuel = λ e. absurd (omega arith);
-      higher = λ e n. up n s;
-      lower = λ e n. down n s;
+      higher = λ e n. moved-higher component x w n m;
+      lower = λ e n. moved-lower component x w n m;
     }
-  where
-    up : component ≢ 8 → (T (eqb component 8) × T (lowerBid w x)) ⊎ (T (not (eqb component 8)) × T (lowerBid x w))
-        → positivePart 32 x ≤ positivePart 32 w
-    up n (inl s) = absurd (n (eqb→eq component 8 (s .0)))
-    up n (inr s) = lower-positive x w (s .1)
-
-    down : component ≡ 8 → (T (eqb component 8) × T (lowerBid w x)) ⊎ (T (not (eqb component 8)) × T (lowerBid x w))
-        → positivePart 32 w ≤ positivePart 32 x
-    down n (inl s) = lower-positive w x (s .1)
-    down n (inr s) = absurd (not-eq component 8 (s .0) n)
 
 worse-than : (kind component x w : ℕ) → T (worseAmount kind component x w) → WorseThan kind component x w
 unfolding worseAmount

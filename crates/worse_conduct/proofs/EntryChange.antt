@@ -1,20 +1,17 @@
 -- One past entry more in the file: the pairs follow on as before, and the case is worse.
-use Prim.Native.Nat.{ℕ, zero, suc, _+_, _-_, _*_, _/_, _^_, _≤_, _<_}
-use mathlib.Core.Bool.{Bool}
-use mathlib.Core.List.{List, [], _∷_, _++_}
+use Prim.Native.Nat.{ℕ, _+_, _-_, _*_, _/_, _^_, _≤_, _<_}
+use mathlib.Core.List.{List}
 use mathlib.Core.Logic.{_≢_}
-use mathlib.Core.Path.{_≡_, refl, sym, _∙_, ap, ap₂, subst}
+use mathlib.Core.Path.{_≡_, sym, _∙_, ap, ap₂, subst}
 use native.Mathlib.Omega.{arith}
 use lib.ListN.{length, take, drop, length-append, length-take, length-drop, List·getD-append}
 use lib.Seq.{sets, getD-take, getD-drop, getD-append-add, length-take-le}
-use Rattle.binary.specs.Bounded.{countTo}
-use Rattle.binary.specs.Bytes.{byteAt, valueAt, bytesOf}
+use Rattle.binary.specs.Bytes.{byteAt, bytesOf}
 use Rattle.binary.proofs.BoundedLaws.{count-insert}
 use Rattle.binary.proofs.ByteLaws.{value-same, stretch-length, stretch-byte, stretch-same}
 use Rattle.casefile.specs.Layout.{headerWidth, longestFile, pastWidth}
-use Rattle.casefile.specs.Case.{Violation}
 use Rattle.casefile.specs.Decode.{caseIn, offsetOf, lengthOf, sectionOf, FollowOn, recordAt, unitsIn, referencesIn, violationIn, pastIn, eventsIn, amountsIn, decode}
-use Rattle.worse_conduct.specs.Changes.{Change, entry, entryPlace, entryPut, longerPast, laterEvents, headerMoved, apply, OneMoreEntry}
+use Rattle.worse_conduct.specs.Changes.{entry, entryPlace, entryPut, longerPast, laterEvents, headerMoved, apply, OneMoreEntry}
 use Rattle.worse_conduct.proofs.StoredWord.{Stored, sets-stored, value-apart}
 use Rattle.worse_conduct.proofs.WorseCase.{WorseAmounts, MoreEntries, Worse, amounts-refl}
 

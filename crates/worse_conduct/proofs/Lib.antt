@@ -5,4 +5,4 @@ pub mod CellChange
 pub mod EntryChange
 pub mod AcceptedCase
 pub mod WorseConduct
-pub mod Examples
+pub mod EachPart

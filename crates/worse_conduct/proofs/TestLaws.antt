@@ -1,15 +1,15 @@
 -- The tests, the ladder and the penalties on plain numbers are monotone: a worse a, a larger sum, count or multiplier keeps a
 -- flag and lowers no figure.
-use Prim.Native.Nat.{ℕ, _+_, _-_, _*_, _/_, _≤_, _<_, min}
-use mathlib.Core.Bool.{Bool, true, false, cond, not, _&&_, _||_}
+use Prim.Native.Nat.{ℕ, _+_, _-_, _*_, _/_, _≤_, _<_}
+use mathlib.Core.Bool.{Bool, true, false, cond, _&&_}
 use mathlib.Core.Logic.{_≢_}
 use mathlib.Core.Path.{_≡_, refl, sym, _∙_, ap}
-use native.Mathlib.Nat.{le-refl, mul-le-mul, mul-le-mul-left, mul-le-mul-right, mul-add, add-sub-of-le, div-mul-le-self, le-div-iff-mul-le}
+use native.Mathlib.Nat.{mul-le-mul, mul-le-mul-left, mul-le-mul-right, mul-add, add-sub-of-le, div-mul-le-self, le-div-iff-mul-le}
 use native.Mathlib.Omega.{arith}
 use borrow.Author.Tests.{ltb-true, ltb-false}
 use lib.Dec.{T, ltb, leb, eqb, ltb→lt, lt→ltb, leb→le, eqb→eq}
 use Rattle.binary.specs.Word.{positivePart}
-use Rattle.binary.proofs.Implies.{_⇒_, mono, and-given, or-mono, choice-le, and-left, and-right}
+use Rattle.binary.proofs.Implies.{_⇒_, mono, and-given, or-mono, and-right}
 use Rattle.tariff.specs.Threshold.{thresholdOf}
 use Rattle.tariff.specs.declared.threshold.Threshold.{Threshold}
 use Rattle.tariff.specs.Conduct.{increase, lowerTest, constrainedTest, percentTest, timeTest, maximumTest, bidTest, withheldTest, dispatchTest}

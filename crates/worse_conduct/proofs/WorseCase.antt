@@ -1,18 +1,17 @@
 -- Demand 3 on decoded cases: what the changes leave of a case, and that no figure of the worse case is smaller.
 use Prim.Native.Nat.{ℕ, zero, suc, _+_, _-_, _*_, _≤_, _<_}
-use mathlib.Core.Bool.{Bool, true, false, cond, _&&_, _||_}
+use mathlib.Core.Bool.{Bool, true, false, cond, _&&_}
 use mathlib.Core.Logic.{_≢_}
 use mathlib.Core.Path.{_≡_, refl, sym, _∙_, ap, subst, subst₃}
-use native.Mathlib.Nat.{le-refl, le-trans, lt-of-lt-of-le, mul-le-mul-right, add-le-add}
+use native.Mathlib.Nat.{le-refl, le-trans, mul-le-mul-right, add-le-add}
 use native.Mathlib.Decide.{decLt}
 use native.Mathlib.Omega.{arith}
-use lib.Dec.{T, ltb, leb, eqb, leb→le, eqb→eq}
-use Rattle.binary.specs.Bounded.{sumTo, countTo, anyTo, maskTo, bitOf}
+use lib.Dec.{eqb, leb→le, eqb→eq}
+use Rattle.binary.specs.Bounded.{countTo, maskTo, bitOf}
 use Rattle.binary.specs.Word.{positivePart, negativePart}
 use Rattle.binary.proofs.Implies.{_⇒_, mono, keep, and-given, or-mono, ltb-mono, cond-mono, cond-le, cond-same, count-le, choice-le, and-left, and-right, T→true, true→T}
 use Rattle.binary.proofs.BoundedLaws.{sum-mono, sum-same, count-mono, any-mono, any-count}
 use Rattle.binary.proofs.MaskLaws.{bit-mask, bit-past, mask-lt}
-use Rattle.tariff.specs.Sanctions.{fuelPenalty}
 use Rattle.casefile.specs.Case.{Units, References, Violation, Past, Events, Case}
 use Rattle.casefile.specs.Lookup.{unitOf, groupOf, referenceOf}
 use Rattle.conduct.specs.Flags.{tight, together, sumTogether, timeBid, timeTotal, bidFlag, groupCapability, groupSum, withheldFlag, dispatchFlag, fuelFlag, flagged, flagMask}

@@ -1,30 +1,29 @@
 -- Demand 3, one theorem for every list of changes.
-use Prim.Native.Nat.{ℕ, _+_, _*_, _^_, _≤_, _<_}
-use mathlib.Core.Bool.{true}
+use Prim.Native.Nat.{ℕ, _+_, _^_, _≤_, _<_}
 use mathlib.Core.List.{List, [], _∷_}
 use mathlib.Core.Path.{_≡_, sym, _∙_, ap, subst₂}
 use native.Mathlib.Nat.{le-refl, le-trans, lt-of-lt-of-le}
 use native.Mathlib.Omega.{arith}
-use lib.ListN.{length, take, drop, length-append, length-take, length-drop}
+use lib.ListN.{length, length-append, length-take, length-drop}
 use lib.Pow.{pow-mono}
 use lib.Seq.{length-sets}
 use Rattle.binary.specs.Bounded.{bitOf}
 use Rattle.binary.proofs.MaskLaws.{mask-lt}
-use Rattle.casefile.specs.Layout.{longestFile, pastWidth}
+use Rattle.casefile.specs.Layout.{longestFile}
 use Rattle.casefile.specs.Case.{References, Case}
 use Rattle.casefile.specs.Decode.{FollowOn, decode}
 use Rattle.casefile.specs.Lookup.{correctIn}
 use Rattle.conduct.specs.Flags.{flagged, flagMask}
 use Rattle.sanctions.proofs.PenaltyBounds.{Ranges, multiplier-bound, penalty-bound}
 use Rattle.settlement.specs.Row.{rowsOf}
-use Rattle.settlement.specs.Settled.{accepted, Settled, settled}
+use Rattle.settlement.specs.Settled.{accepted}
 use Rattle.settlement.proofs.RowLaws.{rows-flags, rows-multiplier, rows-penalty, settled-accepted}
 use Rattle.worse_conduct.specs.Changes.{Change, cell, entry, cellWritten, entryPut, headerMoved, apply, applyAll, Takes, TakesAll}
-use Rattle.worse_conduct.specs.Promise.{EnergyNotNegative, NoSmaller, WorseConduct}
+use Rattle.worse_conduct.specs.Promise.{NoSmaller, WorseConduct}
 use Rattle.worse_conduct.proofs.WorseCase.{Worse, worse-refl, worse-trans, Figures, worse-figures}
 use Rattle.worse_conduct.proofs.CellChange.{cell-follow, cell-worse}
 use Rattle.worse_conduct.proofs.EntryChange.{entry-follow, entry-worse}
-use Rattle.worse_conduct.proofs.AcceptedCase.{AcceptedCase, accepted-case}
+use Rattle.worse_conduct.proofs.AcceptedCase.{accepted-case}
 
 -- ---- the list
 
@@ -95,7 +94,7 @@ rows-worse f f′ k rows rows′ r r′ w =
           let p′ = rows-penalty c′ q′ rows′ i (later i l) (omega arith) in
           let z = w .penalties i l in
           omega arith;
-      total = w .total;
+      total = omega (arith, w .total);
     }
   where
     c : Case

@@ -4,7 +4,7 @@ use Prim.Native.Nat.{ℕ, _+_, _*_, _^_, _≤_, _<_}
 use mathlib.Core.Bool.{Bool, true, cond, _&&_, _||_}
 use mathlib.Core.List.{List, [], _∷_, _++_}
 use mathlib.Core.Path.{_≡_}
-use lib.Dec.{ltb, eqb}
+use lib.Dec.{ltb, leb, eqb}
 use lib.ListN.{length, take, drop}
 use lib.Seq.{sets}
 use Rattle.binary.specs.Bytes.{bytesOf}
@@ -60,15 +60,19 @@ applyAll (x ∷ xs) f = applyAll xs (apply x f)
 
 -- kinds 1 and 2: a higher a, more MW withheld or undelivered
 unfoldable pub moreWithheld : (kind x w : ℕ) → Bool
-moreWithheld kind x w = (eqb kind 1 || eqb kind 2) && ltb x w
+moreWithheld kind x w = leb 1 kind && leb kind 2 && ltb x w
 
 -- of two bids, signed words, x is the lower
 unfoldable pub lowerBid : (x y : ℕ) → Bool
 lowerBid x y = ltb (positivePart 32 x + negativePart 32 y) (positivePart 32 y + negativePart 32 x)
 
--- kind 4: a higher a, of component 8 a lower
+-- a higher a, of component 8 a lower
+unfoldable pub movedBid : (component x w : ℕ) → Bool
+movedBid component x w = cond (eqb component 8) (lowerBid w x) (lowerBid x w)
+
+-- kind 4: a bid moved further
 unfoldable pub worseBid : (kind component x w : ℕ) → Bool
-worseBid kind component x w = eqb kind 4 && cond (eqb component 8) (lowerBid w x) (lowerBid x w)
+worseBid kind component x w = eqb kind 4 && movedBid component x w
 
 -- w against the x that stands there at that moment
 unfoldable pub worseAmount : (kind component x w : ℕ) → Bool

@@ -2,7 +2,8 @@ use mathlib.Core.Path.{_≡_, sym, _∙_}
 use native.Mathlib.Omega.{arith}
 use Rattle.casefile.specs.Decode.{sectionOf}
 use Rattle.casefile.specs.Refusal.{headerRefusal, recordsRefusal}
-use Rattle.casefile.proofs.RefusalLaws.{HeaderFine, header-fine, has-section, refusal-header, refusal-records, refusal-events}
+use Rattle.casefile.proofs.RangeLaws.{references-in-order, correct-in-order}
+use Rattle.casefile.proofs.RefusalLaws.{HeaderFine, RecordsFine, header-fine, records-fine, has-section, refusal-header, refusal-records, refusal-events}
 use Rattle.casefile.proofs.check.check.Statement.{statement}
 use Rattle.casefile.proofs.check.check.Tie as tie
 
@@ -28,6 +29,13 @@ records c =
       c .before .before .before .section .ensures,
     )
 
+fine-records : (c : tie.After-records-refusal) → c .records-refusal .result ≡ 0
+    → RecordsFine (sectionOf (c .before .before .before .before .before .before .before .before .args .file .now) 0)
+    (sectionOf (c .before .before .before .before .before .before .before .before .args .file .now) 1)
+    (c .before .before .before .before .before .before .before .before .args .correction .now)
+    (sectionOf (c .before .before .before .before .before .before .before .before .args .file .now) 2)
+fine-records c e = records-fine _ _ _ _ 0 (sym (records c) ∙ e) .0
+
 pub check-spec : {M : Type 1} → statement M
 check-spec =
     tie.close
@@ -41,7 +49,12 @@ check-spec =
     (λ c. refusal-records _ _ _ _ (header (c .before .before .before .before .before)) (records (c .before)) (c .if2 .taken))
     (λ c κs. has-section _ (fine (c .before .before .before .before .before)) 3 (omega arith))
     (λ c κs. tt)
-    (λ c κs. tt)
+    (λ c κs.
+    let r = c .before .before .before in
+    let f = fine-records r (c .before .before .if2 .left) in (
+      rw (r .before .before .section2 .ensures) (references-in-order _ _ (f .references-fine)),
+      rw (c .correct-references .ensures, r .before .before .section2 .ensures) (correct-in-order _ _ _ (f .references-fine) (f .correction-fine)),
+    ))
     (λ c.
     let r = c .before .before .before .before in
     let o = r .before .before .before in

@@ -42,7 +42,7 @@ events-refusal-spec =
       sym (c .before .events-listed .ensures) ∙ not-true _ (c .if3 .taken),
     ))
     (λ c κs. listed c)
-    (λ c κs. tt)
+    (λ c κs. c .before .before .before .before .before .before .before .before .before .before .before .pre)
     (λ c. search needs)
     (λ c κs. tt)
     (λ c κs. tt)

@@ -16,4 +16,14 @@ records-refusal-spec =
     (λ c κs. search needs)
     (λ c κs. search needs)
     (λ c κs. search needs)
-    (λ c. rw (c .unless4 .ensures, c .before .unless3 .ensures, c .before .before .unless2 .ensures, c .before .before .before .unless .ensures, c .before .before .before .before .past-fine .ensures, c .before .before .before .before .before .correction-fine .ensures, c .before .before .before .before .before .before .references-fine .ensures, c .before .before .before .before .before .before .before .units-fine .ensures)))
+    (λ c.
+    rw (
+      c .unless4 .ensures,
+      c .before .unless3 .ensures,
+      c .before .before .unless2 .ensures,
+      c .before .before .before .unless .ensures,
+      c .before .before .before .before .past-fine .ensures,
+      c .before .before .before .before .before .correction-fine .ensures,
+      c .before .before .before .before .before .before .references-fine .ensures,
+      c .before .before .before .before .before .before .before .units-fine .ensures,
+    )))

@@ -20,4 +20,17 @@ event-at-spec =
     (λ c κs. search needs)
     (λ c κs. search needs)
     (λ c κs. search needs)
-    (λ c. rw (c .load-u324 .ensures, c .before .load-u323 .ensures, c .before .before .load-u322 .ensures, c .before .before .before .load-u32 .ensures, c .before .before .before .before .load-u84 .ensures, c .before .before .before .before .before .load-u83 .ensures, c .before .before .before .before .before .before .load-u162 .ensures, c .before .before .before .before .before .before .before .load-u16 .ensures, c .before .before .before .before .before .before .before .before .load-u82 .ensures, c .before .before .before .before .before .before .before .before .before .load-u8 .ensures, c .before .before .before .before .before .before .before .before .before .before .record-at .ensures .0)))
+    (λ c.
+    rw (
+      c .load-u324 .ensures,
+      c .before .load-u323 .ensures,
+      c .before .before .load-u322 .ensures,
+      c .before .before .before .load-u32 .ensures,
+      c .before .before .before .before .load-u84 .ensures,
+      c .before .before .before .before .before .load-u83 .ensures,
+      c .before .before .before .before .before .before .load-u162 .ensures,
+      c .before .before .before .before .before .before .before .load-u16 .ensures,
+      c .before .before .before .before .before .before .before .before .load-u82 .ensures,
+      c .before .before .before .before .before .before .before .before .before .load-u8 .ensures,
+      c .before .before .before .before .before .before .before .before .before .before .record-at .ensures .0,
+    )))

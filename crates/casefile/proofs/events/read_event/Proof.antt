@@ -1,8 +1,19 @@
+use mathlib.Core.Bool.{Bool, true, false, _&&_}
+use mathlib.Core.Path.{_≡_}
 use borrow.Author.Needs.{needs}
-use Rattle.casefile.specs.Read.{readIf}
-use Rattle.casefile.proofs.EventLaws.{read-is}
+use Rattle.casefile.specs.Read.{readIf, readEvent}
+use Rattle.casefile.proofs.EventLaws.{read-is, read-number}
 use Rattle.casefile.proofs.events.read_event.Statement.{statement}
 use Rattle.casefile.proofs.events.read_event.Tie as tie
+
+answer : (p : tie.After-cells-fine) (b : Bool)
+    → (p .before .before .before .fields-fine .result && p .cells-fine .result) ≡ b
+    → readIf b (p .before .before .before .before .event-at .result)
+    ≡ readEvent (p .before .before .before .before .before .before .args .events .now) (p .before .before .before .before .before .before .args .i)
+answer p b t =
+    let r = p .before .before in
+    let f = r .before in
+    read-is _ _ _ _ _ _ b (f .before .event-at .ensures) (f .fields-fine .ensures) (r .record-at .ensures .0) (p .cells-fine .ensures) t
 
 pub read-event-spec : {M : Type 1} → statement M
 unfolding readIf
@@ -16,13 +27,5 @@ read-event-spec =
     (λ c. search needs)
     (λ c. search needs)
     (λ c κs. search needs)
-    (λ c.
-    let p = c .before in
-    let r = p .before .before in
-    let f = r .before in
-    read-is _ _ _ _ _ _ _ (f .before .event-at .ensures) (f .fields-fine .ensures) (r .record-at .ensures .0) (p .cells-fine .ensures) (c .if1 .taken))
-    (λ c.
-    let p = c .before in
-    let r = p .before .before in
-    let f = r .before in
-    read-is _ _ _ _ _ _ _ (f .before .event-at .ensures) (f .fields-fine .ensures) (r .record-at .ensures .0) (p .cells-fine .ensures) (c .if1 .left)))
+    (λ c. let e = answer (c .before) true (c .if1 .taken) in (e, read-number _ _ _ e))
+    (λ c. let e = answer (c .before) false (c .if1 .left) in (e, read-number _ _ _ e)))

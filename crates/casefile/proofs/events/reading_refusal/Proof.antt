@@ -36,14 +36,14 @@ reading-refusal-spec =
     let s = r .before .before .before .before .args .events .now in
     rw
     (all-false (length s / eventWidth) (l .i) (eventFine (eventsIn s) (amountsIn s)) (r .before .loop-test .taken)
-    (unreadable s (l .i) (sym (r .read-event .ensures) ∙ c .enum-told2 .given .1))))
+    (unreadable s (l .i) (sym (r .read-event .ensures .0) ∙ c .enum-told2 .given .1))))
     (λ c. omega arith)
     (λ c. omega arith)
     (λ c.
     let r = c .before .before in
     let l = r .before .before .loop in
     let s = r .before .before .before .before .args .events .now in
-    (omega arith, rw (all-more, l .inv .1) (readable s (l .i) _ (sym (r .read-event .ensures) ∙ c .enum-told .given .1))))
+    (omega arith, rw (all-more, l .inv .1) (readable s (l .i) _ (sym (r .read-event .ensures .0) ∙ c .enum-told .given .1))))
     (λ c.
     let s = c .before .before .before .args .events .now in
     let e : c .before .loop .i ≡ length s / eventWidth = omega arith in

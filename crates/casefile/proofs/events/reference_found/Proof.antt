@@ -15,8 +15,8 @@ reference-found-spec =
     (λ c. rw (← c .before .before .record-at .ensures .0, ← c .before .load-u8 .ensures, ne-eqb _ _ (c .if1 .taken)))
     (λ c κs. search needs)
     (λ c κs. search needs)
-    (λ c κs. tt)
-    (λ c κs. tt)
+    (λ c κs. search needs)
+    (λ c κs. search needs)
     (λ c κs. tt)
     (λ c.
     let l = c .before .before .before in

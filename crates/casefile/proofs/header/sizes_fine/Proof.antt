@@ -20,4 +20,14 @@ sizes-fine-spec =
     (λ c κs. search needs)
     (λ c κs. search needs)
     (λ c κs. search needs)
-    (λ c. rw (c .size-fine4 .ensures, c .before .size-fine3 .ensures, c .before .before .size-fine2 .ensures, c .before .before .before .size-fine .ensures, c .before .before .before .before .length-of4 .ensures, c .before .before .before .before .before .length-of3 .ensures, c .before .before .before .before .before .before .length-of2 .ensures, c .before .before .before .before .before .before .before .length-of .ensures)))
+    (λ c.
+    rw (
+      c .size-fine4 .ensures,
+      c .before .size-fine3 .ensures,
+      c .before .before .size-fine2 .ensures,
+      c .before .before .before .size-fine .ensures,
+      c .before .before .before .before .length-of4 .ensures,
+      c .before .before .before .before .before .length-of3 .ensures,
+      c .before .before .before .before .before .before .length-of2 .ensures,
+      c .before .before .before .before .before .before .before .length-of .ensures,
+    )))

@@ -1,35 +1,34 @@
-use Prim.Native.Nat.{_≤_, _-_, _/_}
-use mathlib.Core.Path.{_≡_}
+use mathlib.Core.Path.{sym}
 use borrow.Author.Needs.{needs}
 use native.Mathlib.Omega.{arith}
-use lib.ListN.{length}
-use Rattle.binary.specs.Bounded.{anyTo}
-use Rattle.binary.proofs.BoundedLaws.{any-none, any-more}
 use Rattle.casefile.specs.Layout.{referenceWidth}
 use Rattle.casefile.specs.Decode.{referencesIn}
-use Rattle.casefile.specs.Lookup.{isReference, hasReference}
+use Rattle.casefile.proofs.RecordLaws.{record-byte}
+use Rattle.casefile.proofs.SearchLaws.{found-at, found-none}
 use Rattle.casefile.proofs.references.has_reference.Statement.{statement}
 use Rattle.casefile.proofs.references.has_reference.Tie as tie
 
-abbrev Inv-loop : tie.InvT-loop
-Inv-loop references unit component n found₀ j₀ found j = (j ≤ length references / referenceWidth) × (found ≡ anyTo j (isReference (referencesIn references) unit component))
-
-abbrev μ-loop : tie.MeasureT-loop
-μ-loop references unit component n found₀ j₀ found j = length references / referenceWidth - j
-
 pub has-reference-spec : {M : Type 1} → statement M
-unfolding hasReference referencesIn
+unfolding referencesIn
 has-reference-spec =
     tie.close
     (tie.spec
-    Inv-loop
-    μ-loop
-    (λ c. (omega arith, any-none _))
+    (λ c κs. tt)
+    (λ c κs. c .before .before .pre)
     (λ c κs. search needs)
-    (λ c. omega arith)
-    (λ c. omega arith)
-    (λ c. (omega arith, rw (c .before .before .loop .inv .1, c .is-reference .ensures, any-more)))
     (λ c.
-    let s = c .before .before .before .args in
-    let e : c .before .loop .j ≡ length (s .references .now) / referenceWidth = omega arith in
-    rw (c .before .loop .inv .1, e)))
+    let f = c .before .before in
+    let k = f .before in
+    let s = k .before .before in
+    rw (c .reference-key .ensures, k .key-of .ensures)
+    (found-at (referencesIn (s .args .references .now)) (s .args .unit) (s .args .component) (s .pre) (s .fits .component .fits)
+    (λ j l. record-byte referenceWidth (s .args .references .now) j 2 (omega arith) (λ x. k .before .shared-slice-known .given x .fits))
+    (f .reference-from .result) (rw (k .key-of .ensures) at (f .reference-from .ensures)) (c .before .if1 .taken)))
+    (λ c.
+    let f = c .before in
+    let k = f .before in
+    let s = k .before .before in
+    sym
+    (found-none (referencesIn (s .args .references .now)) (s .args .unit) (s .args .component) (s .pre) (s .fits .component .fits)
+    (λ j l. record-byte referenceWidth (s .args .references .now) j 2 (omega arith) (λ x. k .before .shared-slice-known .given x .fits))
+    (f .reference-from .result) (rw (k .key-of .ensures) at (f .reference-from .ensures)) (c .if1 .left))))

@@ -19,4 +19,16 @@ reference-fine-spec =
     (λ c κs. search needs)
     (λ c κs. search needs)
     (λ c κs. search needs)
-    (λ c. rw (c .reference-key2 .ensures, c .before .reference-key .ensures, c .before .before .place-before .ensures, c .before .before .before .is-listed .ensures, c .before .before .before .before .reference-fields-fine .ensures, c .before .before .before .before .before .load-u32 .ensures, c .before .before .before .before .before .before .load-u82 .ensures, c .before .before .before .before .before .before .before .load-u8 .ensures, c .before .before .before .before .before .before .before .before .load-u16 .ensures, c .before .before .before .before .before .before .before .before .before .record-at .ensures .0)))
+    (λ c.
+    rw (
+      c .reference-key2 .ensures,
+      c .before .reference-key .ensures,
+      c .before .before .place-before .ensures,
+      c .before .before .before .is-listed .ensures,
+      c .before .before .before .before .reference-fields-fine .ensures,
+      c .before .before .before .before .before .load-u32 .ensures,
+      c .before .before .before .before .before .before .load-u82 .ensures,
+      c .before .before .before .before .before .before .before .load-u8 .ensures,
+      c .before .before .before .before .before .before .before .before .load-u16 .ensures,
+      c .before .before .before .before .before .before .before .before .before .record-at .ensures .0,
+    )))

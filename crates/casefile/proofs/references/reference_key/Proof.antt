@@ -1,6 +1,6 @@
 use borrow.Author.Needs.{needs}
 use Rattle.casefile.specs.Decode.{referencesIn}
-use Rattle.casefile.specs.Refusal.{referenceKey}
+use Rattle.casefile.specs.Lookup.{referenceKey}
 use Rattle.casefile.proofs.references.reference_key.Statement.{statement}
 use Rattle.casefile.proofs.references.reference_key.Tie as tie
 
@@ -12,8 +12,11 @@ reference-key-spec =
     (λ c κs. search needs)
     (λ c κs. search needs)
     (λ c κs. search needs)
-    (λ c. search needs)
-    (λ c. search needs)
-    (λ c. search needs)
-    (λ c. search needs)
-    (λ c. rw (c .load-u8 .ensures, c .before .load-u16 .ensures, c .before .before .record-at .ensures .0)))
+    (λ c κs. search needs)
+    (λ c.
+    rw (
+      c .key-of .ensures,
+      c .before .load-u8 .ensures,
+      c .before .before .load-u16 .ensures,
+      c .before .before .before .record-at .ensures .0,
+    )))

@@ -1,0 +1,45 @@
+use Prim.Native.Nat.{_≤_, _-_, _/_}
+use mathlib.Core.List.{[], _++_}
+use mathlib.Core.Path.{_≡_, refl}
+use borrow.Author.Needs.{needs}
+use native.Mathlib.Omega.{arith}
+use lib.ListN.{length, drop, length-set}
+use Rattle.binary.specs.Lists.{listTo}
+use Rattle.binary.proofs.ListLaws.{fill-none, fill-more}
+use Rattle.casefile.specs.Decode.{caseIn}
+use Rattle.conduct.specs.Stages.{flagMaskIn}
+use Rattle.conduct.proofs.flags.event_masks.Statement.{statement}
+use Rattle.conduct.proofs.flags.event_masks.Tie as tie
+
+abbrev Inv-loop : tie.InvT-loop
+Inv-loop units events places groups leaders levels sums keys masks₀ n i₀ masks i =
+    (i ≤ length events / 312) × (length masks ≡ length masks₀) × (masks ≡ listTo i (flagMaskIn (caseIn units [] [] events) levels) ++ drop i masks₀)
+
+abbrev μ-loop : tie.MeasureT-loop
+μ-loop units events places groups leaders levels sums keys masks₀ n i₀ masks i = length events / 312 - i
+
+pub event-masks-spec : {M : Type 1} → statement M
+event-masks-spec =
+    tie.close
+    (tie.spec
+    Inv-loop
+    μ-loop
+    (λ c. (omega arith, refl, fill-none _ _))
+    (λ c κs.
+    let start = c .before .before .before .before .before .before .before .before .before .before .before in
+    let p = start .pre .1 .1 in
+    (start .pre .0, (start .pre .1 .0, ((p .0 .0, p .0 .1, c .loop-test .taken), p .1))))
+    (λ c. omega arith)
+    (λ c. search needs)
+    (λ c. omega arith)
+    (λ c. omega arith)
+    (λ c.
+    let l = c .before .before .loop in (
+      omega arith,
+      simp length-set (l .inv .1),
+      rw (l .inv .2, c .event-mask .ensures) (fill-more (flagMaskIn _ _) _ _ (omega arith)),
+    ))
+    (λ c. c .before .loop .inv .1)
+    (λ c.
+    let e : c .before .loop .i ≡ length (c .before .before .before .before .before .before .before .before .before .before .before .args .events .now) / 312 = omega arith in
+    rw e at (c .before .loop .inv .2)))

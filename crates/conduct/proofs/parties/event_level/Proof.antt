@@ -1,0 +1,28 @@
+use borrow.Author.Needs.{needs}
+use borrow.Author.Tests.{eq-eqb, ne-eqb}
+use Rattle.casefile.specs.Decode.{eventsIn}
+use Rattle.conduct.specs.Parties.{bidLevel}
+use Rattle.conduct.proofs.parties.event_level.Statement.{statement}
+use Rattle.conduct.proofs.parties.event_level.Tie as tie
+
+pub event-level-spec : {M : Type 1} → statement M
+unfolding bidLevel eventsIn
+event-level-spec =
+    tie.close
+    (tie.spec
+    (λ c κs. search needs)
+    (λ c κs. search needs)
+    (λ c. rw (← c .before .before .record-at .ensures .0, ← c .before .load-u8 .ensures, ne-eqb _ _ (c .if1 .taken)))
+    (λ c κs. search needs)
+    (λ c κs. search needs)
+    (λ c κs. search needs)
+    (λ c.
+    let k = c .before .before .before .before in
+    rw (
+      c .reference-level .ensures,
+      c .before .load-u82 .ensures,
+      c .before .before .load-u16 .ensures,
+      ← k .before .record-at .ensures .0,
+      ← k .load-u8 .ensures,
+      eq-eqb _ _ (c .before .before .before .if1 .left),
+    )))

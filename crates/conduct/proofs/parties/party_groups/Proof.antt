@@ -1,0 +1,51 @@
+use Prim.Native.Nat.{_≤_, _-_, _/_}
+use mathlib.Core.List.{[], _++_}
+use mathlib.Core.Path.{_≡_, refl}
+use borrow.Author.Needs.{needs}
+use native.Mathlib.Omega.{arith}
+use lib.ListN.{length, drop, length-set}
+use Rattle.binary.specs.Lists.{listTo}
+use Rattle.binary.proofs.ListLaws.{fill-none, fill-more}
+use Rattle.casefile.specs.Decode.{caseIn}
+use Rattle.casefile.specs.Lookup.{groupOf}
+use Rattle.conduct.proofs.StageLaws.{place-in, group-in}
+use Rattle.conduct.proofs.parties.party_groups.Statement.{statement}
+use Rattle.conduct.proofs.parties.party_groups.Tie as tie
+
+abbrev Inv-loop : tie.InvT-loop
+Inv-loop units events places groups₀ n i₀ groups i =
+    (i ≤ length events / 312) × (length groups ≡ length groups₀) × (groups ≡ listTo i (groupOf (caseIn units [] [] events)) ++ drop i groups₀)
+
+abbrev μ-loop : tie.MeasureT-loop
+μ-loop units events places groups₀ n i₀ groups i = length events / 312 - i
+
+pub party-groups-spec : {M : Type 1} → statement M
+party-groups-spec =
+    tie.close
+    (tie.spec
+    Inv-loop
+    μ-loop
+    (λ c. (omega arith, refl, fill-none _ _))
+    (λ c. omega arith)
+    (λ c. search needs)
+    (λ c κs.
+    let start = c .before .before .before .before .before .before .before in
+    let a = start .args in
+    place-in (a .units .now) [] [] (a .events .now) (a .places .now) _ (c .before .loop-test .taken) (start .pre .0) (start .pre .1 .1 .0))
+    (λ c. omega arith)
+    (λ c. search needs)
+    (λ c. omega arith)
+    (λ c. omega arith)
+    (λ c.
+    let l = c .before .before .before .loop in
+    let start = c .before .before .before .before .before .before .before .before in
+    let a = start .args in
+    let g = group-in (a .units .now) [] [] (a .events .now) (a .places .now) _ (c .before .before .loop-test .taken) _ (start .pre .1 .1 .0) (c .group-at .ensures) in (
+      omega arith,
+      simp length-set (l .inv .1),
+      rw (l .inv .2, g) (fill-more (groupOf _) _ _ (omega arith)),
+    ))
+    (λ c. c .before .loop .inv .1)
+    (λ c.
+    let e : c .before .loop .i ≡ length (c .before .before .before .before .before .before .args .events .now) / 312 = omega arith in
+    rw e at (c .before .loop .inv .2)))

@@ -1,0 +1,16 @@
+use borrow.Author.Needs.{needs}
+use Rattle.casefile.specs.Decode.{unitsIn}
+use Rattle.conduct.specs.Stages.{capabilityShare}
+use Rattle.conduct.proofs.sums.capability_share.Statement.{statement}
+use Rattle.conduct.proofs.sums.capability_share.Tie as tie
+
+pub capability-share-spec : {M : Type 1} → statement M
+unfolding unitsIn capabilityShare
+capability-share-spec =
+    tie.close
+    (tie.spec
+    (λ c κs. search needs)
+    (λ c κs. search needs)
+    (λ c κs. search needs)
+    (λ c κs. search needs)
+    (λ c. rw (c .choose-u32 .ensures, c .before .load-u32 .ensures, c .before .before .load-u16 .ensures, c .before .before .before .record-at .ensures .0)))

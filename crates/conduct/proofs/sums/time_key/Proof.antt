@@ -1,0 +1,20 @@
+use borrow.Author.Needs.{needs}
+use Rattle.casefile.specs.Decode.{eventsIn}
+use Rattle.conduct.specs.Stages.{timeKey}
+use Rattle.conduct.proofs.sums.time_key.Statement.{statement}
+use Rattle.conduct.proofs.sums.time_key.Tie as tie
+
+pub time-key-spec : {M : Type 1} → statement M
+unfolding eventsIn timeKey
+time-key-spec =
+    tie.close
+    (tie.spec
+    (λ c κs. search needs)
+    (λ c κs. search needs)
+    (λ c κs. search needs)
+    (λ c κs. search needs)
+    (λ c κs. search needs)
+    (λ c κs. search needs)
+    (λ c κs. search needs)
+    (λ c κs. search needs)
+    (λ c. rw (c .pack .ensures, c .before .time-component .ensures, c .before .before .load-u32 .ensures, c .before .before .before .load-u83 .ensures, c .before .before .before .before .load-u16 .ensures, c .before .before .before .before .before .load-u82 .ensures, c .before .before .before .before .before .before .load-u8 .ensures, c .before .before .before .before .before .before .before .record-at .ensures .0)))

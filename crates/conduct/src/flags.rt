@@ -1,0 +1,389 @@
+// The flagged hours of every event of a case.
+ghost use mathlib.Core.Bool.{true};
+ghost use mathlib.Core.List.{[], _++_};
+ghost use mathlib.Core.Path.{_≡_};
+ghost use Prim.Native.Nat.{_*_, _/_, _%_, _≤_, _<_};
+ghost use lib.ListN.{length, drop, getD};
+ghost use Rattle.binary.specs.Bounded.{maskTo};
+ghost use Rattle.binary.specs.Lists.{listTo, Holds};
+ghost use Rattle.casefile.specs.Decode.{unitsIn, referencesIn, eventsIn, caseIn};
+ghost use Rattle.casefile.specs.Lookup.{unitOf, groupOf};
+ghost use Rattle.casefile.specs.Refusal.{eventsListed};
+ghost use Rattle.conduct.specs.Flags.{groupSum, withheldFlag, dispatchFlag, flagMask};
+ghost use Rattle.conduct.specs.Parties.{partyKey, leaderOf, bidLevel};
+ghost use Rattle.conduct.specs.Stages.{HasSums, HasRow, SmallRow, timeKey, withheldIn, dispatchIn, fuelIn, bidIn, totalRead, bidFlagIn, flagMaskIn, Found};
+use crate::parties::find_parties;
+use crate::parties::reference_levels;
+use crate::sums::cells_of;
+use crate::sums::group_capability;
+use crate::sums::hour_totals;
+use crate::sums::party_sums;
+use crate::sums::time_increases;
+use crate::sums::time_keys;
+use binary::bytes::load_u8;
+use binary::bytes::load_u16;
+use binary::bytes::load_u32;
+use binary::masks::bit_of;
+use binary::numbers::choose_u32;
+use casefile::cells::cell_at;
+use casefile::layout;
+use casefile::records::record_at;
+use tariff::conduct::bid_test;
+use tariff::conduct::dispatch_test;
+use tariff::conduct::withheld_test;
+
+// What the test of a bid reads beside its hours.
+pub struct Bid {
+    pub component: u8,
+    pub reference: u32,
+    pub market: u8,
+    pub constrained: bool,
+    pub p: u32,
+    pub average_price: u32,
+    pub constrained_hours: u16,
+}
+
+fn withheld_hour(
+    cells: &[u8],
+    sums: &[u64],
+    capability: u32,
+    g: u64,
+    constrained: bool,
+    p: u32,
+    h: usize,
+) -> bool
+    requires { ⌜ (h < 24) × (length (now cells) ≡ 288) × (length (now sums) ≡ 24) × (getD (now sums) h 0 ≤ 1099511627776) ⌝ }
+    ensures { λ r. ⌜ r ≡ withheldIn (now (cells .entry)) (now (sums .entry)) capability g constrained p h ⌝ }
+{
+    let cell = cell_at(cells, h);
+    let a = cell.a;
+    let set = bit_of(p, h);
+    withheld_test(a, capability, sums[h], g, constrained & set)
+}
+
+fn withheld_mask(
+    cells: &[u8],
+    sums: &[u64],
+    capability: u32,
+    g: u64,
+    constrained: bool,
+    p: u32,
+) -> u32
+    requires { ⌜ (length (now cells) ≡ 288) × (length (now sums) ≡ 24) ⌝ }
+    requires { ⌜ SmallRow (now sums) ⌝ }
+    ensures { λ r. ⌜ r ≡ maskTo 24 (withheldIn (now (cells .entry)) (now (sums .entry)) capability g constrained p) ⌝ }
+{
+    let mut mask: u32 = 0;
+    let mut weight: u32 = 1;
+    let mut h = 0;
+    while h < layout::HOURS {
+        let flagged = withheld_hour(cells, sums, capability, g, constrained, p, h);
+        mask += choose_u32(flagged, weight, 0);
+        weight *= 2;
+        h += 1;
+    }
+    mask
+}
+
+// The flagged hours of a withheld event; sums are S of its party.
+fn withheld_event(
+    units: &[u8],
+    events: &[u8],
+    place: usize,
+    group: u16,
+    sums: &[u64],
+    i: usize,
+) -> u32
+    requires { ⌜ (i < length (now events) / 312) × (place < length (now units) / 24) × (length (now units) ≤ 65000) × (length (now sums) ≡ 24) ⌝ }
+    requires { ⌜ (place ≡ unitOf (caseIn (now units) [] [] (now events)) i) × (group ≡ groupOf (caseIn (now units) [] [] (now events)) i) ⌝ }
+    requires { ⌜ SmallRow (now sums) ⌝ }
+    requires { ⌜ HasRow (groupSum (caseIn (now units) [] [] (now events)) i) (now sums) ⌝ }
+    ensures { λ r. ⌜ r ≡ maskTo 24 (withheldFlag (caseIn (now (units .entry)) [] [] (now (events .entry))) i) ⌝ }
+{
+    let event = record_at(events, i, layout::EVENT_WIDTH);
+    let p = load_u32(event, 12);
+    let unit = record_at(units, place, layout::UNIT_WIDTH);
+    let area = load_u8(unit, 4);
+    let capability = load_u32(unit, 8);
+    let g = group_capability(units, group);
+    withheld_mask(cells_of(events, i), sums, capability, g, area == 1, p)
+}
+
+fn dispatch_hour(cells: &[u8], sums: &[u64], rate: u32, constrained: bool, p: u32, h: usize) -> bool
+    requires { ⌜ (h < 24) × (length (now cells) ≡ 288) × (length (now sums) ≡ 24) ⌝ }
+    ensures { λ r. ⌜ r ≡ dispatchIn (now (cells .entry)) (now (sums .entry)) rate constrained p h ⌝ }
+{
+    let cell = cell_at(cells, h);
+    let a = cell.a;
+    let set = bit_of(p, h);
+    dispatch_test(a, rate, sums[h], constrained & set)
+}
+
+fn dispatch_mask(cells: &[u8], sums: &[u64], rate: u32, constrained: bool, p: u32) -> u32
+    requires { ⌜ (length (now cells) ≡ 288) × (length (now sums) ≡ 24) ⌝ }
+    ensures { λ r. ⌜ r ≡ maskTo 24 (dispatchIn (now (cells .entry)) (now (sums .entry)) rate constrained p) ⌝ }
+{
+    let mut mask: u32 = 0;
+    let mut weight: u32 = 1;
+    let mut h = 0;
+    while h < layout::HOURS {
+        let flagged = dispatch_hour(cells, sums, rate, constrained, p, h);
+        mask += choose_u32(flagged, weight, 0);
+        weight *= 2;
+        h += 1;
+    }
+    mask
+}
+
+// The flagged hours of a dispatch event; sums are S of its party.
+fn dispatch_event(units: &[u8], events: &[u8], place: usize, sums: &[u64], i: usize) -> u32
+    requires { ⌜ (i < length (now events) / 312) × (place < length (now units) / 24) × (length (now sums) ≡ 24) ⌝ }
+    requires { ⌜ place ≡ unitOf (caseIn (now units) [] [] (now events)) i ⌝ }
+    requires { ⌜ HasRow (groupSum (caseIn (now units) [] [] (now events)) i) (now sums) ⌝ }
+    ensures { λ r. ⌜ r ≡ maskTo 24 (dispatchFlag (caseIn (now (units .entry)) [] [] (now (events .entry))) i) ⌝ }
+{
+    let event = record_at(events, i, layout::EVENT_WIDTH);
+    let p = load_u32(event, 12);
+    let unit = record_at(units, place, layout::UNIT_WIDTH);
+    let area = load_u8(unit, 4);
+    let rate = load_u32(unit, 12);
+    dispatch_mask(cells_of(events, i), sums, rate, area == 1, p)
+}
+
+// The union of P over a party-day: the hours that some event of it has.
+fn fuel_mask(sums: &[u64]) -> u32
+    requires { ⌜ length (now sums) ≡ 24 ⌝ }
+    ensures { λ r. ⌜ r ≡ maskTo 24 (fuelIn (now (sums .entry))) ⌝ }
+{
+    let mut mask: u32 = 0;
+    let mut weight: u32 = 1;
+    let mut h = 0;
+    while h < layout::HOURS {
+        mask += choose_u32(0 < sums[h], weight, 0);
+        weight *= 2;
+        h += 1;
+    }
+    mask
+}
+
+// The time totals of event i's unit, day and market, where its component reads them.
+fn bid_totals(events: &[u8], levels: &[u32], keys: &[u64], i: usize) -> [u64; 24]
+    requires { ⌜ (i < length (now events) / 312) × (length (now events) / 312 ≤ 200) × (length (now events) / 312 ≤ length (now levels)) × (length (now events) / 312 ≤ length (now keys)) ⌝ }
+    requires { ⌜ Holds (length (now events) / 312) (now keys) (timeKey (eventsIn (now events))) ⌝ }
+    ensures { λ r. ⌜ HasRow (totalRead (caseIn [] [] [] (now (events .entry))) (now (levels .entry)) i) r ⌝ }
+{
+    let event = record_at(events, i, layout::EVENT_WIDTH);
+    let market = load_u8(event, 1);
+    let unit = load_u16(event, 2);
+    let component = load_u8(event, 6);
+    let day = load_u32(event, 8);
+    if (4 <= component) & (component <= 6) {
+        return hour_totals(time_increases(events, levels, keys, market, unit, day));
+    }
+    [0u64; 24]
+}
+
+fn bid_hour(cells: &[u8], totals: &[u64], bid: Bid, h: usize) -> bool
+    requires { ⌜ (h < 24) × (length (now cells) ≡ 288) × (length (now totals) ≡ 24) ⌝ }
+    ensures { λ r. ⌜ r ≡ bidIn (now (cells .entry)) (now (totals .entry)) bid h ⌝ }
+{
+    let component = bid.component;
+    let reference = bid.reference;
+    let market = bid.market;
+    let constrained = bid.constrained;
+    let p = bid.p;
+    let average_price = bid.average_price;
+    let constrained_hours = bid.constrained_hours;
+    let cell = cell_at(cells, h);
+    let a = cell.a;
+    let tight = constrained & bit_of(p, h);
+    bid_test(
+        component,
+        reference,
+        a,
+        market,
+        tight,
+        average_price,
+        constrained_hours,
+        totals[h],
+    )
+}
+
+fn bid_mask(cells: &[u8], totals: &[u64], bid: Bid) -> u32
+    requires { ⌜ (length (now cells) ≡ 288) × (length (now totals) ≡ 24) ⌝ }
+    ensures { λ r. ⌜ r ≡ maskTo 24 (bidIn (now (cells .entry)) (now (totals .entry)) bid) ⌝ }
+{
+    let mut mask: u32 = 0;
+    let mut weight: u32 = 1;
+    let mut h = 0;
+    while h < layout::HOURS {
+        mask += choose_u32(bid_hour(cells, totals, bid, h), weight, 0);
+        weight *= 2;
+        h += 1;
+    }
+    mask
+}
+
+// The flagged hours of a bid.
+fn bid_event(
+    units: &[u8],
+    events: &[u8],
+    levels: &[u32],
+    keys: &[u64],
+    place: usize,
+    i: usize,
+) -> u32
+    requires { ⌜ (i < length (now events) / 312) × (length (now events) / 312 ≤ 200) × (length (now events) / 312 ≤ length (now levels)) × (length (now events) / 312 ≤ length (now keys)) × (place < length (now units) / 24) ⌝ }
+    requires { ⌜ place ≡ unitOf (caseIn (now units) [] [] (now events)) i ⌝ }
+    requires { ⌜ Holds (length (now events) / 312) (now keys) (timeKey (eventsIn (now events))) ⌝ }
+    ensures { λ r. ⌜ r ≡ maskTo 24 (bidFlagIn (caseIn (now (units .entry)) [] [] (now (events .entry))) (now (levels .entry)) i) ⌝ }
+{
+    let event = record_at(events, i, layout::EVENT_WIDTH);
+    let unit = record_at(units, place, layout::UNIT_WIDTH);
+    let area = load_u8(unit, 4);
+    let bid = Bid {
+        component: load_u8(event, 6),
+        reference: levels[i],
+        market: load_u8(event, 1),
+        constrained: area == 1,
+        p: load_u32(event, 12),
+        average_price: load_u32(unit, 16),
+        constrained_hours: load_u16(unit, 20),
+    };
+    let totals = bid_totals(events, levels, keys, i);
+    bid_mask(cells_of(events, i), &totals, bid)
+}
+
+// The flagged hours of event i, by its kind.
+fn event_mask(
+    units: &[u8],
+    events: &[u8],
+    places: &[usize],
+    groups: &[u16],
+    leaders: &[usize],
+    levels: &[u32],
+    sums: &[u64],
+    keys: &[u64],
+    i: usize,
+) -> u32
+    requires { ⌜ Found (now units) (now events) (now places) (now groups) (now leaders) (now levels) ⌝ }
+    requires { ⌜ HasSums (caseIn [] [] [] (now events)) (now leaders) (length (now events) / 312) (length (now events) / 312) (now sums) ⌝ }
+    requires { ⌜ (length (now sums) ≡ 4800) × (length (now keys) ≡ 200) × (i < length (now events) / 312) ⌝ }
+    requires { ⌜ Holds (length (now events) / 312) (now keys) (timeKey (eventsIn (now events))) ⌝ }
+    ensures { λ r. ⌜ r ≡ flagMaskIn (caseIn (now (units .entry)) [] [] (now (events .entry))) (now (levels .entry)) i ⌝ }
+{
+    let kind = load_u8(record_at(events, i, layout::EVENT_WIDTH), 0);
+    let place = places[i];
+    if kind == 4 {
+        return bid_event(units, events, levels, keys, place, i);
+    }
+    let at = layout::HOURS * leaders[i];
+    let end = at + layout::HOURS;
+    let row = &sums[at..end];
+    if kind == 1 {
+        return withheld_event(units, events, place, groups[i], row, i);
+    }
+    if kind == 2 {
+        return dispatch_event(units, events, place, row, i);
+    }
+    if kind == 3 {
+        return fuel_mask(row);
+    }
+    0
+}
+
+fn event_masks(
+    units: &[u8],
+    events: &[u8],
+    places: &[usize],
+    groups: &[u16],
+    leaders: &[usize],
+    levels: &[u32],
+    sums: &[u64],
+    keys: &[u64],
+    masks: &mut [u32],
+)
+    requires { ⌜ Found (now units) (now events) (now places) (now groups) (now leaders) (now levels) ⌝ }
+    requires { ⌜ HasSums (caseIn [] [] [] (now events)) (now leaders) (length (now events) / 312) (length (now events) / 312) (now sums) ⌝ }
+    requires { ⌜ (length (now sums) ≡ 4800) × (length (now keys) ≡ 200) × (length (now events) / 312 ≤ length (now masks)) ⌝ }
+    requires { ⌜ Holds (length (now events) / 312) (now keys) (timeKey (eventsIn (now events))) ⌝ }
+    ensures { λ _. ⌜ now (masks .exit) ≡ listTo (length (now (events .entry)) / 312) (flagMaskIn (caseIn (now (units .entry)) [] [] (now (events .entry))) (now (levels .entry))) ++ drop (length (now (events .entry)) / 312) (now (masks .entry)) ⌝ }
+{
+    let n = events.len() / layout::EVENT_WIDTH;
+    let mut i = 0;
+    while i < n {
+        masks[i] = event_mask(
+            units,
+            events,
+            places,
+            groups,
+            leaders,
+            levels,
+            sums,
+            keys,
+            i,
+        );
+        i += 1;
+    }
+}
+
+// The flagged hours of every event, from what was found once for each.
+fn flag_masks(
+    units: &[u8],
+    events: &[u8],
+    places: &[usize],
+    groups: &[u16],
+    leaders: &[usize],
+    levels: &[u32],
+    masks: &mut [u32],
+)
+    requires { ⌜ Found (now units) (now events) (now places) (now groups) (now leaders) (now levels) ⌝ }
+    requires { ⌜ length (now events) / 312 ≤ length (now masks) ⌝ }
+    ensures { λ _. ⌜ now (masks .exit) ≡ listTo (length (now (events .entry)) / 312) (flagMaskIn (caseIn (now (units .entry)) [] [] (now (events .entry))) (now (levels .entry))) ++ drop (length (now (events .entry)) / 312) (now (masks .entry)) ⌝ }
+{
+    let sums = party_sums(events, leaders);
+    let keys = time_keys(events);
+    event_masks(
+        units,
+        events,
+        places,
+        groups,
+        leaders,
+        levels,
+        &sums,
+        &keys,
+        masks,
+    );
+}
+
+// Places, groups, keys, leaders and reference levels of every event, and its flagged hours.
+pub fn find_flags(
+    units: &[u8],
+    references: &[u8],
+    events: &[u8],
+    places: &mut [usize],
+    groups: &mut [u16],
+    keys: &mut [u64],
+    leaders: &mut [usize],
+    levels: &mut [u32],
+    masks: &mut [u32],
+)
+    requires { ⌜ eventsListed (unitsIn (now units)) (eventsIn (now events)) ≡ true ⌝ }
+    requires { ⌜ (length (now units) ≤ 65000) × (length (now references) % 8 ≡ 0) × (length (now events) / 312 ≤ 200) ⌝ }
+    requires { ⌜ length (now events) / 312 ≤ length (now places) ⌝ }
+    requires { ⌜ length (now events) / 312 ≤ length (now groups) ⌝ }
+    requires { ⌜ length (now events) / 312 ≤ length (now keys) ⌝ }
+    requires { ⌜ length (now events) / 312 ≤ length (now leaders) ⌝ }
+    requires { ⌜ length (now events) / 312 ≤ length (now levels) ⌝ }
+    requires { ⌜ length (now events) / 312 ≤ length (now masks) ⌝ }
+    ensures placed { λ _. ⌜ now (places .exit) ≡ listTo (length (now (events .entry)) / 312) (unitOf (caseIn (now (units .entry)) (now (references .entry)) [] (now (events .entry)))) ++ drop (length (now (events .entry)) / 312) (now (places .entry)) ⌝ }
+    ensures grouped { λ _. ⌜ now (groups .exit) ≡ listTo (length (now (events .entry)) / 312) (groupOf (caseIn (now (units .entry)) (now (references .entry)) [] (now (events .entry)))) ++ drop (length (now (events .entry)) / 312) (now (groups .entry)) ⌝ }
+    ensures keyed { λ _. ⌜ now (keys .exit) ≡ listTo (length (now (events .entry)) / 312) (partyKey (caseIn (now (units .entry)) (now (references .entry)) [] (now (events .entry)))) ++ drop (length (now (events .entry)) / 312) (now (keys .entry)) ⌝ }
+    ensures led { λ _. ⌜ now (leaders .exit) ≡ listTo (length (now (events .entry)) / 312) (leaderOf (caseIn (now (units .entry)) (now (references .entry)) [] (now (events .entry)))) ++ drop (length (now (events .entry)) / 312) (now (leaders .entry)) ⌝ }
+    ensures levelled { λ _. ⌜ now (levels .exit) ≡ listTo (length (now (events .entry)) / 312) (bidLevel (referencesIn (now (references .entry))) (eventsIn (now (events .entry)))) ++ drop (length (now (events .entry)) / 312) (now (levels .entry)) ⌝ }
+    ensures flagged { λ _. ⌜ now (masks .exit) ≡ listTo (length (now (events .entry)) / 312) (flagMask (caseIn (now (units .entry)) (now (references .entry)) [] (now (events .entry)))) ++ drop (length (now (events .entry)) / 312) (now (masks .entry)) ⌝ }
+{
+    find_parties(units, events, places, groups, keys, leaders);
+    reference_levels(references, events, levels);
+    flag_masks(units, events, places, groups, leaders, levels, masks);
+}

@@ -1,0 +1,212 @@
+// What the stages find once for each event: its unit's place, its group, its party's key and leader, its reference level.
+ghost use mathlib.Core.Bool.{true};
+ghost use mathlib.Core.List.{[], _++_};
+ghost use mathlib.Core.Path.{_≡_};
+ghost use Prim.Native.Nat.{_+_, _*_, _/_, _%_, _≤_, _<_};
+ghost use lib.ListN.{length, drop};
+ghost use Rattle.binary.specs.Bounded.{lastTo};
+ghost use Rattle.binary.specs.Lists.{listTo, Holds};
+ghost use Rattle.casefile.specs.Decode.{unitsIn, referencesIn, eventsIn, caseIn};
+ghost use Rattle.casefile.specs.Lookup.{unitOf, groupOf, isReference, levelOf};
+ghost use Rattle.casefile.specs.Refusal.{eventsListed};
+ghost use Rattle.conduct.specs.Parties.{partyKey, leaderOf, bidLevel};
+ghost use Rattle.conduct.specs.Stages.{keyIn, leaderIn};
+use binary::bytes::load_u8;
+use binary::bytes::load_u16;
+use binary::bytes::load_u32;
+use binary::numbers::choose_usize;
+use casefile::layout;
+use casefile::records::record_at;
+use casefile::units::unit_place;
+
+// The place of event i's unit.
+fn event_place(units: &[u8], events: &[u8], i: usize) -> usize
+    requires { ⌜ i < length (now events) / 312 ⌝ }
+    ensures { λ r. ⌜ r ≡ unitOf (caseIn (now (units .entry)) [] [] (now (events .entry))) i ⌝ }
+{
+    let event = record_at(events, i, layout::EVENT_WIDTH);
+    unit_place(units, load_u16(event, 2))
+}
+
+pub fn unit_places(units: &[u8], events: &[u8], places: &mut [usize])
+    requires { ⌜ length (now events) / 312 ≤ length (now places) ⌝ }
+    ensures { λ _. ⌜ now (places .exit) ≡ listTo (length (now (events .entry)) / 312) (unitOf (caseIn (now (units .entry)) [] [] (now (events .entry)))) ++ drop (length (now (events .entry)) / 312) (now (places .entry)) ⌝ }
+{
+    let n = events.len() / layout::EVENT_WIDTH;
+    let mut i = 0;
+    while i < n {
+        places[i] = event_place(units, events, i);
+        i += 1;
+    }
+}
+
+// The group of the unit at a place.
+fn group_at(units: &[u8], place: usize) -> u16
+    requires { ⌜ place < length (now units) / 24 ⌝ }
+    ensures { λ r. ⌜ r ≡ unitsIn (now (units .entry)) .group place ⌝ }
+{
+    load_u16(record_at(units, place, layout::UNIT_WIDTH), 2)
+}
+
+pub fn party_groups(units: &[u8], events: &[u8], places: &[usize], groups: &mut [u16])
+    requires { ⌜ eventsListed (unitsIn (now units)) (eventsIn (now events)) ≡ true ⌝ }
+    requires { ⌜ length (now events) / 312 ≤ length (now places) ⌝ }
+    requires { ⌜ Holds (length (now events) / 312) (now places) (unitOf (caseIn (now units) [] [] (now events))) ⌝ }
+    requires { ⌜ length (now events) / 312 ≤ length (now groups) ⌝ }
+    ensures { λ _. ⌜ now (groups .exit) ≡ listTo (length (now (events .entry)) / 312) (groupOf (caseIn (now (units .entry)) [] [] (now (events .entry)))) ++ drop (length (now (events .entry)) / 312) (now (groups .entry)) ⌝ }
+{
+    let n = events.len() / layout::EVENT_WIDTH;
+    let mut i = 0;
+    while i < n {
+        groups[i] = group_at(units, places[i]);
+        i += 1;
+    }
+}
+
+// Two bytes, a number of 16 bits and a day in one number.
+pub fn pack(kind: u8, market: u8, group: u16, day: u32) -> u64
+    ensures { λ r. ⌜ r ≡ kind + 256 * market + 65536 * group + 4294967296 * day ⌝ }
+{
+    (kind as u64) + 256 * (market as u64) + 65536 * (group as u64) + 4294967296 * (day as u64)
+}
+
+fn party_key(events: &[u8], groups: &[u16], i: usize) -> u64
+    requires { ⌜ (i < length (now events) / 312) × (i < length (now groups)) ⌝ }
+    ensures { λ r. ⌜ r ≡ keyIn (eventsIn (now (events .entry))) (now (groups .entry)) i ⌝ }
+{
+    let event = record_at(events, i, layout::EVENT_WIDTH);
+    let kind = load_u8(event, 0);
+    let market = load_u8(event, 1);
+    let day = load_u32(event, 8);
+    pack(kind, market, groups[i], day)
+}
+
+pub fn party_keys(events: &[u8], groups: &[u16], keys: &mut [u64])
+    requires { ⌜ length (now events) / 312 ≤ length (now groups) ⌝ }
+    requires { ⌜ length (now events) / 312 ≤ length (now keys) ⌝ }
+    ensures { λ _. ⌜ now (keys .exit) ≡ listTo (length (now (events .entry)) / 312) (keyIn (eventsIn (now (events .entry))) (now (groups .entry))) ++ drop (length (now (events .entry)) / 312) (now (keys .entry)) ⌝ }
+{
+    let n = events.len() / layout::EVENT_WIDTH;
+    let mut i = 0;
+    while i < n {
+        keys[i] = party_key(events, groups, i);
+        i += 1;
+    }
+}
+
+// The first event with event i's key.
+fn leader(keys: &[u64], i: usize) -> usize
+    requires { ⌜ i < length (now keys) ⌝ }
+    ensures { λ r. ⌜ r ≡ leaderIn (now (keys .entry)) i ⌝ }
+{
+    let key = keys[i];
+    let mut j = 0;
+    while j < i {
+        if keys[j] == key {
+            return j;
+        }
+        j += 1;
+    }
+    j
+}
+
+pub fn party_leaders(n: usize, keys: &[u64], leaders: &mut [usize])
+    requires { ⌜ (n ≤ length (now keys)) × (n ≤ length (now leaders)) ⌝ }
+    ensures { λ _. ⌜ now (leaders .exit) ≡ listTo n (leaderIn (now (keys .entry))) ++ drop n (now (leaders .entry)) ⌝ }
+{
+    let mut i = 0;
+    while i < n {
+        leaders[i] = leader(keys, i);
+        i += 1;
+    }
+}
+
+// Places, groups, keys and leaders, each from the one before.
+pub fn find_parties(
+    units: &[u8],
+    events: &[u8],
+    places: &mut [usize],
+    groups: &mut [u16],
+    keys: &mut [u64],
+    leaders: &mut [usize],
+)
+    requires { ⌜ eventsListed (unitsIn (now units)) (eventsIn (now events)) ≡ true ⌝ }
+    requires { ⌜ length (now events) / 312 ≤ length (now places) ⌝ }
+    requires { ⌜ length (now events) / 312 ≤ length (now groups) ⌝ }
+    requires { ⌜ length (now events) / 312 ≤ length (now keys) ⌝ }
+    requires { ⌜ length (now events) / 312 ≤ length (now leaders) ⌝ }
+    ensures placed { λ _. ⌜ now (places .exit) ≡ listTo (length (now (events .entry)) / 312) (unitOf (caseIn (now (units .entry)) [] [] (now (events .entry)))) ++ drop (length (now (events .entry)) / 312) (now (places .entry)) ⌝ }
+    ensures grouped { λ _. ⌜ now (groups .exit) ≡ listTo (length (now (events .entry)) / 312) (groupOf (caseIn (now (units .entry)) [] [] (now (events .entry)))) ++ drop (length (now (events .entry)) / 312) (now (groups .entry)) ⌝ }
+    ensures keyed { λ _. ⌜ now (keys .exit) ≡ listTo (length (now (events .entry)) / 312) (partyKey (caseIn (now (units .entry)) [] [] (now (events .entry)))) ++ drop (length (now (events .entry)) / 312) (now (keys .entry)) ⌝ }
+    ensures led { λ _. ⌜ now (leaders .exit) ≡ listTo (length (now (events .entry)) / 312) (leaderOf (caseIn (now (units .entry)) [] [] (now (events .entry)))) ++ drop (length (now (events .entry)) / 312) (now (leaders .entry)) ⌝ }
+{
+    unit_places(units, events, places);
+    party_groups(units, events, places, groups);
+    party_keys(events, groups, keys);
+    party_leaders(events.len() / layout::EVENT_WIDTH, keys, leaders);
+}
+
+// Whether reference j is of this unit and component.
+fn is_level(references: &[u8], unit: u16, component: u8, j: usize) -> bool
+    requires { ⌜ j < length (now references) / 8 ⌝ }
+    ensures { λ r. ⌜ r ≡ isReference (referencesIn (now (references .entry))) unit component j ⌝ }
+{
+    let reference = record_at(references, j, layout::REFERENCE_WIDTH);
+    let here = load_u16(reference, 0);
+    let of = load_u8(reference, 2);
+    (here == unit) & (of == component)
+}
+
+// The place of the reference of a unit and component, or 0 where there is none.
+fn level_place(references: &[u8], unit: u16, component: u8) -> usize
+    ensures { λ r. ⌜ r ≡ lastTo (length (now (references .entry)) / 8) (isReference (referencesIn (now (references .entry))) unit component) ⌝ }
+{
+    let n = references.len() / layout::REFERENCE_WIDTH;
+    let mut place = 0;
+    let mut j = 0;
+    while j < n {
+        place = choose_usize(is_level(references, unit, component, j), j, place);
+        j += 1;
+    }
+    place
+}
+
+// The reference level of a unit and component.
+pub fn reference_level(references: &[u8], unit: u16, component: u8) -> u32
+    requires { ⌜ length (now references) % 8 ≡ 0 ⌝ }
+    ensures { λ r. ⌜ r ≡ levelOf (referencesIn (now (references .entry))) unit component ⌝ }
+{
+    let place = level_place(references, unit, component);
+    if place < references.len() / layout::REFERENCE_WIDTH {
+        return load_u32(record_at(references, place, layout::REFERENCE_WIDTH), 4);
+    }
+    0
+}
+
+// The reference level of event i where it is a bid, else 0.
+fn event_level(references: &[u8], events: &[u8], i: usize) -> u32
+    requires { ⌜ (i < length (now events) / 312) × (length (now references) % 8 ≡ 0) ⌝ }
+    ensures { λ r. ⌜ r ≡ bidLevel (referencesIn (now (references .entry))) (eventsIn (now (events .entry))) i ⌝ }
+{
+    let event = record_at(events, i, layout::EVENT_WIDTH);
+    let kind = load_u8(event, 0);
+    if kind != 4 {
+        return 0;
+    }
+    let unit = load_u16(event, 2);
+    let component = load_u8(event, 6);
+    reference_level(references, unit, component)
+}
+
+pub fn reference_levels(references: &[u8], events: &[u8], levels: &mut [u32])
+    requires { ⌜ length (now references) % 8 ≡ 0 ⌝ }
+    requires { ⌜ length (now events) / 312 ≤ length (now levels) ⌝ }
+    ensures { λ _. ⌜ now (levels .exit) ≡ listTo (length (now (events .entry)) / 312) (bidLevel (referencesIn (now (references .entry))) (eventsIn (now (events .entry)))) ++ drop (length (now (events .entry)) / 312) (now (levels .entry)) ⌝ }
+{
+    let n = events.len() / layout::EVENT_WIDTH;
+    let mut i = 0;
+    while i < n {
+        levels[i] = event_level(references, events, i);
+        i += 1;
+    }
+}

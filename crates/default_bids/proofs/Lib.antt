@@ -1,0 +1,5 @@
+pub mod SpanLaws
+pub mod LevelLaws
+pub mod FigureLaws
+pub mod MakeUpBounds
+pub mod PastLaws

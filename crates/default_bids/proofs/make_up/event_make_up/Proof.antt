@@ -1,0 +1,53 @@
+use mathlib.Core.Bool.{Bool, true, false, _&&_}
+use mathlib.Core.Path.{_≡_}
+use borrow.Author.Needs.{needs}
+use native.Mathlib.Omega.{arith}
+use lib.Dec.{eqb}
+use Rattle.binary.proofs.Implies.{and-l}
+use Rattle.casefile.specs.Decode.{eventsIn}
+use Rattle.casefile.proofs.RecordLaws.{rest}
+use Rattle.default_bids.specs.Figures.{makeUpBy}
+use Rattle.default_bids.proofs.MakeUpBounds.{make-up-bound, megawatts-fine}
+use Rattle.default_bids.proofs.make_up.event_make_up.Statement.{statement}
+use Rattle.default_bids.proofs.make_up.event_make_up.Tie as tie
+
+-- the event is a bid on energy
+energy : (c : tie.Then1) → let a = c .before .before .before .before .before .args in
+    (eqb (eventsIn (a .events .now) .kind (a .i)) 4 && eqb (eventsIn (a .events .now) .component (a .i)) 0) ≡ true
+unfolding eventsIn
+energy c =
+    rw (c .before .load-u82 .ensures, c .before .before .load-u8 .ensures, c .before .before .before .record-at .ensures .0) at (c .if1 .taken)
+
+-- it is none
+other : (c : tie.Else1) → let a = c .before .before .before .before .before .args in
+    (eqb (eventsIn (a .events .now) .kind (a .i)) 4 && eqb (eventsIn (a .events .now) .component (a .i)) 0) ≡ false
+unfolding eventsIn
+other c =
+    rw (c .before .load-u82 .ensures, c .before .before .load-u8 .ensures, c .before .before .before .record-at .ensures .0) at (c .if1 .left)
+
+pub event-make-up-spec : {M : Type 1} → statement M
+unfolding makeUpBy
+event-make-up-spec =
+    tie.close
+    (tie.spec
+    (λ c κs. search needs)
+    (λ c κs. search needs)
+    (λ c κs. search needs)
+    (λ c. search needs)
+    (λ c. search needs)
+    (λ c. search needs)
+    (λ c κs.
+    let t = c .before in
+    let s = t .before .before .before .before .before in (
+      search needs,
+      λ h l. rw (rest, t .before .before .before .record-at .ensures .0)
+          (megawatts-fine (s .args .events .now) (s .args .i) (s .pre .1) (s .pre .0) (and-l (eqb (eventsIn (s .args .events .now) .kind (s .args .i)) 4) _ (energy t)) h l),
+    ))
+    (λ c κs. omega (arith, c .sum-tenths .ensures .1))
+    (λ c.
+    let t = c .before .before .before in
+    let a = t .before .before .before .before .before .args in (
+      rw (c .make-up .ensures, c .before .sum-tenths .ensures .0, rest, t .before .before .before .record-at .ensures .0, energy t),
+      omega (arith, make-up-bound (a .reference) (a .correct) (c .before .sum-tenths .result), c .make-up .ensures, c .before .sum-tenths .ensures .1),
+    ))
+    (λ c. (rw (other c), omega arith)))

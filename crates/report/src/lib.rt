@@ -1,0 +1,3 @@
+// The listing of a case: its text, proved equal to a definition.
+pub mod lines;
+pub mod text;

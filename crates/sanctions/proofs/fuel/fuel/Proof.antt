@@ -1,0 +1,50 @@
+use Prim.Native.Nat.{_≤_}
+use borrow.Author.Needs.{needs}
+use Rattle.casefile.specs.Decode.{eventsIn}
+use Rattle.sanctions.specs.Tables.{multiplierAt, partyPenalty, fuelRow}
+use Rattle.sanctions.proofs.TableLaws.{SmallDay, day-small, after-small}
+use Rattle.sanctions.proofs.fuel.fuel.Statement.{statement}
+use Rattle.sanctions.proofs.fuel.fuel.Tie as tie
+
+small : (c : tie.After-party-day) → let d = c .party-day .result in SmallDay (d .gain) (d .loss) (d .rise) (d .fall)
+small c =
+    let s = c .before .before .before .before .before .before .before .before .before .before .before .before .before .before in
+    rw (c .party-day .ensures) (day-small (s .args .events .now) (s .args .leaders .now) _ (s .args .i) (s .pre .6) (s .pre .7) (s .pre .1))
+
+few : (c : tie.After-multiplier-after) → c .multiplier-after .result ≤ 3
+few c = rw (c .multiplier-after .ensures) (after-small _)
+
+pub fuel-spec : {M : Type 1} → statement M
+unfolding fuelRow multiplierAt partyPenalty eventsIn
+fuel-spec =
+    tie.close
+    (tie.spec
+    (λ c κs. search needs)
+    (λ c κs. search needs)
+    (λ c. search needs)
+    (λ c. search needs)
+    (λ c κs. search needs)
+    (λ c κs. tt)
+    (λ c κs. tt)
+    (λ c. search needs)
+    (λ c. search needs)
+    (λ c κs. search needs)
+    (λ c κs. tt)
+    (λ c κs.
+    let d = small (c .before) in
+    let m = few (c .before .before .before) in
+    (m, d .gain-small, d .loss-small, rw (c .difference .ensures) (d .tcc-small)))
+    (λ c.
+    let p = c .before .before in
+    let m = p .before .before in
+    let h = m .before .before in
+    rw (
+      c .fuel-penalty .ensures,
+      c .before .difference .ensures,
+      p .party-day .ensures,
+      m .multiplier-after .ensures,
+      m .before .prior-past .ensures,
+      h .prior-here .ensures,
+      h .before .before .load-u32 .ensures,
+      h .before .before .before .record-at .ensures .0,
+    )))

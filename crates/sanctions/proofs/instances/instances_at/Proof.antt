@@ -1,0 +1,48 @@
+use Prim.Native.Nat.{_≤_, _/_}
+use borrow.Author.Needs.{needs}
+use native.Mathlib.Omega.{arith}
+use lib.ListN.{length}
+use Rattle.binary.proofs.BoundedLaws.{count-bound}
+use Rattle.casefile.specs.Decode.{eventsIn}
+use Rattle.sanctions.specs.Tables.{instancesHere, instancesPast, instancesAt}
+use Rattle.sanctions.proofs.instances.instances_at.Statement.{statement}
+use Rattle.sanctions.proofs.instances.instances_at.Tie as tie
+
+here : (c : tie.After-instances-here)
+    → let i = c .before .before .before .before .before .before .before .before .before .args .i in
+    (c .instances-here .result .n3 ≤ i) × (c .instances-here .result .n2 ≤ i)
+unfolding instancesHere
+here c = rw (c .instances-here .ensures) (count-bound _ _, count-bound _ _)
+
+outside : (c : tie.After-instances-past)
+    → let n = length (c .before .before .before .before .before .before .before .before .before .before .args .past .now) / 12 in
+    (c .instances-past .result .n3 ≤ n) × (c .instances-past .result .n2 ≤ n)
+unfolding instancesPast
+outside c = rw (c .instances-past .ensures) (count-bound _ _, count-bound _ _)
+
+pub instances-at-spec : {M : Type 1} → statement M
+unfolding instancesAt eventsIn
+instances-at-spec =
+    tie.close
+    (tie.spec
+    (λ c κs. search needs)
+    (λ c κs. search needs)
+    (λ c κs. search needs)
+    (λ c. search needs)
+    (λ c. search needs)
+    (λ c κs. search needs)
+    (λ c κs. search needs)
+    (λ c. let h = here (c .before .before) in omega arith)
+    (λ c. let h = here (c .before .before .before) in let o = outside (c .before .before) in omega arith)
+    (λ c. let h = here (c .before .before .before .before) in omega arith)
+    (λ c. let h = here (c .before .before .before .before .before) in let o = outside (c .before .before .before .before) in omega arith)
+    (λ c.
+    let p = c .before .before .before .before in
+    let h = p .before in
+    rw (
+      p .instances-past .ensures,
+      h .instances-here .ensures,
+      h .before .before .load-u16 .ensures,
+      h .before .before .before .load-u8 .ensures,
+      h .before .before .before .before .record-at .ensures .0,
+    )))

@@ -1,0 +1,18 @@
+use borrow.Author.Needs.{needs}
+use Rattle.casefile.specs.Decode.{eventsIn}
+use Rattle.sanctions.specs.Tables.{instanceOf}
+use Rattle.sanctions.proofs.instances.is_instance.Statement.{statement}
+use Rattle.sanctions.proofs.instances.is_instance.Tie as tie
+
+pub is-instance-spec : {M : Type 1} → statement M
+unfolding eventsIn instanceOf
+is-instance-spec =
+    tie.close
+    (tie.spec
+    (λ c κs. search needs)
+    (λ c κs. search needs)
+    (λ c. search needs)
+    (λ c. search needs)
+    (λ c. search needs)
+    (λ c. search needs)
+    (λ c. rw (c .before .before .load-u8 .ensures, c .before .before .before .record-at .ensures .0)))

@@ -1,0 +1,35 @@
+use mathlib.Core.Path.{sym, _∙_}
+use borrow.Author.Needs.{needs}
+use borrow.Author.Tests.{not-true, not-false}
+use Rattle.sanctions.specs.Tables.{noSanction, instanceRow, withheldRow}
+use Rattle.sanctions.proofs.withheld.withheld.Statement.{statement}
+use Rattle.sanctions.proofs.withheld.withheld.Tie as tie
+
+pub withheld-spec : {M : Type 1} → statement M
+unfolding withheldRow instanceRow noSanction
+withheld-spec =
+    tie.close
+    (tie.spec
+    (λ c κs. search needs)
+    (λ c. rw (sym (c .before .with-impact .ensures) ∙ not-true _ (c .if1 .taken)))
+    (λ c κs. search needs)
+    (λ c. search needs)
+    (λ c. search needs)
+    (λ c κs. tt)
+    (λ c κs. search needs)
+    (λ c. search needs)
+    (λ c. search needs)
+    (λ c κs.
+    let s = c .before .before .before .before .before .before .before .before .before .before .before .before .before in
+    (c .before .record-at .ensures .1, rw (c .before .record-at .ensures .0) (s .pre .6)))
+    (λ c κs. c .amount .ensures .1)
+    (λ c.
+    let i = c .before .before .before .before .before .before .before in
+    rw (
+      sym (i .before .before .with-impact .ensures) ∙ not-false _ (i .before .if1 .left),
+      c .withheld-penalty .ensures,
+      c .before .amount .ensures .0,
+      c .before .before .before .record-at .ensures .0,
+      c .before .before .before .before .ladder .ensures,
+      i .instances-at .ensures,
+    )))

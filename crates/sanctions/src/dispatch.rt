@@ -1,0 +1,63 @@
+// The sanction of a dispatch failure (tariff 23.4.3.3.2).
+ghost use mathlib.Core.Path.{_≡_};
+ghost use Prim.Native.Nat.{_/_, _≤_, _<_};
+ghost use lib.ListN.{length};
+ghost use Rattle.binary.specs.Bounded.{sumTo};
+ghost use Rattle.casefile.specs.Layout.{hours};
+ghost use Rattle.sanctions.specs.Tables.{hourRevenue, dispatchRow};
+use crate::instances::with_impact;
+use crate::sanction::Sanction;
+use binary::bytes::load_u32;
+use binary::masks::bit_of;
+use binary::numbers::choose_u32;
+use casefile::layout;
+use casefile::records::record_at;
+use tariff::sanctions::dispatch_penalty;
+
+// The added revenue, where the mask has the hour.
+fn hour_revenue(event: &[u8], mask: u32, h: usize) -> u32
+    requires { ⌜ (length (now event) ≡ 312) × (h < 24) ⌝ }
+    ensures { λ r. ⌜ r ≡ hourRevenue (now (event .entry)) mask h ⌝ }
+{
+    let at = layout::CELLS_OFFSET + layout::CELL_WIDTH * h;
+    let b = load_u32(event, at + 4);
+    let flagged = bit_of(mask, h);
+    choose_u32(flagged, b, 0)
+}
+
+// The sum over flagged hours.
+fn revenue(event: &[u8], mask: u32) -> u64
+    requires { ⌜ length (now event) ≡ 312 ⌝ }
+    ensures { λ r. ⌜ (r ≡ sumTo hours (hourRevenue (now (event .entry)) mask)) × (r ≤ 1000000000000000000) ⌝ }
+{
+    let mut sum: u64 = 0;
+    let mut h = 0;
+    while h < layout::HOURS {
+        sum += hour_revenue(event, mask, h) as u64;
+        h += 1;
+    }
+    sum
+}
+
+// Multiplier 3 and the penalty, with impact 1 and a flag; else both 0.
+pub fn dispatch(events: &[u8], masks: &[u32], i: usize) -> Sanction
+    requires { ⌜ (i < length (now events) / 312) × (i < length (now masks)) ⌝ }
+    ensures { λ r. ⌜ r ≡ dispatchRow (now (events .entry)) (now (masks .entry)) i ⌝ }
+{
+    if !with_impact(events, masks, i) {
+        return Sanction {
+            multiplier: 0,
+            n3: 0,
+            n2: 0,
+            penalty: 0,
+        };
+    }
+    let event = record_at(events, i, layout::EVENT_WIDTH);
+    let penalty = dispatch_penalty(revenue(event, masks[i]));
+    Sanction {
+        multiplier: 3,
+        n3: 0,
+        n2: 0,
+        penalty,
+    }
+}

@@ -1,0 +1,225 @@
+// The sanction of a party-day with inaccurate fuel data (tariff 23.4.3.3.3), found at its first event.
+ghost use mathlib.Core.Path.{_≡_};
+ghost use Prim.Native.Nat.{_/_, _≤_, _<_};
+ghost use lib.ListN.{length};
+ghost use Rattle.binary.specs.Bounded.{anyTo};
+ghost use Rattle.binary.specs.Word.{positivePart, negativePart};
+ghost use Rattle.casefile.specs.Decode.{eventsIn};
+ghost use Rattle.sanctions.specs.Penalties.{fuelMultiplierAfter};
+ghost use Rattle.sanctions.specs.Found.{SmallAmounts, Sound};
+ghost use Rattle.sanctions.specs.Tables.{hourEnergy, energyOf, partyShare, partyDay, fuelRowCounts, fuelEntryCounts, fuelRow};
+use crate::sanction::Sanction;
+use binary::bytes::load_u8;
+use binary::bytes::load_u16;
+use binary::bytes::load_u32;
+use binary::masks::bit_of;
+use binary::numbers::choose_u64;
+use binary::numbers::difference;
+use binary::numbers::product;
+use binary::numbers::wide;
+use binary::words::negative_part;
+use binary::words::positive_part;
+use casefile::layout;
+use casefile::records::record_at;
+use tariff::sanctions::fuel_day_counts;
+use tariff::sanctions::fuel_penalty;
+
+// E is gain less loss.
+pub struct Energy {
+    pub gain: u64,
+    pub loss: u64,
+}
+
+// The sums of a party-day: E is gain less loss, and the sum of R is rise less fall.
+pub struct PartyDay {
+    pub gain: u64,
+    pub loss: u64,
+    pub rise: u64,
+    pub fall: u64,
+}
+
+// a × b where the mask has the hour: its gain or its loss.
+fn hour_energy(event: &[u8], mask: u32, h: usize) -> Energy
+    requires { ⌜ (length (now event) ≡ 312) × (h < 24) ⌝ }
+    ensures { λ r. ⌜ (r .gain ≡ hourEnergy (positivePart 32) (now (event .entry)) mask h) × (r .loss ≡ hourEnergy (negativePart 32) (now (event .entry)) mask h) ⌝ }
+{
+    let at = layout::CELLS_OFFSET + layout::CELL_WIDTH * h;
+    let a = load_u32(event, at);
+    let b = load_u32(event, at + 4);
+    let flagged = bit_of(mask, h);
+    let gain = choose_u64(flagged, product(a, positive_part(b)), 0);
+    let loss = choose_u64(flagged, product(a, negative_part(b)), 0);
+    Energy { gain, loss }
+}
+
+// An event's part of E: 10 × Q, and a × b over the hours of the mask.
+fn event_energy(event: &[u8], mask: u32) -> Energy
+    requires { ⌜ (length (now event) ≡ 312) × SmallAmounts (now event) ⌝ }
+    ensures { λ r. ⌜ r ≡ energyOf (now (event .entry)) mask ⌝ }
+{
+    let q = load_u32(event, 16);
+    let mut gain = 10 * wide(positive_part(q));
+    let mut loss = 10 * wide(negative_part(q));
+    let mut h = 0;
+    while h < layout::HOURS {
+        let hour = hour_energy(event, mask, h);
+        gain += hour.gain;
+        loss += hour.loss;
+        h += 1;
+    }
+    Energy { gain, loss }
+}
+
+// What event j adds to the party-day that event i leads.
+fn party_share(events: &[u8], leaders: &[usize], mask: u32, i: usize, j: usize) -> PartyDay
+    requires { ⌜ (j < length (now events) / 312) × (j < length (now leaders)) × (eventsIn (now events) .kind i ≡ 3) × Sound (now events) (now leaders) ⌝ }
+    ensures { λ r. ⌜ r ≡ partyShare (now (events .entry)) (now (leaders .entry)) mask i j ⌝ }
+{
+    if leaders[j] != i {
+        return PartyDay {
+            gain: 0,
+            loss: 0,
+            rise: 0,
+            fall: 0,
+        };
+    }
+    let event = record_at(events, j, layout::EVENT_WIDTH);
+    let e = event_energy(event, mask);
+    let r = load_u32(event, 20);
+    let rise = wide(positive_part(r));
+    let fall = wide(negative_part(r));
+    PartyDay {
+        gain: e.gain,
+        loss: e.loss,
+        rise,
+        fall,
+    }
+}
+
+// The sums of the party-day that event i leads; no event before it is of that party-day.
+fn party_day(events: &[u8], leaders: &[usize], mask: u32, i: usize) -> PartyDay
+    requires { ⌜ (i < length (now events) / 312) × (length (now events) / 312 ≤ length (now leaders)) × (length (now events) / 312 ≤ 200) × (eventsIn (now events) .kind i ≡ 3) × Sound (now events) (now leaders) ⌝ }
+    ensures { λ r. ⌜ r ≡ partyDay (now (events .entry)) (now (leaders .entry)) mask i (length (now (events .entry)) / 312) ⌝ }
+{
+    let n = events.len() / layout::EVENT_WIDTH;
+    let mut gain: u64 = 0;
+    let mut loss: u64 = 0;
+    let mut rise: u64 = 0;
+    let mut fall: u64 = 0;
+    let mut j = i;
+    while j < n {
+        let share = party_share(events, leaders, mask, i, j);
+        gain += share.gain;
+        loss += share.loss;
+        rise += share.rise;
+        fall += share.fall;
+        j += 1;
+    }
+    PartyDay {
+        gain,
+        loss,
+        rise,
+        fall,
+    }
+}
+
+// Whether row j has a fuel penalty above 0 of a group, 1 to 183 days before a day.
+fn is_prior(
+    events: &[u8],
+    groups: &[u16],
+    penalties: &[u64],
+    day: u32,
+    group: u16,
+    j: usize,
+) -> bool
+    requires { ⌜ (j < length (now events) / 312) × (j < length (now groups)) × (j < length (now penalties)) ⌝ }
+    ensures { λ r. ⌜ r ≡ fuelRowCounts (now (events .entry)) (now (groups .entry)) (now (penalties .entry)) day group j ⌝ }
+{
+    let event = record_at(events, j, layout::EVENT_WIDTH);
+    let kind = load_u8(event, 0);
+    let near = fuel_day_counts(day, load_u32(event, 8));
+    (0 < penalties[j]) & (kind == 3) & (groups[j] == group) & near
+}
+
+// Whether one of the first i rows has such a penalty.
+fn prior_here(
+    events: &[u8],
+    groups: &[u16],
+    penalties: &[u64],
+    day: u32,
+    group: u16,
+    i: usize,
+) -> bool
+    requires { ⌜ (i ≤ length (now events) / 312) × (i ≤ length (now groups)) × (i ≤ length (now penalties)) ⌝ }
+    ensures { λ r. ⌜ r ≡ anyTo i (fuelRowCounts (now (events .entry)) (now (groups .entry)) (now (penalties .entry)) day group) ⌝ }
+{
+    let mut any = false;
+    let mut j = 0;
+    while j < i {
+        any = any | is_prior(events, groups, penalties, day, group, j);
+        j += 1;
+    }
+    any
+}
+
+// Whether past entry j is of kind 3 and of a group, 1 to 183 days before a day.
+fn is_prior_entry(past: &[u8], day: u32, group: u16, j: usize) -> bool
+    requires { ⌜ j < length (now past) / 12 ⌝ }
+    ensures { λ r. ⌜ r ≡ fuelEntryCounts (now (past .entry)) day group j ⌝ }
+{
+    let entry = record_at(past, j, layout::PAST_WIDTH);
+    let its_group = load_u16(entry, 0);
+    let kind = load_u8(entry, 2);
+    let near = fuel_day_counts(day, load_u32(entry, 8));
+    (kind == 3) & (its_group == group) & near
+}
+
+fn prior_past(past: &[u8], day: u32, group: u16) -> bool
+    ensures { λ r. ⌜ r ≡ anyTo (length (now (past .entry)) / 12) (fuelEntryCounts (now (past .entry)) day group) ⌝ }
+{
+    let n = past.len() / layout::PAST_WIDTH;
+    let mut any = false;
+    let mut j = 0;
+    while j < n {
+        any = any | is_prior_entry(past, day, group, j);
+        j += 1;
+    }
+    any
+}
+
+// M: 3 halves after a penalty or a past entry, else 2.
+fn multiplier_after(prior: bool) -> u8
+    ensures { λ r. ⌜ r ≡ fuelMultiplierAfter prior ⌝ }
+{
+    if prior { 3 } else { 2 }
+}
+
+// M and the penalty of the party-day that event i leads.
+pub fn fuel(
+    past: &[u8],
+    events: &[u8],
+    groups: &[u16],
+    leaders: &[usize],
+    masks: &[u32],
+    penalties: &[u64],
+    i: usize,
+) -> Sanction
+    requires { ⌜ (i < length (now events) / 312) × (length (now events) / 312 ≤ 200) × (i < length (now groups)) × (length (now events) / 312 ≤ length (now leaders)) × (i < length (now masks)) × (i ≤ length (now penalties)) × (eventsIn (now events) .kind i ≡ 3) × Sound (now events) (now leaders) ⌝ }
+    ensures { λ r. ⌜ r ≡ fuelRow (now (past .entry)) (now (events .entry)) (now (groups .entry)) (now (leaders .entry)) (now (masks .entry)) (now (penalties .entry)) i ⌝ }
+{
+    let event = record_at(events, i, layout::EVENT_WIDTH);
+    let day = load_u32(event, 8);
+    let group = groups[i];
+    let here = prior_here(events, groups, penalties, day, group, i);
+    let outside = prior_past(past, day, group);
+    let multiplier = multiplier_after(here | outside);
+    let sums = party_day(events, leaders, masks[i], i);
+    let tcc = difference(sums.rise, sums.fall);
+    let penalty = fuel_penalty(multiplier, sums.gain, sums.loss, tcc);
+    Sanction {
+        multiplier,
+        n3: 0,
+        n2: 0,
+        penalty,
+    }
+}

@@ -1,0 +1,134 @@
+// Instances: a withheld event with impact 1 and a flagged hour. A row that is one has an N3 above 0.
+ghost use mathlib.Core.Path.{_≡_};
+ghost use mathlib.Core.Bool.{cond};
+ghost use Prim.Native.Nat.{_/_, _≤_, _<_};
+ghost use lib.ListN.{length};
+ghost use Rattle.casefile.specs.Decode.{pastIn, eventsIn};
+ghost use Rattle.sanctions.specs.Tables.{instanceOf, entryOf, instancesHere, instancesPast, instancesAt, withImpact};
+use binary::bytes::load_u8;
+use binary::bytes::load_u16;
+use casefile::layout;
+use casefile::records::record_at;
+use tariff::sanctions::period_counts;
+
+// Over the own period and the two before, and over the own and the one before.
+pub struct Instances {
+    pub n3: u16,
+    pub n2: u16,
+}
+
+fn one_where(counts: bool) -> u16
+    ensures { λ r. ⌜ r ≡ cond counts 1 0 ⌝ }
+{
+    if counts { 1 } else { 0 }
+}
+
+// Whether event i has impact 1 and a flagged hour.
+pub fn with_impact(events: &[u8], masks: &[u32], i: usize) -> bool
+    requires { ⌜ (i < length (now events) / 312) × (i < length (now masks)) ⌝ }
+    ensures { λ r. ⌜ r ≡ withImpact (now (events .entry)) (now (masks .entry)) i ⌝ }
+{
+    let event = record_at(events, i, layout::EVENT_WIDTH);
+    let impact = load_u8(event, 7);
+    (impact == 1) & (0 < masks[i])
+}
+
+// Whether row j is an instance of a group and market.
+fn is_instance(events: &[u8], groups: &[u16], n3: &[u16], group: u16, market: u8, j: usize) -> bool
+    requires { ⌜ (j < length (now events) / 312) × (j < length (now groups)) × (j < length (now n3)) ⌝ }
+    ensures { λ r. ⌜ r ≡ instanceOf (now (events .entry)) (now (groups .entry)) (now (n3 .entry)) group market j ⌝ }
+{
+    let event = record_at(events, j, layout::EVENT_WIDTH);
+    let its_market = load_u8(event, 1);
+    (0 < n3[j]) & (groups[j] == group) & (its_market == market)
+}
+
+fn period_of(events: &[u8], j: usize) -> u16
+    requires { ⌜ j < length (now events) / 312 ⌝ }
+    ensures { λ r. ⌜ r ≡ eventsIn (now (events .entry)) .period j ⌝ }
+{
+    let event = record_at(events, j, layout::EVENT_WIDTH);
+    load_u16(event, 4)
+}
+
+// The instances on the first i rows.
+fn instances_here(
+    events: &[u8],
+    groups: &[u16],
+    n3: &[u16],
+    group: u16,
+    market: u8,
+    period: u16,
+    i: usize,
+) -> Instances
+    requires { ⌜ (i ≤ length (now events) / 312) × (i ≤ length (now groups)) × (i ≤ length (now n3)) × (i ≤ 200) ⌝ }
+    ensures { λ r. ⌜ r ≡ instancesHere (now (events .entry)) (now (groups .entry)) (now (n3 .entry)) group market period i ⌝ }
+{
+    let mut three: u16 = 0;
+    let mut two: u16 = 0;
+    let mut j = 0;
+    while j < i {
+        let same = is_instance(events, groups, n3, group, market, j);
+        let its_period = period_of(events, j);
+        three += one_where(same & period_counts(2, period, its_period));
+        two += one_where(same & period_counts(1, period, its_period));
+        j += 1;
+    }
+    Instances { n3: three, n2: two }
+}
+
+// Whether past entry j is of kind 1, and of a group and market.
+fn is_entry(past: &[u8], group: u16, market: u8, j: usize) -> bool
+    requires { ⌜ j < length (now past) / 12 ⌝ }
+    ensures { λ r. ⌜ r ≡ entryOf (now (past .entry)) group market j ⌝ }
+{
+    let entry = record_at(past, j, layout::PAST_WIDTH);
+    let its_group = load_u16(entry, 0);
+    let kind = load_u8(entry, 2);
+    let its_market = load_u8(entry, 3);
+    (kind == 1) & (its_group == group) & (its_market == market)
+}
+
+fn entry_period(past: &[u8], j: usize) -> u16
+    requires { ⌜ j < length (now past) / 12 ⌝ }
+    ensures { λ r. ⌜ r ≡ pastIn (now (past .entry)) .entry j .period ⌝ }
+{
+    let entry = record_at(past, j, layout::PAST_WIDTH);
+    load_u16(entry, 4)
+}
+
+// The past entries that count as instances.
+fn instances_past(past: &[u8], group: u16, market: u8, period: u16) -> Instances
+    requires { ⌜ length (now past) / 12 ≤ 256 ⌝ }
+    ensures { λ r. ⌜ r ≡ instancesPast (now (past .entry)) group market period ⌝ }
+{
+    let n = past.len() / layout::PAST_WIDTH;
+    let mut three: u16 = 0;
+    let mut two: u16 = 0;
+    let mut j = 0;
+    while j < n {
+        let same = is_entry(past, group, market, j);
+        let its_period = entry_period(past, j);
+        three += one_where(same & period_counts(2, period, its_period));
+        two += one_where(same & period_counts(1, period, its_period));
+        j += 1;
+    }
+    Instances { n3: three, n2: two }
+}
+
+// N3 and N2 of an instance: 1 plus the rows before it and the past entries that count.
+pub fn instances_at(past: &[u8], events: &[u8], groups: &[u16], n3: &[u16], i: usize) -> Instances
+    requires { ⌜ (i < length (now events) / 312) × (i < length (now groups)) × (i ≤ length (now n3)) × (i ≤ 200) × (length (now past) / 12 ≤ 256) ⌝ }
+    ensures { λ r. ⌜ r ≡ instancesAt (now (past .entry)) (now (events .entry)) (now (groups .entry)) (now (n3 .entry)) i ⌝ }
+{
+    let event = record_at(events, i, layout::EVENT_WIDTH);
+    let market = load_u8(event, 1);
+    let period = load_u16(event, 4);
+    let group = groups[i];
+    let here = instances_here(events, groups, n3, group, market, period, i);
+    let before = instances_past(past, group, market, period);
+    Instances {
+        n3: 1 + here.n3 + before.n3,
+        n2: 1 + here.n2 + before.n2,
+    }
+}

@@ -1,0 +1,80 @@
+// The sanction of a withheld event (tariff 23.4.3.3.1).
+ghost use mathlib.Core.Path.{_≡_};
+ghost use Prim.Native.Nat.{_/_, _≤_, _<_};
+ghost use lib.ListN.{length};
+ghost use Rattle.binary.specs.Bounded.{sumTo};
+ghost use Rattle.binary.specs.Word.{positivePart};
+ghost use Rattle.casefile.specs.Layout.{hours};
+ghost use Rattle.casefile.specs.Decode.{recordAt};
+ghost use Rattle.sanctions.specs.Found.{SmallAmounts};
+ghost use Rattle.sanctions.specs.Tables.{hourEnergy, withheldRow};
+use crate::instances::instances_at;
+use crate::instances::with_impact;
+use crate::sanction::Sanction;
+use binary::bytes::load_u32;
+use binary::masks::bit_of;
+use binary::numbers::choose_u64;
+use binary::numbers::product;
+use binary::words::positive_part;
+use casefile::layout;
+use casefile::records::record_at;
+use tariff::sanctions::ladder;
+use tariff::sanctions::withheld_penalty;
+
+// a × (b, or 0 if negative), where the mask has the hour.
+fn hour_amount(event: &[u8], mask: u32, h: usize) -> u64
+    requires { ⌜ (length (now event) ≡ 312) × (h < 24) ⌝ }
+    ensures { λ r. ⌜ r ≡ hourEnergy (positivePart 32) (now (event .entry)) mask h ⌝ }
+{
+    let at = layout::CELLS_OFFSET + layout::CELL_WIDTH * h;
+    let a = load_u32(event, at);
+    let b = load_u32(event, at + 4);
+    let flagged = bit_of(mask, h);
+    choose_u64(flagged, product(a, positive_part(b)), 0)
+}
+
+// The sum over flagged hours.
+fn amount(event: &[u8], mask: u32) -> u64
+    requires { ⌜ (length (now event) ≡ 312) × SmallAmounts (now event) ⌝ }
+    ensures { λ r. ⌜ (r ≡ sumTo hours (hourEnergy (positivePart 32) (now (event .entry)) mask)) × (r ≤ 10000000000000000) ⌝ }
+{
+    let mut sum: u64 = 0;
+    let mut h = 0;
+    while h < layout::HOURS {
+        sum += hour_amount(event, mask, h);
+        h += 1;
+    }
+    sum
+}
+
+// The multiplier, N3, N2 and the penalty of an instance; all 0 where the event is none.
+pub fn withheld(
+    past: &[u8],
+    events: &[u8],
+    groups: &[u16],
+    masks: &[u32],
+    n3: &[u16],
+    i: usize,
+) -> Sanction
+    requires { ⌜ (i < length (now events) / 312) × (i < length (now groups)) × (i < length (now masks)) × (i ≤ length (now n3)) × (i ≤ 200) × (length (now past) / 12 ≤ 256) × SmallAmounts (recordAt 312 (now events) i) ⌝ }
+    ensures { λ r. ⌜ r ≡ withheldRow (now (past .entry)) (now (events .entry)) (now (groups .entry)) (now (masks .entry)) (now (n3 .entry)) i ⌝ }
+{
+    if !with_impact(events, masks, i) {
+        return Sanction {
+            multiplier: 0,
+            n3: 0,
+            n2: 0,
+            penalty: 0,
+        };
+    }
+    let counts = instances_at(past, events, groups, n3, i);
+    let multiplier = ladder(counts.n3 as u32, counts.n2 as u32);
+    let event = record_at(events, i, layout::EVENT_WIDTH);
+    let penalty = withheld_penalty(multiplier, amount(event, masks[i]));
+    Sanction {
+        multiplier,
+        n3: counts.n3,
+        n2: counts.n2,
+        penalty,
+    }
+}

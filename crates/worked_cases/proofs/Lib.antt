@@ -1,0 +1,2 @@
+pub mod Settlements
+pub mod WorseCases

@@ -1,0 +1,110 @@
+-- Worked cases: their files and the rows that they settle into.
+use Prim.Native.Nat.{ℕ, _+_, _-_, _^_}
+use mathlib.Core.Bool.{cond}
+use mathlib.Core.List.{List, [], _++_}
+use lib.Dec.{eqb}
+use lib.ListN.{replicate}
+use Rattle.binary.specs.Bytes.{bytesOf}
+use Rattle.casefile.specs.Examples.{fileOf, unitBytes, referenceBytes, entryBytes, units}
+use Rattle.binary.specs.Lists.{joinTo}
+
+-- the word of a negative amount
+abbrev pub minus : ℕ → ℕ
+minus x = 2 ^ 32 - x
+
+-- a value at one hour, and otherwise those of f
+abbrev pub at : (h : ℕ) {A : Type 0} → A → (ℕ → A) → ℕ → A
+at h x f k = cond (eqb k h) x (f k)
+
+unfoldable pub tightUnit : (number group capability rate averagePrice constrainedHours : ℕ) → List ℕ
+tightUnit number group capability rate averagePrice constrainedHours =
+    bytesOf 2 number ++ bytesOf 2 group ++ bytesOf 1 1 ++ bytesOf 3 0 ++ bytesOf 4 capability ++ bytesOf 4 rate
+    ++ bytesOf 4 averagePrice ++ bytesOf 2 constrainedHours ++ bytesOf 2 0
+
+unfoldable pub cellBytes : (a b m : ℕ) → List ℕ
+cellBytes a b m = bytesOf 4 a ++ bytesOf 4 b ++ bytesOf 4 m
+
+-- an event of period 44 with these cells
+unfoldable pub eventOf : (day kind market unit component impact P Q R : ℕ) (cells : ℕ → List ℕ) → List ℕ
+eventOf day kind market unit component impact P Q R cells =
+    bytesOf 1 kind ++ bytesOf 1 market ++ bytesOf 2 unit ++ bytesOf 2 44 ++ bytesOf 1 component ++ bytesOf 1 impact
+    ++ bytesOf 4 day ++ bytesOf 4 P ++ bytesOf 4 Q ++ bytesOf 4 R ++ joinTo 24 cells
+
+abbrev pub empty : ℕ → List ℕ
+empty h = replicate 12 0
+
+unfoldable pub rowBytes : (flags mitigated penalty makeUp multiplier n3 n2 : ℕ) (bids : ℕ → ℕ) → List ℕ
+rowBytes flags mitigated penalty makeUp multiplier n3 n2 bids =
+    bytesOf 4 flags ++ bytesOf 4 mitigated ++ bytesOf 8 penalty ++ bytesOf 8 makeUp ++ bytesOf 1 multiplier ++ bytesOf 1 0
+    ++ bytesOf 2 n3 ++ bytesOf 2 n2 ++ bytesOf 2 0 ++ joinTo 24 (λ h. bytesOf 4 (bids h))
+
+abbrev pub noBids : ℕ → ℕ
+noBids h = 0
+
+-- ---- kinds 1 to 3
+
+-- units 12 and 13 of group 1, and unit 20 of group 2 in a Constrained Area
+unfoldable pub areaUnits : List ℕ
+areaUnits = units ++ tightUnit 20 2 8000 100 5000 1000
+
+-- three instances of group 1, of the periods 42, 43 and 44
+unfoldable pub pastInstances : List ℕ
+pastInstances = entryBytes 1 1 0 42 0 ++ entryBytes 1 1 0 43 0 ++ entryBytes 1 1 0 44 0
+
+-- withheld by units 12 and 13, whose S of hour 1 is over the line; dispatch in a tight hour; a party-day of fuel, and fuel 100
+-- days later
+unfoldable pub sanctionedEvents : List ℕ
+sanctionedEvents =
+    eventOf 8000 1 0 12 0 1 0 0 0 (at 0 (cellBytes 501 4005 0) (at 1 (cellBytes 400 1000 0) empty))
+    ++ eventOf 8000 1 0 13 0 1 0 0 0 (at 1 (cellBytes 700 (minus 100) 0) empty)
+    ++ eventOf 8000 2 1 20 0 1 8 0 0 (at 3 (cellBytes 501 1001 0) empty)
+    ++ eventOf 8000 3 0 12 0 0 1 (minus 1000) (minus 500) (at 0 (cellBytes 100 60000 0) empty)
+    ++ eventOf 8000 3 0 13 0 0 32 0 200 (at 0 (cellBytes 50 (minus 1000) 0) (at 5 (cellBytes 10 7 0) empty))
+    ++ eventOf 8100 3 0 12 0 0 1 499999 0 empty
+
+unfoldable pub sanctioned : List ℕ
+sanctioned = fileOf areaUnits [] pastInstances sanctionedEvents
+
+-- the first withheld event is the fourth instance in three periods and the third in two, the second one more; its negative price
+-- costs nothing. E of the party-day is 5,940,070, of the later day 4,999,990 with M 3
+unfoldable pub sanctionedRows : List ℕ
+sanctionedRows =
+    rowBytes 3 0 481301 0 4 4 3 noBids
+    ++ rowBytes 2 0 0 0 6 5 4 noBids
+    ++ rowBytes 8 0 1502 0 3 0 0 noBids
+    ++ rowBytes 33 0 594007 0 2 0 0 noBids
+    ++ rowBytes 33 0 0 0 0 0 0 noBids
+    ++ rowBytes 1 0 749999 0 3 0 0 noBids
+
+-- ---- kind 4
+
+unfoldable pub bidReferences : List ℕ
+bidReferences =
+    referenceBytes 20 0 2000 ++ referenceBytes 20 4 100 ++ referenceBytes 20 5 100 ++ referenceBytes 20 6 100
+    ++ referenceBytes 20 8 100
+
+-- tight energy, three times, a maximum parameter
+unfoldable pub bidEvents : List ℕ
+bidEvents =
+    eventOf 8000 4 1 20 0 0 4 4 0 (at 2 (cellBytes 2877 1000 1000) empty)
+    ++ eventOf 8000 4 1 20 4 0 0 0 0 (at 0 (cellBytes 221 0 0) empty)
+    ++ eventOf 8000 4 1 20 5 0 0 1 0 (at 0 (cellBytes 220 0 0) empty)
+    ++ eventOf 8000 4 1 20 6 0 0 0 0 (at 0 (cellBytes 220 0 0) empty)
+    ++ eventOf 8000 4 1 20 8 0 0 1 0 (at 0 (cellBytes 49 0 0) empty)
+
+unfoldable pub bids : List ℕ
+bids = fileOf (tightUnit 20 2 8000 100 5000 1000) bidReferences [] bidEvents
+
+unfoldable pub bidRows : List ℕ
+bidRows =
+    rowBytes 4 4 0 150000 0 0 0 (at 2 2000 noBids)
+    ++ rowBytes 1 0 0 0 0 0 0 (at 0 221 noBids)
+    ++ rowBytes 1 1 0 0 0 0 0 (at 0 100 noBids)
+    ++ rowBytes 1 0 0 0 0 0 0 (at 0 220 noBids)
+    ++ rowBytes 16777215 1 0 0 0 0 0 (at 0 100 noBids)
+
+-- a Day-Ahead bid on minimum generation
+unfoldable pub minimumGeneration : List ℕ
+minimumGeneration =
+    fileOf (unitBytes 12 1 0 5000) (referenceBytes 12 1 5000) []
+    (eventOf 8000 4 0 12 1 0 0 262144 4 (at 18 (cellBytes 15001 0 0) (at 20 (cellBytes 4500 0 0) empty)))
