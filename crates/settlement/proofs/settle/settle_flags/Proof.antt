@@ -26,9 +26,10 @@ levels-asked c κs =
 masks-asked : tie.Need-mitigated-masks-requires
 masks-asked c κs =
     let s = c .before .before .before .before .before .before .before .before .before .before .before .before .before .before .before .before .before .before .before .before .before .before .before .before in
-    let a = s .args in
-    ((s .pre .1 .found .masks-long, s .pre .0 .accepted .few-events),
-    λ i l. s .pre .1 .found .mask-held i l ∙ ap (λ (k : ℕ → ℕ). k i) (flags-past (a .units .now) (a .references .now) (a .past .now) [] (a .events .now)))
+    let a = s .args in (
+      (s .pre .1 .found .masks-long, s .pre .0 .accepted .few-events),
+      λ i l. s .pre .1 .found .mask-held i l ∙ ap (λ (k : ℕ → ℕ). k i) (flags-past (a .units .now) (a .references .now) (a .past .now) [] (a .events .now)),
+    )
 
 make-ups-asked : tie.Need-make-ups-requires
 make-ups-asked c κs =
@@ -52,17 +53,28 @@ rows-asked c κs =
     let p = s .pre .1 in (
       (s .pre .0 .events-short, s .pre .0 .accepted .events-listed, s .pre .0 .rows-long),
       (
-        (p .places-long, p .levels-long, fill-long _ _ _ _ (c .before .before .before .before .before .before .before .before .before .before .before .before .before .before .before .before .before .correct-levels .ensures), p .found .masks-long,
-        fill-long _ _ _ _ (c .before .before .before .before .before .before .before .before .before .before .before .before .before .before .mitigated-masks .ensures), fill-long _ _ _ _ (f .1 .1 .1 .1), fill-long _ _ _ _ (c .before .before .before .before .before .before .before .before .before .make-ups .ensures .1),
-        fill-long _ _ _ _ (f .1 .0), fill-long _ _ _ _ (f .1 .1 .0), fill-long _ _ _ _ (f .1 .1 .1 .0)),
+        (
+          p .places-long,
+          p .levels-long,
+          fill-long _ _ _ _ (c .before .before .before .before .before .before .before .before .before .before .before .before .before .before .before .before .before .correct-levels .ensures),
+          p .found .masks-long,
+          fill-long _ _ _ _ (c .before .before .before .before .before .before .before .before .before .before .before .before .before .before .mitigated-masks .ensures),
+          fill-long _ _ _ _ (f .1 .1 .1 .1),
+          fill-long _ _ _ _ (c .before .before .before .before .before .before .before .before .before .make-ups .ensures .1),
+          fill-long _ _ _ _ (f .1 .0),
+          fill-long _ _ _ _ (f .1 .1 .0),
+          fill-long _ _ _ _ (f .1 .1 .1 .0),
+        ),
         (
           (p .place-held, p .level-held, holds-fill _ _ _ _ (c .before .before .before .before .before .before .before .before .before .before .before .before .before .before .before .before .before .correct-levels .ensures)),
           (
-            (p .found .mask-held,
-            λ i l. holds-fill _ _ _ _ (c .before .before .before .before .before .before .before .before .before .before .before .before .before .before .mitigated-masks .ensures) i l
-            ∙ ap (λ (k : ℕ → ℕ). k i) (mitigated-past (a .units .now) (a .references .now) [] (a .past .now) (a .events .now)),
-            λ i l. holds-fill _ _ _ _ (c .before .before .before .before .before .before .before .before .before .make-ups .ensures .1) i l
-            ∙ ap (λ (k : ℕ → ℕ). k i) (make-ups-past (a .units .now) (a .references .now) [] (a .past .now) (a .events .now) (referencesIn (a .correct .now)))),
+            (
+              p .found .mask-held,
+              λ i l. holds-fill _ _ _ _ (c .before .before .before .before .before .before .before .before .before .before .before .before .before .before .mitigated-masks .ensures) i l
+                  ∙ ap (λ (k : ℕ → ℕ). k i) (mitigated-past (a .units .now) (a .references .now) [] (a .past .now) (a .events .now)),
+              λ i l. holds-fill _ _ _ _ (c .before .before .before .before .before .before .before .before .before .make-ups .ensures .1) i l
+                  ∙ ap (λ (k : ℕ → ℕ). k i) (make-ups-past (a .units .now) (a .references .now) [] (a .past .now) (a .events .now) (referencesIn (a .correct .now))),
+            ),
             (holds-fill _ _ _ _ (f .1 .1 .1 .1), holds-fill _ _ _ _ (f .1 .0), holds-fill _ _ _ _ (f .1 .1 .0), holds-fill _ _ _ _ (f .1 .1 .1 .0)),
           ),
         ),
@@ -73,11 +85,12 @@ returns : tie.Need-returns
 unfolding totalsOf
 returns c =
     let s = c .before .before .before .before .before .before .before .before .before .before .before .before .before .before .before .before .before .before .before .before .before .before .before .before .before .before .before .before .before .before .before .before .before .before .before .before .before .before .before .before .before .before in
-    let a = s .args in
-    (ap₂ (λ (x y : ℕ). record { penalties = x; «make_ups» = y }) (c .before .before .before .before .before .before .before .before .before .before .before .before .before .before .before .before .before .before .before .before .before .before .before .before .before .before .find-penalties .ensures .0)
-    (c .before .before .before .before .before .before .before .before .before .before .before .before .make-ups .ensures .0
-    ∙ total-past (a .units .now) (a .references .now) [] (a .past .now) (a .events .now) (referencesIn (a .correct .now))),
-    c .before .before .write-rows .ensures)
+    let a = s .args in (
+      ap₂ (λ (x y : ℕ). record { penalties = x; «make_ups» = y }) (c .before .before .before .before .before .before .before .before .before .before .before .before .before .before .before .before .before .before .before .before .before .before .before .before .before .before .find-penalties .ensures .0)
+          (c .before .before .before .before .before .before .before .before .before .before .before .before .make-ups .ensures .0
+          ∙ total-past (a .units .now) (a .references .now) [] (a .past .now) (a .events .now) (referencesIn (a .correct .now))),
+      c .before .before .write-rows .ensures,
+    )
 
 pub settle-flags-spec : {M : Type 1} → statement M
 settle-flags-spec =
