@@ -1,0 +1,127 @@
+/* Calls the archive from C, on the listing's case and the pencil sheet. Exit status 0 where every answer is right. */
+#include "attachment_h.h"
+
+#include <stdio.h>
+#include <string.h>
+
+static int failures;
+
+static void expect(const char *what, uint64_t got, uint64_t expected) {
+    if (got != expected) {
+        printf("%s: %llu, and not %llu\n", what, (unsigned long long)got, (unsigned long long)expected);
+        failures++;
+    }
+}
+
+static void expect_answer(const char *what, attachment_h_answer got, uint8_t number, uint64_t figure) {
+    expect(what, got.number, number);
+    expect(what, got.figure, figure);
+}
+
+static void put16(uint8_t *at, uint16_t value) {
+    at[0] = (uint8_t)value;
+    at[1] = (uint8_t)(value >> 8);
+}
+
+static void put32(uint8_t *at, uint32_t value) {
+    put16(at, (uint16_t)value);
+    put16(at + 2, (uint16_t)(value >> 16));
+}
+
+/* Units 12 (5,000) and 13 (15,000), one group; one Day-Ahead withheld event: the case of the listing. */
+enum { HEADER = 36, UNIT = 24, EVENT = 312, CASE = HEADER + 2 * UNIT + EVENT };
+
+static void write_case(uint8_t file[CASE]) {
+    memset(file, 0, CASE);
+    put16(file, 1);
+    put16(file + 2, 4);
+    const uint32_t lengths[4] = {2 * UNIT, 0, 0, EVENT};
+    uint32_t offset = HEADER;
+    for (int section = 0; section < 4; section++) {
+        put32(file + 4 + 8 * section, offset);
+        put32(file + 8 + 8 * section, lengths[section]);
+        offset += lengths[section];
+    }
+    for (int unit = 0; unit < 2; unit++) {
+        uint8_t *record = file + HEADER + UNIT * unit;
+        put16(record, (uint16_t)(12 + unit));
+        put16(record + 2, 7);
+        put32(record + 8, unit == 0 ? 5000 : 15000);
+    }
+    uint8_t *event = file + HEADER + 2 * UNIT;
+    event[0] = 1;
+    put16(event + 2, 12);
+    put16(event + 4, 44);
+    event[7] = 1;
+    put32(event + 8, 8000);
+    put32(event + 24, 501);
+    put32(event + 28, 4000);
+}
+
+static void check_cases(void) {
+    uint8_t file[CASE];
+    write_case(file);
+    uint8_t *event = file + HEADER + 2 * UNIT;
+    expect("the listing's case", attachment_h_check(file, CASE, NULL, 0, 128), 0);
+    expect("127 bytes, one event", attachment_h_check(file, CASE, NULL, 0, 127), 15);
+    expect("35 bytes", attachment_h_check(file, 35, NULL, 0, 128), 1);
+    expect("no bytes", attachment_h_check(NULL, 0, NULL, 0, 128), 1);
+    const uint8_t correction[7] = {0};
+    expect("a correction of 7 bytes", attachment_h_check(file, CASE, correction, 7, 128), 8);
+    put32(event + 24, 5001);
+    expect("5,001 of 5,000", attachment_h_check(file, CASE, NULL, 0, 128), 13);
+    put16(event + 2, 99);
+    expect("unit 99", attachment_h_check(file, CASE, NULL, 0, 128), 12);
+    event[1] = 2;
+    expect("market 2", attachment_h_check(file, CASE, NULL, 0, 128), 10);
+    file[HEADER + 4] = 2;
+    expect("area 2", attachment_h_check(file, CASE, NULL, 0, 128), 6);
+    file[4] = 40;
+    expect("first offset 40", attachment_h_check(file, CASE, NULL, 0, 128), 4);
+    file[0] = 9;
+    expect("version 9", attachment_h_check(file, CASE, NULL, 0, 128), 2);
+}
+
+static void call_rules(void) {
+    expect_answer("500 of 5,000", attachment_h_withheld_fails(500, 5000, 500, 20000, false), 0, 0);
+    expect_answer("501 of 5,000", attachment_h_withheld_fails(501, 5000, 501, 20000, false), 0, 1);
+    expect_answer("5,001 of 5,000", attachment_h_withheld_fails(5001, 5000, 501, 20000, false), 10, 0);
+    expect_answer("dispatch, rate 0", attachment_h_dispatch_fails(1, 0, 1, false), 0, 1);
+    expect_answer("r 625", attachment_h_bid_fails(0, 625, 2500, 0, false, 0, 0), 0, 0);
+    expect_answer("r 624", attachment_h_bid_fails(0, 624, 2500, 0, false, 0, 0), 0, 1);
+    expect_answer("bid -1", attachment_h_bid_fails(0, 624, -1, 0, false, 0, 0), 0, 0);
+    expect_answer("tight 2,877", attachment_h_bid_fails(0, 2000, 2877, 1, true, 5000, 1000), 0, 1);
+    expect_answer("r 1,000,001", attachment_h_bid_fails(0, 1000001, 0, 0, false, 0, 0), 7, 0);
+    attachment_h_times times = attachment_h_times_fail(120, 181, -5);
+    expect("times", times.number, 0);
+    expect("times, start-up", times.start_up, 0);
+    expect("times, minimum run", times.minimum_run, 1);
+    expect("times, minimum down", times.minimum_down, 0);
+    expect("times out of range", attachment_h_times_fail(0, 0, INT32_MIN).number, 10);
+    expect_answer("N3 4, N2 4", attachment_h_multiplier(4, 4), 0, 6);
+    const uint32_t a[2] = {501, 100};
+    const int32_t b[2] = {4005, -100};
+    expect_answer("withheld penalty", attachment_h_withheld_penalty(2, a, 2, b, 2), 0, 200651);
+    expect_answer("no flagged hour", attachment_h_withheld_penalty(2, NULL, 0, NULL, 0), 0, 0);
+    expect_answer("one price too few", attachment_h_withheld_penalty(2, a, 2, b, 1), 10, 0);
+    expect_answer("dispatch penalty", attachment_h_dispatch_penalty(a, 2), 0, 902);
+    expect_answer("fuel penalty", attachment_h_fuel_penalty(-10000000, 2000000, 2), 0, 1000000);
+    expect_answer("183 days", attachment_h_fuel_day_counts(8000, 8000 - 183), 0, 1);
+    expect_answer("184 days", attachment_h_fuel_day_counts(8000, 8000 - 184), 0, 0);
+    expect_answer("two periods before", attachment_h_period_counts(2, 44, 42), 0, 1);
+    expect_answer("hour 10, R 8", attachment_h_mitigated_span(1u << 10, 8), 0, 0x3FC00);
+    attachment_h_answer bid = attachment_h_bid_in_force(0, -100, 2000, true);
+    expect("bid in force", (uint64_t)((int32_t)bid.figure == -100), 1);
+    bid = attachment_h_corrected_bid_in_force(1, 9000, 2000, 6000, 0, false, 0, 0, true);
+    expect_answer("corrected bid", bid, 0, 9000);
+    expect_answer("make-up", attachment_h_make_up(9000, 5000, 1000, 2000, 6000), 0, 100000);
+}
+
+int main(void) {
+    _Static_assert(sizeof(attachment_h_answer) == 16, "layout of an answer");
+    _Static_assert(sizeof(attachment_h_times) == 4, "layout of the time answer");
+    check_cases();
+    call_rules();
+    puts(failures == 0 ? "C: every answer is right" : "C: wrong answers");
+    return failures != 0;
+}

@@ -1,0 +1,13 @@
+use mathlib.Core.Path.{_∙_, ap}
+use borrow.Author.Needs.{needs}
+use Rattle.api.specs.Exported.{exported}
+use Rattle.api.proofs.calls.attachment_h_fuel_day_counts.Statement.{statement}
+use Rattle.api.proofs.calls.attachment_h_fuel_day_counts.Tie as tie
+
+pub attachment-h-fuel-day-counts-spec : {M : Type 1} → statement M
+attachment-h-fuel-day-counts-spec =
+    tie.close
+    (tie.spec
+    (λ c κs. search needs)
+    (λ c κs. search needs)
+    (λ c. c .of-verdict .ensures ∙ ap exported (c .before .fuel-day-counts .ensures)))

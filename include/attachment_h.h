@@ -1,0 +1,152 @@
+/*
+ * The proved Attachment H settlement, for C and whatever calls C. Link libapi.a, which
+ * `rt staticlib api` writes to target/staticlib (x86-64 Linux).
+ *
+ * Refusals. A number of 0 refuses nothing. Otherwise a whole case is refused with the lowest number of what it breaks:
+ *
+ *    1  the length of the file is outside 36 to 65,000      9  a past entry's field
+ *    2  the version is not 1                               10  an event's field
+ *    3  the section count is not 4                         11  the order of the events
+ *    4  the pairs do not follow on                         12  an event's unit is not listed
+ *    5  a section's length is no multiple of its           13  kind 1 or 2: a above the unit's capability
+ *       records', or it has too many                       14  kind 4 without its reference, or without the
+ *    6  a unit's field, or the order of the units              correct reference where that is read
+ *    7  a reference's field, the order, or its unit        15  rows shorter than 128 bytes for each event
+ *    8  the same of the correction, or its length
+ *
+ * and a smaller call first with 7 for a reference out of its component's range (skipped where no such component
+ * exists), then with 10 for any other argument out of its range. The ranges stand with each call.
+ *
+ * Memory. A slice is a pointer and a number of elements. A pointer that does not lead to so many readable elements is
+ * the caller's fault, and nothing here can notice it; with a length of 0 the pointer may be NULL. Beyond that every
+ * content of every byte and every value of every argument is handled: no call reads outside of its slices, none
+ * keeps a pointer, allocates, locks or stops the program, and each answers the same for the same arguments. A bool must
+ * be 0 or 1, as C makes it.
+ *
+ * Numbers. A signed argument is a two's complement word of its width. Money is in cents, a power in tenths of MW, an
+ * hour cell's price and bid in cents or in the component's own measure.
+ */
+#ifndef ATTACHMENT_H_H
+#define ATTACHMENT_H_H
+
+#include <stdbool.h>
+#include <stddef.h>
+#include <stdint.h>
+
+#ifdef __cplusplus
+extern "C" {
+#endif
+
+/* number is 0 and figure the answer, 1 for yes and 0 for no where a question was asked; or number is that of the
+ * refusal and figure 0. */
+typedef struct {
+    uint8_t number;
+    uint64_t figure;
+} attachment_h_answer;
+
+/* number is 0 and each bool says whether that time fails; or number is that of the refusal and each bool false. */
+typedef struct {
+    uint8_t number;
+    bool start_up;
+    bool minimum_run;
+    bool minimum_down;
+} attachment_h_times;
+
+/*
+ * Checks a case: its file, its correction (laid out as references; empty for none) and the length of the rows buffer
+ * into which it is to be settled. Gives the number of the first limit that it breaks, or 0 where it is accepted.
+ */
+uint8_t attachment_h_check(const uint8_t *file, size_t file_length,
+                           const uint8_t *correction, size_t correction_length,
+                           size_t rows_length);
+
+/*
+ * Whether a bid fails the conduct test of its component; components 4 to 6 get their single test, "d > 180".
+ *
+ * component 0 to 8. reference 0 to 1,000,000 for components 0 to 2, else 0 to 1,000,000,000. bid -1,000,000 to
+ * 1,000,000 for components 0 and 1, 0 to 1,000,000 for 2, else 0 to 1,000,000,000. market 0 Day-Ahead, 1 Real-Time.
+ * tight: the unit's area is 1 and the hour has a Shadow Price. average_price 0 to 1,000,000. constrained_hours 0 to
+ * 8,784.
+ */
+attachment_h_answer attachment_h_bid_fails(uint8_t component, uint32_t reference, int32_t bid,
+                                           uint8_t market, bool tight,
+                                           uint32_t average_price, uint16_t constrained_hours);
+
+/*
+ * Which of components 4, 5 and 6 of one unit, day, market and hour fail, from their increases over the reference in
+ * minutes, each -1,000,000,000 to 1,000,000,000.
+ */
+attachment_h_times attachment_h_times_fail(int32_t start_up, int32_t minimum_run,
+                                           int32_t minimum_down);
+
+/*
+ * Whether an hour's withheld power a fails the conduct test. capability 1 to 50,000, a at most the capability; s is
+ * the sum over the group and g the group's listed capability, each at most 3,200,000.
+ */
+attachment_h_answer attachment_h_withheld_fails(uint32_t a, uint32_t capability, uint32_t s,
+                                                uint32_t g, bool tight);
+
+/*
+ * Whether an hour's undelivered power a fails the conduct test. a at most 50,000; rate, the unit's response rate
+ * in tenths of MW per minute, at most 50,000; s, the sum over the group, at most 3,200,000.
+ */
+attachment_h_answer attachment_h_dispatch_fails(uint32_t a, uint32_t rate, uint32_t s, bool tight);
+
+/* The multiplier of an instance in halves: 2, 4 or 6. n3 1 to 456, n2 1 to n3. */
+attachment_h_answer attachment_h_multiplier(uint32_t n3, uint32_t n2);
+
+/*
+ * The penalty in cents of a withheld event, from its flagged hours: the power a, at most 50,000 each, and the price b,
+ * -1,000,000 to 1,000,000 each. a and b have as many hours, at most 24. multiplier 0, 2, 4 or 6 halves.
+ */
+attachment_h_answer attachment_h_withheld_penalty(uint8_t multiplier,
+                                                  const uint32_t *a, size_t a_length,
+                                                  const int32_t *b, size_t b_length);
+
+/*
+ * The penalty in cents of a dispatch event with impact 1, from the added revenue b of its flagged hours: at most 24,
+ * each at most 100,000,000.
+ */
+attachment_h_answer attachment_h_dispatch_penalty(const uint32_t *b, size_t b_length);
+
+/*
+ * The penalty in cents for inaccurate fuel data. e, in tenths of a cent, -100,000,000,000,000 to 100,000,000,000,000;
+ * t, in cents, at most 64,000,000,000; m 2 or 3 halves.
+ */
+attachment_h_answer attachment_h_fuel_penalty(int64_t e, uint64_t t, uint8_t m);
+
+/* Whether a fuel penalty of day e raises the multiplier of day d: 1 to 183 days before. Days are at most 1,000,000. */
+attachment_h_answer attachment_h_fuel_day_counts(uint32_t d, uint32_t e);
+
+/* Whether a capability period is the own one or one of the k before it: k is 2 for N3 and 1 for N2. */
+attachment_h_answer attachment_h_period_counts(uint8_t k, uint16_t own, uint16_t period);
+
+/*
+ * The mitigated hours of component 1 Day-Ahead as a mask: hits is the mask of the flagged hours with impact (bits 24 to
+ * 31 are 0), run the minimum run hours, 0 to 24.
+ */
+attachment_h_answer attachment_h_mitigated_span(uint32_t hits, uint32_t run);
+
+/* The bid in force in one hour: (int32_t)figure is the bid. Ranges as for attachment_h_bid_fails. */
+attachment_h_answer attachment_h_bid_in_force(uint8_t component, int32_t bid, uint32_t reference,
+                                              bool mitigated);
+
+/*
+ * The bid in force in one hour beside a correct reference: (int32_t)figure is the bid. Ranges as for
+ * attachment_h_bid_fails; the correct reference has that of the reference.
+ */
+attachment_h_answer attachment_h_corrected_bid_in_force(
+    uint8_t component, int32_t bid, uint32_t reference, uint32_t correct, uint8_t market,
+    bool tight, uint32_t average_price, uint16_t constrained_hours, bool mitigated);
+
+/*
+ * The make-up payment in cents of one mitigated hour of component 0; 0 where correct is the reference. bid and price
+ * -1,000,000 to 1,000,000, megawatts (tenths of MW) at most 50,000, both references at most 1,000,000.
+ */
+attachment_h_answer attachment_h_make_up(int32_t bid, int32_t price, uint32_t megawatts,
+                                         uint32_t reference, uint32_t correct);
+
+#ifdef __cplusplus
+}
+#endif
+#endif

@@ -1,0 +1,150 @@
+//! The functions of the archive, as `include/attachment_h.h` has them.
+//!
+//! Nothing compares these declarations with `crates/api/src`: a change there is made here and in the
+//! header too. They have no `requires`, so those that take plain numbers are safe for all of them.
+
+#![allow(unsafe_code)]
+
+use crate::Refused;
+
+/// The refusal's number, or 0 and the figure.
+#[repr(C)]
+pub struct Answer {
+    number: u8,
+    figure: u64,
+}
+
+/// The refusal's number, or 0 and which times fail.
+#[repr(C)]
+pub struct TimeAnswer {
+    number: u8,
+    start_up: bool,
+    minimum_run: bool,
+    minimum_down: bool,
+}
+
+const _: () = assert!(size_of::<Answer>() == 16 && align_of::<Answer>() == 8);
+const _: () = assert!(size_of::<TimeAnswer>() == 4 && align_of::<TimeAnswer>() == 1);
+
+impl Answer {
+    pub fn figure(self) -> Result<u64, Refused> {
+        refused(self.number)?;
+        Ok(self.figure)
+    }
+
+    pub fn verdict(self) -> Result<bool, Refused> {
+        Ok(self.figure()? != 0)
+    }
+
+    /// A bid, which stands in the figure as its word.
+    pub fn bid(self) -> Result<i32, Refused> {
+        Ok((self.figure()? as u32).cast_signed())
+    }
+}
+
+impl TimeAnswer {
+    pub fn verdicts(self) -> Result<[bool; 3], Refused> {
+        refused(self.number)?;
+        Ok([self.start_up, self.minimum_run, self.minimum_down])
+    }
+}
+
+fn refused(number: u8) -> Result<(), Refused> {
+    match number {
+        0 => Ok(()),
+        number => Err(Refused(number)),
+    }
+}
+
+unsafe extern "C" {
+    fn attachment_h_check(
+        file: *const u8,
+        file_length: usize,
+        correction: *const u8,
+        correction_length: usize,
+        rows_length: usize,
+    ) -> u8;
+    fn attachment_h_withheld_penalty(
+        multiplier: u8,
+        a: *const u32,
+        a_length: usize,
+        b: *const i32,
+        b_length: usize,
+    ) -> Answer;
+    fn attachment_h_dispatch_penalty(b: *const u32, b_length: usize) -> Answer;
+    pub safe fn attachment_h_bid_fails(
+        component: u8,
+        reference: u32,
+        bid: i32,
+        market: u8,
+        tight: bool,
+        average_price: u32,
+        constrained_hours: u16,
+    ) -> Answer;
+    pub safe fn attachment_h_times_fail(
+        start_up: i32,
+        minimum_run: i32,
+        minimum_down: i32,
+    ) -> TimeAnswer;
+    pub safe fn attachment_h_withheld_fails(
+        a: u32,
+        capability: u32,
+        s: u32,
+        g: u32,
+        tight: bool,
+    ) -> Answer;
+    pub safe fn attachment_h_dispatch_fails(a: u32, rate: u32, s: u32, tight: bool) -> Answer;
+    pub safe fn attachment_h_multiplier(n3: u32, n2: u32) -> Answer;
+    pub safe fn attachment_h_fuel_penalty(e: i64, t: u64, m: u8) -> Answer;
+    pub safe fn attachment_h_fuel_day_counts(d: u32, e: u32) -> Answer;
+    pub safe fn attachment_h_period_counts(k: u8, own: u16, period: u16) -> Answer;
+    pub safe fn attachment_h_mitigated_span(hits: u32, run: u32) -> Answer;
+    pub safe fn attachment_h_bid_in_force(
+        component: u8,
+        bid: i32,
+        reference: u32,
+        mitigated: bool,
+    ) -> Answer;
+    pub safe fn attachment_h_corrected_bid_in_force(
+        component: u8,
+        bid: i32,
+        reference: u32,
+        correct: u32,
+        market: u8,
+        tight: bool,
+        average_price: u32,
+        constrained_hours: u16,
+        mitigated: bool,
+    ) -> Answer;
+    pub safe fn attachment_h_make_up(
+        bid: i32,
+        price: i32,
+        megawatts: u32,
+        reference: u32,
+        correct: u32,
+    ) -> Answer;
+}
+
+pub fn check(file: &[u8], correction: &[u8], rows_length: usize) -> Result<(), Refused> {
+    // SAFETY: both slices are live for the call, which only reads them.
+    let number = unsafe {
+        attachment_h_check(
+            file.as_ptr(),
+            file.len(),
+            correction.as_ptr(),
+            correction.len(),
+            rows_length,
+        )
+    };
+    refused(number)
+}
+
+pub fn withheld_penalty(multiplier: u8, a: &[u32], b: &[i32]) -> Answer {
+    // SAFETY: both slices are live for the call, which only reads them.
+    unsafe { attachment_h_withheld_penalty(multiplier, a.as_ptr(), a.len(), b.as_ptr(), b.len()) }
+}
+
+pub fn dispatch_penalty(b: &[u32]) -> Answer {
+    // SAFETY: the slice is live for the call, which only reads it.
+    unsafe { attachment_h_dispatch_penalty(b.as_ptr(), b.len()) }
+}

@@ -1,0 +1,114 @@
+//! Times of the proved check on full cases, beside a plain copy of the same bytes and beside the second
+//! implementation: one process, the best of many rounds, seeded.
+//!
+//!     rt staticlib api
+//!     cargo run --release --offline --locked -p bench [rounds]
+
+use std::env;
+use std::hint::black_box;
+use std::time::{Duration, Instant};
+
+use cases::case::DAY_AHEAD;
+use cases::{Case, Event, Input, Random, Reference, Size, Unit, Wanted};
+
+const SEED: u64 = 1;
+const CASES: usize = 5;
+const ROUNDS: usize = 400;
+/// A copy is too short for the clock, so that many are timed together.
+const COPIES: u32 = 64;
+
+fn main() {
+    let rounds = match env::args().nth(1) {
+        None => ROUNDS,
+        Some(rounds) => rounds.parse().expect("a number of rounds"),
+    };
+    let mut random = Random::new(SEED);
+    println!("seed {SEED}, best of {rounds}, in microseconds");
+    println!(
+        "{:>12} {:>6} {:>8} {:>8} {:>8} {:>7}",
+        "case", "bytes", "copy", "check", "second", "ratio"
+    );
+    for place in 0..CASES {
+        let input = cases::generator::case(&mut random, Wanted::of(Size::Full)).input();
+        measure(&format!("generated {place}"), rounds, &input);
+    }
+    measure("last unit", rounds, &bids_of_the_last_unit());
+}
+
+/// 200 bids of the last of 64 units, with 128 references and 256 corrections: the longest way to every
+/// unit and reference.
+fn bids_of_the_last_unit() -> Input {
+    let references = |count: u16| -> Vec<Reference> {
+        let reference = |unit, component| Reference {
+            unit,
+            component,
+            value: 1_000,
+        };
+        let last = (0..9).map(|component| reference(63, component));
+        (0..count - 9)
+            .map(|place| reference(place / 9, (place % 9) as u8))
+            .chain(last)
+            .collect()
+    };
+    let case = Case {
+        units: (0..64)
+            .map(|unit| Unit {
+                unit,
+                capability: 5_000,
+                ..Unit::default()
+            })
+            .collect(),
+        references: references(128),
+        past: Vec::new(),
+        events: (0..200)
+            .map(|place| Event::bids(place / 9, DAY_AHEAD, 63, (place % 9) as u8, 1_000, &[]))
+            .collect(),
+    };
+    Input::new(&case, &references(256))
+}
+
+/// Prints one line: the times of one accepted case.
+fn measure(name: &str, rounds: usize, input: &Input) {
+    assert_eq!(check(input), Ok(()), "the case is accepted");
+    let mut copy = vec![0; input.file.len()];
+    let copied = best(rounds, || {
+        for _ in 0..COPIES {
+            black_box(&mut copy).copy_from_slice(black_box(&input.file));
+        }
+    }) / COPIES;
+    let checked = best(rounds, || {
+        black_box(check(black_box(input))).expect("the case is accepted");
+    });
+    let second = best(rounds, || {
+        let number = second::refusal(black_box(&input.file), &input.correction, input.rows_len);
+        assert_eq!(black_box(number), 0);
+    });
+    println!(
+        "{name:>12} {:>6} {:>8.2} {:>8.2} {:>8.2} {:>7.1}",
+        input.file.len(),
+        micros(copied),
+        micros(checked),
+        micros(second),
+        checked.as_secs_f64() / copied.as_secs_f64(),
+    );
+}
+
+fn check(input: &Input) -> Result<(), attachment_h::Refused> {
+    attachment_h::check(&input.file, &input.correction, input.rows_len)
+}
+
+/// The shortest of many rounds: others share the machine.
+fn best(rounds: usize, mut round: impl FnMut()) -> Duration {
+    (0..rounds)
+        .map(|_| {
+            let start = Instant::now();
+            round();
+            start.elapsed()
+        })
+        .min()
+        .expect("at least one round")
+}
+
+fn micros(time: Duration) -> f64 {
+    time.as_secs_f64() * 1e6
+}
