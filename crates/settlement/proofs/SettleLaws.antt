@@ -14,13 +14,24 @@ use Rattle.sanctions.proofs.AcceptedLaws as sanctions
 use Rattle.default_bids.proofs.LevelLaws.{found-correct}
 use Rattle.settlement.specs.declared.settle.Totals.{Totals}
 use Rattle.settlement.specs.Row.{rowsOf}
-use Rattle.settlement.specs.Settled.{Answer, refused, accepted, answerOf, rowsAfter}
+use Rattle.settlement.specs.Settled.{Answer, refused, settlementOf, accepted, answerOf, rowsAfter}
+use Rattle.settlement.specs.declared.settle.Settlement.the-variants as settlement
 use Rattle.settlement.specs.Stages.{AcceptedSections, totalsOf}
 
 -- the number of a refusal that is not 0
 pub refused-answer : (f k : List ℕ) (n number : ℕ) → number ≡ refusal f k n → (number ≡ 0 → ⊥) → refused number ≡ answerOf f k n
 unfolding answerOf
 refused-answer f k n number e ne = rw (← e, ne-eqb number 0 ne) refl
+
+-- the answer's case is told by its number
+pub refused-told : (n : ℕ) (a : Answer) → refused n ≡ a → (n ≡ 0 → ⊥) → settlement.Refused n ≡ settlementOf a
+unfolding settlementOf
+refused-told n a e ne = rw (← e, ne-eqb n 0 ne) refl
+
+pub settled-told : (n p m : ℕ) (a : Answer) → record { number = 0; rowCount = n; penalties = p; makeUps = m } ≡ a
+    → settlement.Settled n p m ≡ settlementOf a
+unfolding settlementOf
+settled-told n p m a e = rw (← e) refl
 
 pub refused-rows : (f k rows : List ℕ) (number : ℕ) → number ≡ refusal f k (length rows) → (number ≡ 0 → ⊥) → rows ≡ rowsAfter f k rows
 unfolding rowsAfter

@@ -29,6 +29,10 @@ abbrev pub answerOfSettlement : Settlement → Answer
 answerOfSettlement (settlement.Refused n) = refused n
 answerOfSettlement (settlement.Settled n p m) = record { number = 0; rowCount = n; penalties = p; makeUps = m }
 
+-- the call's answer: a refusal exactly where the number is not 0
+unfoldable pub settlementOf : Answer → Settlement
+settlementOf a = cond (eqb (a .number) 0) (settlement.Settled (a .rowCount) (a .penalties) (a .makeUps)) (settlement.Refused (a .number))
+
 unfoldable pub accepted : (file correction : List ℕ) → Answer
 accepted f k =
     record {

@@ -3,7 +3,7 @@ ghost use mathlib.Core.Path.{_≡_};
 ghost use lib.ListN.{length};
 ghost use Rattle.casefile.specs.Decode.{referencesIn, caseIn};
 ghost use Rattle.settlement.specs.Row.{rowsOf};
-ghost use Rattle.settlement.specs.Settled.{answerOfSettlement, answerOf, rowsAfter};
+ghost use Rattle.settlement.specs.Settled.{answerOfSettlement, settlementOf, answerOf, rowsAfter};
 ghost use Rattle.settlement.specs.Stages.{AcceptedSections, FoundFlags, totalsOf};
 use crate::rows::write_rows;
 use casefile::check::check;
@@ -153,6 +153,7 @@ fn settle_sections(
 // A case that meets every limit is settled, a row for each event; any other is refused, and the rows buffer is as it was.
 pub fn settle<'a>(file: &'a [u8], correction: &'a [u8], rows: &mut [u8]) -> Settlement
     ensures { λ r. ⌜ answerOfSettlement r ≡ answerOf (now (file .entry)) (now (correction .entry)) (length (now (rows .entry))) ⌝ }
+    ensures { λ r. ⌜ r ≡ settlementOf (answerOf (now (file .entry)) (now (correction .entry)) (length (now (rows .entry)))) ⌝ }
     ensures { λ _. ⌜ now (rows .exit) ≡ rowsAfter (now (file .entry)) (now (correction .entry)) (now (rows .entry)) ⌝ }
 {
     let number = check(file, correction, rows.len());

@@ -4,7 +4,7 @@ use native.Mathlib.Omega.{arith}
 use lib.ListN.{length}
 use Rattle.casefile.specs.Refusal.{refusal}
 use Rattle.casefile.proofs.AcceptedLaws as case
-use Rattle.settlement.proofs.SettleLaws.{refused-answer, refused-rows, found-sections, settled-answer, settled-rows}
+use Rattle.settlement.proofs.SettleLaws.{refused-answer, refused-told, settled-told, refused-rows, found-sections, settled-answer, settled-rows}
 use Rattle.settlement.proofs.settle.settle.Statement.{statement}
 use Rattle.settlement.proofs.settle.settle.Tie as tie
 
@@ -17,9 +17,13 @@ settle-spec =
     (tie.spec
     (λ c κs. tt)
     (λ c.
-    let a = c .before .before .before .before .before .args in (
-      refused-answer (a .file .now) (a .correction .now) _ _ (c .before .check .ensures) (c .if1 .taken),
-      refused-rows (a .file .now) (a .correction .now) (a .rows .now) _ (c .before .check .ensures) (c .if1 .taken),
+    let a = c .before .before .before .before .before .args in
+    let e = refused-answer (a .file .now) (a .correction .now) _ _ (c .before .check .ensures) (c .if1 .taken) in (
+      e,
+      (
+        refused-told _ _ e (c .if1 .taken),
+        refused-rows (a .file .now) (a .correction .now) (a .rows .now) _ (c .before .check .ensures) (c .if1 .taken),
+      ),
     ))
     (λ c κs. let a = c .before .before .before .before .before .args in case.has-section (a .file .now) (a .correction .now) _ (fine c) 0 (omega arith))
     (λ c κs. let a = c .before .before .before .before .before .before .args in case.has-section (a .file .now) (a .correction .now) _ (fine (c .before)) 1 (omega arith))
@@ -33,9 +37,14 @@ settle-spec =
     (λ c. search needs)
     (λ c.
     let a = c .before .before .before .before .before .before .before .before .before .before .before .before .before .before .args in
-    let s = c .before .before .settle-sections .ensures in (
-      settled-answer (a .file .now) (a .correction .now) _ _ _ _ _ (c .before .before .before .before .before .before .before .before .section .ensures) (c .before .before .before .before .before .before .before .section2 .ensures)
-          (c .before .before .before .before .before .before .section3 .ensures) (c .before .before .before .before .correct-references .ensures) (c .before .before .before .before .before .section4 .ensures) _ _ (fine (c .before .before .before .before .before .before .before .before .before)) (s .0),
-      settled-rows (a .file .now) (a .correction .now) _ _ _ _ _ (c .before .before .before .before .before .before .before .before .section .ensures) (c .before .before .before .before .before .before .before .section2 .ensures)
-          (c .before .before .before .before .before .before .section3 .ensures) (c .before .before .before .before .correct-references .ensures) (c .before .before .before .before .before .section4 .ensures) (a .rows .now) _ (fine (c .before .before .before .before .before .before .before .before .before)) (s .1),
+    let s = c .before .before .settle-sections .ensures in
+    let e =
+    settled-answer (a .file .now) (a .correction .now) _ _ _ _ _ (c .before .before .before .before .before .before .before .before .section .ensures) (c .before .before .before .before .before .before .before .section2 .ensures)
+    (c .before .before .before .before .before .before .section3 .ensures) (c .before .before .before .before .correct-references .ensures) (c .before .before .before .before .before .section4 .ensures) _ _ (fine (c .before .before .before .before .before .before .before .before .before)) (s .0) in (
+      e,
+      (
+        settled-told _ _ _ _ e,
+        settled-rows (a .file .now) (a .correction .now) _ _ _ _ _ (c .before .before .before .before .before .before .before .before .section .ensures) (c .before .before .before .before .before .before .before .section2 .ensures)
+            (c .before .before .before .before .before .before .section3 .ensures) (c .before .before .before .before .correct-references .ensures) (c .before .before .before .before .before .section4 .ensures) (a .rows .now) _ (fine (c .before .before .before .before .before .before .before .before .before)) (s .1),
+      ),
     )))
