@@ -156,3 +156,7 @@ from-passed (suc k) j m p l h = pick (p j) refl h (λ t r. from-passed k (suc j)
 -- what a loop of stores leaves holds the figures
 pub holds-fill : (n : ℕ) (f : ℕ → ℕ) (l d : List ℕ) → l ≡ listTo n f ++ drop n d → Holds n l f
 holds-fill n f l d e i h = rw e (fill-at f n i 0 (drop n d) h)
+
+-- and reaches as far
+pub fill-long : (n : ℕ) (f : ℕ → ℕ) (l d : List ℕ) → l ≡ listTo n f ++ drop n d → n ≤ length l
+fill-long n f l d e = rw (e, length-append, list-length) (omega arith)

@@ -1,3 +1,4 @@
 pub mod Row
 pub mod Settled
 pub mod Written
+pub mod Stages

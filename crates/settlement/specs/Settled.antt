@@ -11,6 +11,8 @@ use Rattle.casefile.specs.Refusal.{refusal}
 use Rattle.sanctions.specs.Penalties.{totalPenalty}
 use Rattle.default_bids.specs.Mitigation.{totalMakeUp}
 use Rattle.settlement.specs.Row.{rowsOf}
+use Rattle.settlement.specs.declared.settle.Settlement.{Settlement}
+use Rattle.settlement.specs.declared.settle.Settlement.the-variants as settlement
 
 -- document 01's number, 0 where the case is accepted; the row count; the totals of penalties and of make-ups
 pub record Answer : Type 0 where
@@ -21,6 +23,15 @@ pub record Answer : Type 0 where
 
 abbrev pub refused : (number : ℕ) → Answer
 refused n = record { number = n; rowCount = 0; penalties = 0; makeUps = 0 }
+
+-- the number and the values of each of the call's answers
+abbrev pub answerOfSettlement : Settlement → Answer
+answerOfSettlement (settlement.Refused n) = refused n
+answerOfSettlement (settlement.Settled n p m) = record { number = 0; rowCount = n; penalties = p; makeUps = m }
+
+-- the call's answer: a refusal exactly where the number is not 0
+unfoldable pub settlementOf : Answer → Settlement
+settlementOf a = cond (eqb (a .number) 0) (settlement.Settled (a .rowCount) (a .penalties) (a .makeUps)) (settlement.Refused (a .number))
 
 unfoldable pub accepted : (file correction : List ℕ) → Answer
 accepted f k =
