@@ -1,7 +1,21 @@
 // A whole case.
 ghost use mathlib.Core.Path.{_≡_};
+ghost use lib.ListN.{length};
 ghost use Rattle.casefile.specs.Refusal.{refusal};
+ghost use Rattle.settlement.specs.Settled.{answerOf, rowsAfter};
+ghost use Rattle.api.specs.Exported.{exportedSettlement};
 use casefile::check;
+use settlement::settle;
+use settlement::settle::Settlement;
+
+// The refusal's number, or 0 and the row count and both totals in cents.
+#[repr(C)]
+pub struct Outcome {
+    pub number: u8,
+    pub rows: usize,
+    pub penalties: u64,
+    pub make_ups: u64,
+}
 
 // The number of the first limit that the case breaks, or 0 where it is accepted.
 #[no_mangle]
@@ -13,4 +27,34 @@ pub extern "C" fn attachment_h_check<'a>(
     ensures { λ r. ⌜ r ≡ refusal (now (file .entry)) (now (correction .entry)) «rows_length» ⌝ }
 {
     check::check(file, correction, rows_length)
+}
+
+// Settles the case into rows; where it is refused they are as they were.
+#[no_mangle]
+pub extern "C" fn attachment_h_settle<'a>(
+    file: &'a [u8],
+    correction: &'a [u8],
+    rows: &mut [u8],
+) -> Outcome
+    ensures { λ r. ⌜ r ≡ exportedSettlement (answerOf (now (file .entry)) (now (correction .entry)) (length (now (rows .entry)))) ⌝ }
+    ensures { λ _. ⌜ now (rows .exit) ≡ rowsAfter (now (file .entry)) (now (correction .entry)) (now (rows .entry)) ⌝ }
+{
+    match settle::settle(file, correction, rows) {
+        Settlement::Refused(number) => Outcome {
+            number,
+            rows: 0,
+            penalties: 0,
+            make_ups: 0,
+        },
+        Settlement::Settled {
+            rows,
+            penalties,
+            make_ups,
+        } => Outcome {
+            number: 0,
+            rows,
+            penalties,
+            make_ups,
+        },
+    }
 }

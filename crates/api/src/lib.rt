@@ -5,3 +5,4 @@ pub mod case;
 
 pub use answer::Answer;
 pub use answer::TimeAnswer;
+pub use case::Outcome;
