@@ -5,7 +5,7 @@
 
 #![allow(unsafe_code)]
 
-use crate::Refused;
+use crate::{Refused, Settled};
 
 /// The refusal's number, or 0 and the figure.
 #[repr(C)]
@@ -23,8 +23,18 @@ pub struct TimeAnswer {
     minimum_down: bool,
 }
 
+/// The refusal's number, or 0 and what settling gives.
+#[repr(C)]
+struct Outcome {
+    number: u8,
+    rows: usize,
+    penalties: u64,
+    make_ups: u64,
+}
+
 const _: () = assert!(size_of::<Answer>() == 16 && align_of::<Answer>() == 8);
 const _: () = assert!(size_of::<TimeAnswer>() == 4 && align_of::<TimeAnswer>() == 1);
+const _: () = assert!(size_of::<Outcome>() == 32 && align_of::<Outcome>() == 8);
 
 impl Answer {
     pub fn figure(self) -> Result<u64, Refused> {
@@ -64,6 +74,14 @@ unsafe extern "C" {
         correction_length: usize,
         rows_length: usize,
     ) -> u8;
+    fn attachment_h_settle(
+        file: *const u8,
+        file_length: usize,
+        correction: *const u8,
+        correction_length: usize,
+        rows: *mut u8,
+        rows_length: usize,
+    ) -> Outcome;
     fn attachment_h_withheld_penalty(
         multiplier: u8,
         a: *const u32,
@@ -137,6 +155,27 @@ pub fn check(file: &[u8], correction: &[u8], rows_length: usize) -> Result<(), R
         )
     };
     refused(number)
+}
+
+pub fn settle(file: &[u8], correction: &[u8], rows: &mut [u8]) -> Result<Settled, Refused> {
+    // SAFETY: the slices are live for the call, which only reads the first two, and `rows` overlaps
+    // neither of them.
+    let outcome = unsafe {
+        attachment_h_settle(
+            file.as_ptr(),
+            file.len(),
+            correction.as_ptr(),
+            correction.len(),
+            rows.as_mut_ptr(),
+            rows.len(),
+        )
+    };
+    refused(outcome.number)?;
+    Ok(Settled {
+        rows: outcome.rows,
+        penalties: outcome.penalties,
+        make_ups: outcome.make_ups,
+    })
 }
 
 pub fn withheld_penalty(multiplier: u8, a: &[u32], b: &[i32]) -> Answer {

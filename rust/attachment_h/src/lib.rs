@@ -53,6 +53,25 @@ pub fn check(file: &[u8], correction: &[u8], rows_length: usize) -> Result<(), R
     ffi::check(file, correction, rows_length)
 }
 
+/// What a settled case comes to.
+#[derive(Clone, Copy, Debug, PartialEq, Eq)]
+pub struct Settled {
+    /// The row count, one for each event.
+    pub rows: usize,
+    /// The sum of the rows' penalties, in cents.
+    pub penalties: u64,
+    /// The sum of the rows' make-ups, in cents.
+    pub make_ups: u64,
+}
+
+/// Settles a case into `rows`, 128 bytes for each event.
+///
+/// A refused case leaves `rows` as it was. A settled one has all 128 bytes of each row written, and the
+/// bytes beyond the last row are as they were.
+pub fn settle(file: &[u8], correction: &[u8], rows: &mut [u8]) -> Result<Settled, Refused> {
+    ffi::settle(file, correction, rows)
+}
+
 /// Whether a bid fails the conduct test of its component, 0 to 8; components 4 to 6 get their single
 /// test, "d > 180".
 ///

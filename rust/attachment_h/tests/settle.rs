@@ -1,0 +1,101 @@
+//! Whole cases against the second implementation: every byte of the rows buffer, the totals and the
+//! number, over buffers with something in them.
+
+use attachment_h::{Refused, Settled, settle};
+use cases::faults::FAULTS;
+use cases::generator::{any_case, case, random_bytes};
+use cases::{Input, Random, Size, Wanted};
+use second::Outcome;
+
+/// Settles a case with both, into buffers of the same noise; the outcome, in which they agree.
+fn both(random: &mut Random, input: &Input, what: &str) -> Result<Settled, Refused> {
+    let before: Vec<u8> = (0..input.rows_len).map(|_| random.bits() as u8).collect();
+    let (mut rows, mut expected_rows) = (before.clone(), before.clone());
+    let outcome = settle(&input.file, &input.correction, &mut rows);
+    let expected = match second::settle(&input.file, &input.correction, &mut expected_rows) {
+        Outcome::Refused(number) => Err(Refused(number)),
+        Outcome::Settled {
+            rows,
+            penalties,
+            make_ups,
+        } => Ok(Settled {
+            rows,
+            penalties,
+            make_ups,
+        }),
+    };
+    assert_eq!(outcome, expected, "{what}");
+    for (place, (row, expected)) in rows.chunks(128).zip(expected_rows.chunks(128)).enumerate() {
+        assert_eq!(row, expected, "{what}, row {place}");
+    }
+    if outcome.is_err() {
+        assert_eq!(rows, before, "{what}: rows untouched");
+    }
+    outcome
+}
+
+#[test]
+fn accepted_cases() {
+    let mut random = Random::new(301);
+    let (mut cases, mut rows, mut penalties, mut make_ups) = (0, 0, 0, 0);
+    for (size, count) in [
+        (Size::Small, 12_000),
+        (Size::Medium, 3_000),
+        (Size::Full, 200),
+    ] {
+        for place in 0..count {
+            let mut input = case(&mut random, Wanted::of(size)).input();
+            if random.chance(1, 3) {
+                input.rows_len += random.below(1_000);
+            }
+            let what = format!("{size:?} {place}");
+            let settled = both(&mut random, &input, &what).expect(&what);
+            cases += 1;
+            rows += settled.rows;
+            penalties += usize::from(settled.penalties > 0);
+            make_ups += usize::from(settled.make_ups > 0);
+        }
+    }
+    println!("{cases} cases, {rows} rows; {penalties} with penalties, {make_ups} with make-ups");
+    assert!(rows > 200_000 && penalties > 5_000 && make_ups > 300);
+}
+
+#[test]
+fn refused_cases() {
+    let mut random = Random::new(302);
+    let mut refused = 0;
+    for _ in 0..20 {
+        let input = any_case(&mut random).input();
+        for fault in FAULTS {
+            let mut faulty = input.clone();
+            if (fault.apply)(&mut faulty, &mut random).is_some() {
+                let outcome = both(&mut random, &faulty, fault.name);
+                assert_eq!(outcome, Err(Refused(fault.number)), "{}", fault.name);
+                refused += 1;
+            }
+        }
+    }
+    for place in 0..3_000 {
+        let input = random_bytes(&mut random);
+        let outcome = both(&mut random, &input, &format!("bytes {place}"));
+        refused += usize::from(outcome.is_err());
+    }
+    println!("{refused} refused cases");
+    assert!(refused > 3_000);
+}
+
+#[test]
+fn a_case_is_settled_the_same_again() {
+    // Nothing is kept between calls, and a settled buffer is as good as any other.
+    let mut random = Random::new(303);
+    for _ in 0..50 {
+        let input = any_case(&mut random).input();
+        let mut rows = vec![0; input.rows_len];
+        let first = settle(&input.file, &input.correction, &mut rows);
+        let once = rows.clone();
+        let other = any_case(&mut random).input();
+        both(&mut random, &other, "another").expect("accepted");
+        assert_eq!(settle(&input.file, &input.correction, &mut rows), first);
+        assert_eq!(rows, once);
+    }
+}
