@@ -82,6 +82,30 @@ static void check_cases(void) {
     expect("version 9", attachment_h_check(file, CASE, NULL, 0, 128), 2);
 }
 
+static void settle_cases(void) {
+    uint8_t file[CASE], rows[130];
+    write_case(file);
+    memset(rows, 0xA5, sizeof rows);
+    attachment_h_outcome outcome = attachment_h_settle(file, CASE, NULL, 0, rows, 127);
+    expect("refused", outcome.number, 15);
+    expect("refused, rows", outcome.rows, 0);
+    expect("refused, penalties", outcome.penalties, 0);
+    for (size_t at = 0; at < sizeof rows; at++) expect("rows as they were", rows[at], 0xA5);
+    outcome = attachment_h_settle(file, CASE, NULL, 0, rows, sizeof rows);
+    expect("settled", outcome.number, 0);
+    expect("settled, rows", outcome.rows, 1);
+    expect("settled, penalties", outcome.penalties, 200400);
+    expect("settled, make-ups", outcome.make_ups, 0);
+    uint8_t expected[128] = {0};
+    put32(expected, 1);
+    put32(expected + 8, 200400);
+    expected[24] = 2;
+    expected[26] = 1;
+    expected[28] = 1;
+    expect("the row", (uint64_t)memcmp(rows, expected, sizeof expected), 0);
+    expect("beyond the row", rows[128] == 0xA5 && rows[129] == 0xA5, 1);
+}
+
 static void call_rules(void) {
     expect_answer("500 of 5,000", attachment_h_withheld_fails(500, 5000, 500, 20000, false), 0, 0);
     expect_answer("501 of 5,000", attachment_h_withheld_fails(501, 5000, 501, 20000, false), 0, 1);
@@ -120,7 +144,9 @@ static void call_rules(void) {
 int main(void) {
     _Static_assert(sizeof(attachment_h_answer) == 16, "layout of an answer");
     _Static_assert(sizeof(attachment_h_times) == 4, "layout of the time answer");
+    _Static_assert(sizeof(attachment_h_outcome) == 32, "layout of an outcome");
     check_cases();
+    settle_cases();
     call_rules();
     puts(failures == 0 ? "C: every answer is right" : "C: wrong answers");
     return failures != 0;

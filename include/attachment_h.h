@@ -17,8 +17,8 @@
  * and a smaller call first with 7 for a reference out of its component's range (skipped where no such component
  * exists), then with 10 for any other argument out of its range. The ranges stand with each call.
  *
- * Memory. A slice is a pointer and a number of elements. A pointer that does not lead to so many readable elements is
- * the caller's fault, and nothing here can notice it; with a length of 0 the pointer may be NULL. Beyond that every
+ * Memory. A slice is a pointer and a number of elements. A pointer that does not lead to so many readable elements
+ * (rows: writable) is the caller's fault, and nothing here can notice it; with a length of 0 the pointer may be NULL. Beyond that every
  * content of every byte and every value of every argument is handled: no call reads outside of its slices, none
  * keeps a pointer, allocates, locks or stops the program, and each answers the same for the same arguments. A bool must
  * be 0 or 1, as C makes it.
@@ -52,6 +52,14 @@ typedef struct {
     bool minimum_down;
 } attachment_h_times;
 
+/* number is 0, rows the row count and both totals in cents; or number is that of the refusal and the rest 0. */
+typedef struct {
+    uint8_t number;
+    size_t rows;
+    uint64_t penalties;
+    uint64_t make_ups;
+} attachment_h_outcome;
+
 /*
  * Checks a case: its file, its correction (laid out as references; empty for none) and the length of the rows buffer
  * into which it is to be settled. Gives the number of the first limit that it breaks, or 0 where it is accepted.
@@ -59,6 +67,16 @@ typedef struct {
 uint8_t attachment_h_check(const uint8_t *file, size_t file_length,
                            const uint8_t *correction, size_t correction_length,
                            size_t rows_length);
+
+/*
+ * Settles a case into rows, 128 bytes for each event, which must overlap neither of the others. Where the case is
+ * refused, rows is as it was; where it is settled, all 128 bytes of each row are written and the bytes beyond the last
+ * row are as they were. A row, little-endian: flag mask u32 at 0, mitigated mask u32 at 4, penalty u64 at 8, make-up u64
+ * at 16 (cents), multiplier u8 at 24 (halves), N3 u16 at 26, N2 u16 at 28, 24 bids in force i32 from 32; the rest is 0.
+ */
+attachment_h_outcome attachment_h_settle(const uint8_t *file, size_t file_length,
+                                         const uint8_t *correction, size_t correction_length,
+                                         uint8_t *rows, size_t rows_length);
 
 /*
  * Whether a bid fails the conduct test of its component; components 4 to 6 get their single test, "d > 180".

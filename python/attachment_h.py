@@ -35,6 +35,10 @@ class _TimeAnswer(Structure):
     _fields_ = [("number", c_uint8), ("start_up", c_bool), ("minimum_run", c_bool), ("minimum_down", c_bool)]
 
 
+class _Outcome(Structure):
+    _fields_ = [("number", c_uint8), ("rows", c_size_t), ("penalties", c_uint64), ("make_ups", c_uint64)]
+
+
 def _fit(kind, value):
     if kind(value).value != value:
         raise OverflowError(f"{value} does not fit {kind.__name__}")
@@ -58,6 +62,7 @@ def _declare(name, result, *arguments):
 
 
 _check = _declare("check", c_uint8, POINTER(c_uint8), c_size_t, POINTER(c_uint8), c_size_t, c_size_t)
+_settle = _declare("settle", _Outcome, *[POINTER(c_uint8), c_size_t] * 3)
 _bid_fails = _declare("bid_fails", _Answer, c_uint8, c_uint32, c_int32, c_uint8, c_bool, c_uint32, c_uint16)
 _times_fail = _declare("times_fail", _TimeAnswer, c_int32, c_int32, c_int32)
 _withheld_fails = _declare("withheld_fails", _Answer, c_uint32, c_uint32, c_uint32, c_uint32, c_bool)
@@ -93,6 +98,20 @@ def check(file, correction=b"", rows_length=128 * 200):
     )
     if number != 0:
         raise Refused(number)
+
+
+def settle(file, correction=b"", rows_length=128 * 200):
+    """Settles a case: its rows as bytes, 128 for each event, and the totals of penalties and of make-ups in cents."""
+    rows = (c_uint8 * rows_length)()
+    outcome = _settle(
+        (c_uint8 * len(file)).from_buffer_copy(file),
+        len(file),
+        (c_uint8 * len(correction)).from_buffer_copy(correction),
+        len(correction),
+        rows,
+        rows_length,
+    )
+    return bytes(rows)[: 128 * outcome.rows], outcome.penalties, outcome.make_ups
 
 
 def bid_fails(component, reference, bid, market, tight=False, average_price=0, constrained_hours=0):
