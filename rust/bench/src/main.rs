@@ -1,5 +1,5 @@
-//! Times of the proved check on full cases, beside a plain copy of the same bytes and beside the second
-//! implementation: one process, the best of many rounds, seeded.
+//! Times of the proved check and settlement on full cases, beside a plain copy of the same bytes and
+//! beside the second implementation: one process, the best of many rounds, seeded.
 //!
 //!     rt staticlib api
 //!     cargo run --release --offline --locked -p bench [rounds]
@@ -25,8 +25,8 @@ fn main() {
     let mut random = Random::new(SEED);
     println!("seed {SEED}, best of {rounds}, in microseconds");
     println!(
-        "{:>12} {:>6} {:>8} {:>8} {:>8} {:>7}",
-        "case", "bytes", "copy", "check", "second", "ratio"
+        "{:>12} {:>6} {:>6} {:>7} {:>7} {:>6} {:>8} {:>8} {:>6}",
+        "case", "bytes", "copy", "check", "second", "ratio", "settle", "second", "ratio"
     );
     for place in 0..CASES {
         let input = cases::generator::case(&mut random, Wanted::of(Size::Full)).input();
@@ -79,17 +79,33 @@ fn measure(name: &str, rounds: usize, input: &Input) {
     let checked = best(rounds, || {
         black_box(check(black_box(input))).expect("the case is accepted");
     });
-    let second = best(rounds, || {
+    let checked_second = best(rounds, || {
         let number = second::refusal(black_box(&input.file), &input.correction, input.rows_len);
         assert_eq!(black_box(number), 0);
     });
+    let mut rows = vec![0; input.rows_len];
+    let settled = best(rounds, || {
+        let input = black_box(input);
+        let outcome = attachment_h::settle(&input.file, &input.correction, black_box(&mut rows));
+        black_box(outcome).expect("the case is accepted");
+    });
+    let mut second_rows = vec![0; input.rows_len];
+    let settled_second = best(rounds, || {
+        let input = black_box(input);
+        let rows = black_box(&mut second_rows);
+        black_box(second::settle(&input.file, &input.correction, rows));
+    });
+    assert_eq!(rows, second_rows);
     println!(
-        "{name:>12} {:>6} {:>8.2} {:>8.2} {:>8.2} {:>7.1}",
+        "{name:>12} {:>6} {:>6.2} {:>7.2} {:>7.2} {:>6.1} {:>8.2} {:>8.2} {:>6.1}",
         input.file.len(),
         micros(copied),
         micros(checked),
-        micros(second),
+        micros(checked_second),
         checked.as_secs_f64() / copied.as_secs_f64(),
+        micros(settled),
+        micros(settled_second),
+        settled.as_secs_f64() / copied.as_secs_f64(),
     );
 }
 
