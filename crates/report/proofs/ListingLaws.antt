@@ -6,8 +6,8 @@ use mathlib.Core.Path.{_≡_, refl, sym, ap, _∙_}
 use native.Mathlib.Omega.{arith}
 use borrow.Author.Tests.{eqb-true, eq-eqb, lt-ltb, le-ltb}
 use lib.Dec.{ltb, eqb}
-use lib.ListN.{length}
-use lib.Seq.{sets}
+use lib.ListN.{length, take}
+use lib.Seq.{sets, length-take-le}
 use Rattle.casefile.specs.Layout.{eventWidth, rowWidth, mostEvents}
 use Rattle.casefile.specs.Decode.{sectionOf, decode, caseIn, eventsIn}
 use Rattle.casefile.specs.Refusal.{refusal}
@@ -112,3 +112,7 @@ pub short : (f rows out : List ℕ) → length out < longestListing
     → (0 ≡ listedLength f rows out) × (out ≡ listedOut f rows out) × (rows ≡ listedRows f rows out)
 unfolding listedLength listedOut listedRows
 short f rows out h = let t = lt-ltb (length out) longestListing h in (rw t refl, rw t refl, rw t refl)
+
+-- a length within a buffer, as `&out[..length]` asks
+pub counted : (r : ℕ) (out : List ℕ) → r ≤ length out → (r ≤ length out) × (r ≡ length (take r out))
+counted r out h = (h, sym (length-take-le r out h))

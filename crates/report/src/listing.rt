@@ -2,7 +2,7 @@
 ghost use mathlib.Core.List.{_++_};
 ghost use mathlib.Core.Path.{_≡_};
 ghost use Prim.Native.Nat.{_+_, _*_, _≤_};
-ghost use lib.ListN.{length};
+ghost use lib.ListN.{length, take};
 ghost use Rattle.report.specs.Put.{Put};
 ghost use Rattle.report.specs.Line.{linesTo};
 ghost use Rattle.report.specs.Listing.{refusalText, totalText, listedLength, listedOut, listedRows};
@@ -52,7 +52,7 @@ pub fn listing(file: &[u8], rows: &mut [u8], out: &mut [u8]) -> usize
     ensures { λ r. ⌜ r ≡ listedLength (now (file .entry)) (now (rows .entry)) (now (out .entry)) ⌝ }
     ensures { λ _. ⌜ now (out .exit) ≡ listedOut (now (file .entry)) (now (rows .entry)) (now (out .entry)) ⌝ }
     ensures { λ _. ⌜ now (rows .exit) ≡ listedRows (now (file .entry)) (now (rows .entry)) (now (out .entry)) ⌝ }
-    ensures { λ r. ⌜ r ≤ length (now (out .exit)) ⌝ }
+    ensures { λ r. ⌜ (r ≤ length (now (out .exit))) × (r ≡ length (take r (now (out .exit)))) ⌝ }
 {
     if out.len() < 42048 {
         return 0;

@@ -6,7 +6,7 @@ use lib.ListN.{length}
 use Rattle.casefile.specs.Decode.{sectionOf}
 use Rattle.casefile.proofs.AcceptedLaws as case
 use Rattle.report.proofs.PutLaws.{put-size}
-use Rattle.report.proofs.ListingLaws.{short, fine, count, few, rows-long, listed-refusal, listed-settlement, listed-rows}
+use Rattle.report.proofs.ListingLaws.{counted, short, fine, count, few, rows-long, listed-refusal, listed-settlement, listed-rows}
 use Rattle.report.proofs.listing.listing.Statement.{statement}
 use Rattle.report.proofs.listing.listing.Tie as tie
 
@@ -17,7 +17,7 @@ listing-spec =
     (λ c.
     let a = c .before .before .before .before .args in
     let s = short (a .file .now) (a .rows .now) (a .out .now) (c .if1 .taken) in
-    (s .0, (s .1, (s .2, omega arith))))
+    (s .0, (s .1, (s .2, counted _ (a .out .now) (omega arith)))))
     (λ c. search needs)
     (λ c κs. tt)
     (λ c. c .match .keys1)
@@ -42,7 +42,7 @@ listing-spec =
     let e = sym (c .before .before .before .before .before .number .given .1) ∙ c .before .before .before .before .before .before .before .before .before .settle .ensures .1 .0 in
     let q = c .before .before .put-refusal .ensures in
     let l = listed-refusal (a .file .now) (a .rows .now) (a .out .now) (c .before .before .before .before .before .before .before .before .before .before .before .before .if1 .left) _ _ _ e (q .0) in
-    (l .0, (l .1, (listed-rows (a .file .now) (a .rows .now) (a .out .now) (c .before .before .before .before .before .before .before .before .before .before .before .before .if1 .left) _ (c .before .before .before .before .before .before .before .before .before .settle .ensures .1 .1), omega (arith, q .1, put-size (q .0))))))
+    (l .0, (l .1, (listed-rows (a .file .now) (a .rows .now) (a .out .now) (c .before .before .before .before .before .before .before .before .before .before .before .before .if1 .left) _ (c .before .before .before .before .before .before .before .before .before .settle .ensures .1 .1), counted _ _ (omega (arith, q .1, put-size (q .0)))))))
     (λ c. search needs)
     (λ c. search needs)
     (λ c.
@@ -52,4 +52,4 @@ listing-spec =
     let l =
     listed-settlement (a .file .now) (a .rows .now) (a .out .now) (c .before .before .before .before .before .before .before .before .before .before .before .before .before .before .if1 .left) _ _ _ _ _ _ _ e (c .before .before .before .before .before .section .ensures)
     (c .before .before .before .before .before .before .before .before .before .before .before .settle .ensures .1 .1) (q .0) in
-    (l .0, (l .1, (listed-rows (a .file .now) (a .rows .now) (a .out .now) (c .before .before .before .before .before .before .before .before .before .before .before .before .before .before .if1 .left) _ (c .before .before .before .before .before .before .before .before .before .before .before .settle .ensures .1 .1), omega (arith, q .1, put-size (q .0)))))))
+    (l .0, (l .1, (listed-rows (a .file .now) (a .rows .now) (a .out .now) (c .before .before .before .before .before .before .before .before .before .before .before .before .before .before .if1 .left) _ (c .before .before .before .before .before .before .before .before .before .before .before .settle .ensures .1 .1), counted _ _ (omega (arith, q .1, put-size (q .0))))))))
