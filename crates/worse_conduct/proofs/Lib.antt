@@ -6,3 +6,4 @@ pub mod EntryChange
 pub mod AcceptedCase
 pub mod WorseConduct
 pub mod EachPart
+pub mod Demands
