@@ -1,4 +1,3 @@
-pub mod TestLaws
 pub mod WorseCase
 pub mod StoredWord
 pub mod CellChange
