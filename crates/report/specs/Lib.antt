@@ -1,3 +1,4 @@
 pub mod Decimal
 pub mod Put
 pub mod Line
+pub mod Listing

@@ -11,11 +11,10 @@ use Rattle.binary.specs.Word.{positivePart, negativePart, within}
 use Rattle.binary.proofs.BoundedLaws.{any-at, product-bound}
 use Rattle.binary.proofs.Implies.{or-l, or-r}
 use Rattle.binary.proofs.WordLaws.{within-positive, within-negative}
-use Rattle.tariff.specs.Sanctions.{hourAmount}
 use Rattle.tariff.specs.Calls.{badHour, badHours, amountAt, badRevenue, badRevenues, revenueAt, badFuel}
 
 hour-amount : (a b : List ℕ) (h : ℕ) → badHour a b h ≡ false → amountAt a b h ≤ 50000000000
-unfolding badHour amountAt hourAmount
+unfolding badHour amountAt
 hour-amount a b h e =
     let p : ltb 50000 (getD a h 0) ≡ false = search (or-l, or-r) in
     let q : not (within 32 1000000 (getD b h 0)) ≡ false = search (or-l, or-r) in

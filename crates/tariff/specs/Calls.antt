@@ -1,5 +1,5 @@
 -- The smaller public calls (document 01, What a case can break, last paragraph): each answers first 7, then 10, then its figure.
-use Prim.Native.Nat.{ℕ, _+_}
+use Prim.Native.Nat.{ℕ, _+_, _*_}
 use mathlib.Core.Bool.{Bool, false, not, _&&_, _||_}
 use mathlib.Core.List.{List}
 use lib.Dec.{ltb, leb, eqb}
@@ -10,7 +10,7 @@ use Rattle.tariff.specs.Answer.{Answer, TimeAnswer, answer, timeAnswered
 use Rattle.tariff.specs.Ranges.{referenceInRange, bidInRange}
 use Rattle.tariff.specs.Threshold.{thresholdOf}
 use Rattle.tariff.specs.Conduct.{bidTest, timeTest, withheldTest, dispatchTest}
-use Rattle.tariff.specs.Sanctions.{ladder, hourAmount, withheldPenalty, dispatchPenalty, fuelPenalty, fuelDayCounts, periodCounts}
+use Rattle.tariff.specs.Sanctions.{ladder, withheldPenalty, dispatchPenalty, fuelPenalty, fuelDayCounts, periodCounts}
 use Rattle.tariff.specs.DefaultBids.{hours, spanMask, inForce, correctedInForce, hourMakeUp, makeUp}
 
 -- 7: the component exists and the reference is out of its range
@@ -68,7 +68,7 @@ badHours a b = not (eqb (length a) (length b)) || ltb hours (length a) || anyTo 
 
 -- the sum over the flagged hours of a × (b, or 0 if negative)
 unfoldable pub amountAt : (a b : List ℕ) → ℕ → ℕ
-amountAt a b h = hourAmount (getD a h 0) (getD b h 0)
+amountAt a b h = getD a h 0 * positivePart 32 (getD b h 0)
 
 unfoldable pub withheldPenaltyAnswer : (multiplier : ℕ) (a b : List ℕ) → Answer
 withheldPenaltyAnswer multiplier a b =

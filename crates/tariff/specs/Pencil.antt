@@ -9,7 +9,7 @@ use Rattle.tariff.specs.Answer.{given, timeAnswered}
 use Rattle.tariff.specs.Ranges.{referenceInRange, bidInRange}
 use Rattle.tariff.specs.Threshold.{thresholdOf}
 use Rattle.tariff.specs.Conduct.{increase, lowerTest, constrainedTest, percentTest, timeTest, maximumTest, bidTest, unitLimit, groupLimit, withheldTest}
-use Rattle.tariff.specs.Sanctions.{cents, ladder, hourAmount, withheldPenalty, fuelCharge, fuelPenalty}
+use Rattle.tariff.specs.Sanctions.{cents, ladder, withheldPenalty, fuelCharge, fuelPenalty}
 use Rattle.tariff.specs.DefaultBids.{between, spanned, spanMask}
 use Rattle.tariff.specs.Calls.{badReference, badBid, badUnit, badMultiplier, badHour, badHours, amountAt, badFuel, timeTotal, bidAnswer, timesAnswer, withheldAnswer, multiplierAnswer, withheldPenaltyAnswer, fuelPenaltyAnswer, spanAnswer}
 
@@ -48,7 +48,7 @@ pub record Pencil : Type 0 where
   pub fuel-loss-three : fuelPenaltyAnswer (2 ^ 64 - 10000000) 2000000 3 ≡ given 500000
 
 pub pencil : Pencil
-unfolding sumTo anyTo firstTo lastTo maskTo bitOf positivePart negativePart within referenceInRange bidInRange thresholdOf increase lowerTest constrainedTest percentTest timeTest maximumTest bidTest unitLimit groupLimit withheldTest cents ladder hourAmount withheldPenalty fuelCharge fuelPenalty between spanned spanMask badReference badBid badUnit badMultiplier badHour badHours amountAt badFuel timeTotal bidAnswer timesAnswer withheldAnswer multiplierAnswer withheldPenaltyAnswer fuelPenaltyAnswer spanAnswer
+unfolding sumTo anyTo firstTo lastTo maskTo bitOf positivePart negativePart within referenceInRange bidInRange thresholdOf increase lowerTest constrainedTest percentTest timeTest maximumTest bidTest unitLimit groupLimit withheldTest cents ladder withheldPenalty fuelCharge fuelPenalty between spanned spanMask badReference badBid badUnit badMultiplier badHour badHours amountAt badFuel timeTotal bidAnswer timesAnswer withheldAnswer multiplierAnswer withheldPenaltyAnswer fuelPenaltyAnswer spanAnswer
 pencil =
     record {
       withheld-500 = refl;

@@ -2,7 +2,6 @@
 use Prim.Native.Nat.{ℕ, _+_, _-_, _*_, _/_}
 use mathlib.Core.Bool.{Bool, cond, _&&_}
 use lib.Dec.{ltb, leb}
-use Rattle.binary.specs.Word.{positivePart}
 
 -- "Money is rounded once, at the end, halves up to the cent": x is in that many parts of a cent
 unfoldable pub cents : (parts x : ℕ) → ℕ
@@ -16,11 +15,7 @@ periodCounts k p q = leb q p && leb p (q + k)
 unfoldable pub ladder : (N3 N2 : ℕ) → ℕ
 ladder N3 N2 = cond (leb 4 N2) 6 (cond (leb 3 N3) 4 2)
 
--- one hour's a × (b, or 0 if negative), in tenths of a cent
-unfoldable pub hourAmount : (a b : ℕ) → ℕ
-hourAmount a b = a * positivePart 32 b
-
--- amount is the sum over flagged hours
+-- amount is the sum over flagged hours of a × (b, or 0 if negative), in tenths of a cent
 unfoldable pub withheldPenalty : (multiplier amount : ℕ) → ℕ
 withheldPenalty multiplier amount = cents 20 (multiplier * amount)
 

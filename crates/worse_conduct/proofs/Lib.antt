@@ -1,4 +1,3 @@
-pub mod TestLaws
 pub mod WorseCase
 pub mod StoredWord
 pub mod CellChange
@@ -6,3 +5,4 @@ pub mod EntryChange
 pub mod AcceptedCase
 pub mod WorseConduct
 pub mod EachPart
+pub mod Demands

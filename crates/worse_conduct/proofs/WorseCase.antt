@@ -18,7 +18,7 @@ use Rattle.conduct.specs.Flags.{tight, together, sumTogether, timeBid, timeTota
 use Rattle.sanctions.specs.Penalties.{flaggedWithImpact, isInstance, countsHere, countsPast, instances, withheldMultiplier, withheldAmount, withheldPenaltyOf, dispatchMultiplier, dispatchRevenue, dispatchPenaltyOf, energyPart, gain, loss, tccChange, lowestUnit, countsFuel, pastFuel, fuelStands, fuelMultiplierAfter, fuelPenaltyUnder, priorFuel, fuelMultiplier, fuelPenaltyOf, multiplier, penalty, totalPenalty}
 use Rattle.sanctions.proofs.PenaltyBounds.{same-kind}
 use Rattle.worse_conduct.specs.Promise.{EnergyNotNegative}
-use Rattle.worse_conduct.proofs.TestLaws.{increase-mono, bid-mono, withheld-mono, dispatch-mono, ladder-mono, withheld-penalty-mono, dispatch-penalty-mono, fuel-penalty-mono}
+use Rattle.tariff.proofs.RuleLaws.{increase-mono, bid-mono, withheld-mono, dispatch-mono, ladder-mono, withheld-penalty-mono, dispatch-penalty-mono, fuel-penalty-mono}
 
 -- what the changes do to the cells' a: no MW of kinds 1 and 2 is lowered, fuel is left, no bid is moved back
 pub record WorseAmounts (e : Events) (a a′ : ℕ → ℕ → ℕ) : Type 0 where

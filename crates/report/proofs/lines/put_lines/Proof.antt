@@ -6,7 +6,8 @@ use borrow.Author.Needs.{needs}
 use native.Mathlib.Omega.{arith}
 use lib.ListN.{length}
 use Rattle.binary.proofs.ListLaws.{join-more}
-use Rattle.report.specs.Put.{Put, then, nothing, same-text}
+use Rattle.report.specs.Put.{Put}
+use Rattle.report.proofs.PutLaws.{then, nothing, same-text, put-size}
 use Rattle.report.specs.Line.{eventFields, rowFields, lineOf, linesTo}
 use Rattle.report.proofs.LineLaws.{lines-none, lines-more}
 use Rattle.report.proofs.lines.put_lines.Statement.{statement}
@@ -30,7 +31,7 @@ again c =
     let row = same-text (ap rowFields (r .record-at2 .ensures .0)) (w .put-row .ensures .0) in (
       omega arith,
       omega (arith, v .put-event .ensures .1, w .put-row .ensures .1, l .inv .1),
-      omega (arith, event .size, row .size, l .inv .2),
+      omega (arith, put-size event, put-size row, l .inv .2),
       same-text (sym (lines-more (l .i) (a .events .now) (a .rows .now))) (then (l .inv .3) (then event row)),
     )
 

@@ -1,7 +1,7 @@
 -- Five fields, one after another.
 use native.Mathlib.Omega.{arith}
 use borrow.Author.Needs.{needs}
-use Rattle.report.specs.Put.{then, read-as}
+use Rattle.report.proofs.PutLaws.{then, read-as}
 use Rattle.report.specs.Line.{rowFields}
 use Rattle.report.proofs.lines.put_row.Statement.{statement}
 use Rattle.report.proofs.lines.put_row.Tie as tie

@@ -1,7 +1,7 @@
 -- The proof of the cycle of calls {put_digits}. The measure is `places`.
 use borrow.Author.Needs.{needs}
 use native.Mathlib.Omega.{arith}
-use Rattle.report.specs.Put.{no-digit, last-digit, more-digits}
+use Rattle.report.proofs.PutLaws.{no-digit, last-digit, more-digits, put-size}
 use Rattle.report.specs.Decimal.{length-decimalTo}
 use Prim.Native.Nat.{ℕ, _<_, _-_, _/_}
 use borrow.Fn.Kinds.{In}
@@ -113,7 +113,7 @@ put-digits-put-byte-requires-2 : (t : ℕ) → put-digits-lts.Need-put-byte-requ
 ) (put-digits-at t) put-digits.Post
 put-digits-put-byte-requires-2 t c κs =
     let p = c .before .before .before .put-digits .ensures in
-    omega (arith, p .place, p .size, length-decimalTo (c .before .before .before .before .before .before .before .before .args .places - 1) (c .before .before .before .before .before .before .before .before .args .n / 10))
+    omega (arith, p .place, put-size p, length-decimalTo (c .before .before .before .before .before .before .before .before .args .places - 1) (c .before .before .before .before .before .before .before .before .args .n / 10))
 
 put-digits-same-length-2 : (t : ℕ) → put-digits-lts.Need-same-length-2 (
   put-byte-reads.Asked,

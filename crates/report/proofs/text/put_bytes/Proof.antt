@@ -7,19 +7,20 @@ use native.Mathlib.Omega.{arith}
 use native.Mathlib.Numerals.{add-one}
 use lib.ListN.{length, take, getD}
 use lib.Seq.{take-suc, take-length}
-use Rattle.report.specs.Put.{Put, then, nothing, same-text}
+use Rattle.report.specs.Put.{Put}
+use Rattle.report.proofs.PutLaws.{then, nothing, same-text, put-size}
 use Rattle.report.proofs.text.put_bytes.Statement.{statement}
 use Rattle.report.proofs.text.put_bytes.Tie as tie
 use Rattle.report.proofs.text.put_byte.Reads as put-byte-reads
 
 abbrev Inv-loop : tie.InvT-loop
-Inv-loop out₀ at s i₀ next₀ out i next = (i ≤ length s) × (next ≡ at + i) × Put out₀ at (take i s) out next
+Inv-loop out₀ at s i₀ next₀ out i next = (i ≤ length s) × (next ≡ at + i) × (length out ≡ length out₀) × Put out₀ at (take i s) out next
 
 abbrev μ-loop : tie.MeasureT-loop
 μ-loop out₀ at s i₀ next₀ out i next = length s - i
 
 loop-holds : tie.Need-loop-holds Inv-loop μ-loop
-loop-holds c = (omega arith, omega arith, nothing _ _)
+loop-holds c = (omega arith, omega arith, search needs, nothing _ _)
 
 shared-slice-read-put-byte : tie.Need-shared-slice-read-put-byte Inv-loop μ-loop
 shared-slice-read-put-byte c = omega arith
@@ -39,7 +40,7 @@ loop-again c =
     let q = c .before .before .put-byte .ensures in
     let s = c .before .before .before .before .before .before .before .before .before .args .s .now in
     let e : take (l .i + 1) s ≡ take (l .i) s ++ (getD s (l .i) 0 ∷ []) = rw add-one (take-suc s (l .i) 0 (omega arith)) in
-    (omega arith, omega (arith, q .place), same-text (sym e) (then (l .inv .2) q))
+    (omega arith, omega (arith, q .place), put-size q ∙ l .inv .2, same-text (sym e) (then (l .inv .3) q))
 
 same-length : tie.Need-same-length Inv-loop μ-loop
 same-length c = search needs
@@ -50,7 +51,7 @@ returns c =
     let s = c .before .before .before .before .args .s .now in
     let n : l .i ≡ length s = omega arith in
     let e : take (l .i) s ≡ s = ap (λ (n : ℕ). take n s) n ∙ take-length s in
-    same-text e (l .inv .2)
+    same-text e (l .inv .3)
 
 pub put-bytes-spec : {M : Type 1} → statement M
 put-bytes-spec =

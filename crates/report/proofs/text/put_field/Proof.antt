@@ -2,7 +2,7 @@
 use borrow.Author.Needs.{needs}
 use native.Mathlib.Omega.{arith}
 use Rattle.report.specs.Decimal.{field, length-decimalTo}
-use Rattle.report.specs.Put.{then}
+use Rattle.report.proofs.PutLaws.{then, put-size}
 use Rattle.report.proofs.text.put_field.Statement.{statement}
 use Rattle.report.proofs.text.put_field.Tie as tie
 use Rattle.report.proofs.text.put_byte.Reads as put-byte-reads
@@ -14,7 +14,7 @@ put-decimal-requires c κs = search needs
 put-byte-requires : tie.Need-put-byte-requires
 put-byte-requires c κs =
     let p = c .before .before .before .put-decimal .ensures in
-    omega (arith, p .place, p .size, length-decimalTo 20 (c .before .before .before .before .before .before .args .n))
+    omega (arith, p .place, put-size p, length-decimalTo 20 (c .before .before .before .before .before .before .args .n))
 
 same-length : tie.Need-same-length
 same-length c = search needs

@@ -1,11 +1,10 @@
 use borrow.Author.Needs.{needs}
 use Rattle.tariff.specs.Calls.{amountAt}
-use Rattle.tariff.specs.Sanctions.{hourAmount}
 use Rattle.tariff.proofs.calls.amount_at.Statement.{statement}
 use Rattle.tariff.proofs.calls.amount_at.Tie as tie
 
 pub amount-at-spec : {M : Type 1} → statement M
-unfolding amountAt hourAmount
+unfolding amountAt
 amount-at-spec =
     tie.close
     (tie.spec
