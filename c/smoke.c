@@ -106,6 +106,21 @@ static void settle_cases(void) {
     expect("beyond the row", rows[128] == 0xA5 && rows[129] == 0xA5, 1);
 }
 
+static void list_cases(void) {
+    static uint8_t rows[ATTACHMENT_H_ROWS_LENGTH], out[ATTACHMENT_H_LISTING_LENGTH];
+    static const char listed[] = "8000 1 12 0 0 1 0 2 200400 0\ntotal 200400 0\n";
+    uint8_t file[CASE];
+    write_case(file);
+    size_t length = attachment_h_listing(file, CASE, rows, sizeof rows, out, sizeof out - 1);
+    expect("too short for a listing", length + out[0], 0);
+    length = attachment_h_listing(file, CASE, rows, sizeof rows, out, sizeof out);
+    expect("length of the listing", length, sizeof listed - 1);
+    expect("the listing", (uint64_t)memcmp(out, listed, sizeof listed - 1), 0);
+    length = attachment_h_listing(file, 35, rows, sizeof rows, out, sizeof out);
+    expect("length of a refusal", length, 10);
+    expect("a refusal", (uint64_t)memcmp(out, "refused 1\n", 10), 0);
+}
+
 static void call_rules(void) {
     expect_answer("500 of 5,000", attachment_h_withheld_fails(500, 5000, 500, 20000, false), 0, 0);
     expect_answer("501 of 5,000", attachment_h_withheld_fails(501, 5000, 501, 20000, false), 0, 1);
@@ -147,6 +162,7 @@ int main(void) {
     _Static_assert(sizeof(attachment_h_outcome) == 32, "layout of an outcome");
     check_cases();
     settle_cases();
+    list_cases();
     call_rules();
     puts(failures == 0 ? "C: every answer is right" : "C: wrong answers");
     return failures != 0;

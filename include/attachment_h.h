@@ -18,7 +18,7 @@
  * exists), then with 10 for any other argument out of its range. The ranges stand with each call.
  *
  * Memory. A slice is a pointer and a number of elements. A pointer that does not lead to so many readable elements
- * (rows: writable) is the caller's fault, and nothing here can notice it; with a length of 0 the pointer may be NULL. Beyond that every
+ * (rows, out: writable) is the caller's fault, and nothing here can notice it; with a length of 0 the pointer may be NULL. Beyond that every
  * content of every byte and every value of every argument is handled: no call reads outside of its slices, none
  * keeps a pointer, allocates, locks or stops the program, and each answers the same for the same arguments. A bool must
  * be 0 or 1, as C makes it.
@@ -77,6 +77,18 @@ uint8_t attachment_h_check(const uint8_t *file, size_t file_length,
 attachment_h_outcome attachment_h_settle(const uint8_t *file, size_t file_length,
                                          const uint8_t *correction, size_t correction_length,
                                          uint8_t *rows, size_t rows_length);
+
+/* What out of attachment_h_listing has to have at least, and rows to list every case. */
+#define ATTACHMENT_H_LISTING_LENGTH 42048
+#define ATTACHMENT_H_ROWS_LENGTH 25600
+
+/*
+ * Settles a case with no correction into rows and puts its listing into out: a line for each event and one for the totals, or
+ * "refused" and the number, each ending in a line feed. Gives the length of the text. Where out is shorter than
+ * ATTACHMENT_H_LISTING_LENGTH it gives 0 and leaves both buffers as they were. No two of the three may overlap.
+ */
+size_t attachment_h_listing(const uint8_t *file, size_t file_length, uint8_t *rows,
+                            size_t rows_length, uint8_t *out, size_t out_length);
 
 /*
  * Whether a bid fails the conduct test of its component; components 4 to 6 get their single test, "d > 180".

@@ -63,6 +63,7 @@ def _declare(name, result, *arguments):
 
 _check = _declare("check", c_uint8, POINTER(c_uint8), c_size_t, POINTER(c_uint8), c_size_t, c_size_t)
 _settle = _declare("settle", _Outcome, *[POINTER(c_uint8), c_size_t] * 3)
+_listing = _declare("listing", c_size_t, *[POINTER(c_uint8), c_size_t] * 3)
 _bid_fails = _declare("bid_fails", _Answer, c_uint8, c_uint32, c_int32, c_uint8, c_bool, c_uint32, c_uint16)
 _times_fail = _declare("times_fail", _TimeAnswer, c_int32, c_int32, c_int32)
 _withheld_fails = _declare("withheld_fails", _Answer, c_uint32, c_uint32, c_uint32, c_uint32, c_bool)
@@ -112,6 +113,13 @@ def settle(file, correction=b"", rows_length=128 * 200):
         rows_length,
     )
     return bytes(rows)[: 128 * outcome.rows], outcome.penalties, outcome.make_ups
+
+
+def listing(file):
+    """The listing of a case with no correction, or of its refusal."""
+    rows, out = (c_uint8 * 25_600)(), (c_uint8 * 42_048)()
+    length = _listing((c_uint8 * len(file)).from_buffer_copy(file), len(file), rows, len(rows), out, len(out))
+    return bytes(out)[:length].decode()
 
 
 def bid_fails(component, reference, bid, market, tight=False, average_price=0, constrained_hours=0):

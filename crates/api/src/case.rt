@@ -1,10 +1,13 @@
 // A whole case.
 ghost use mathlib.Core.Path.{_≡_};
-ghost use lib.ListN.{length};
+ghost use Prim.Native.Nat.{_≤_};
+ghost use lib.ListN.{length, take};
 ghost use Rattle.casefile.specs.Refusal.{refusal};
 ghost use Rattle.settlement.specs.Settled.{answerOf, rowsAfter};
+ghost use Rattle.report.specs.Listing.{listedLength, listedOut, listedRows};
 ghost use Rattle.api.specs.Exported.{exportedSettlement};
 use casefile::check;
+use report::listing;
 use settlement::settle;
 use settlement::settle::Settlement;
 
@@ -57,4 +60,16 @@ pub extern "C" fn attachment_h_settle<'a>(
             make_ups,
         },
     }
+}
+
+// Settles the file with no correction, puts its listing into out and answers the length of that; where out is too short
+// for the longest listing it answers 0 and leaves both buffers as they were.
+#[no_mangle]
+pub extern "C" fn attachment_h_listing(file: &[u8], rows: &mut [u8], out: &mut [u8]) -> usize
+    ensures { λ r. ⌜ r ≡ listedLength (now (file .entry)) (now (rows .entry)) (now (out .entry)) ⌝ }
+    ensures { λ _. ⌜ now (out .exit) ≡ listedOut (now (file .entry)) (now (rows .entry)) (now (out .entry)) ⌝ }
+    ensures { λ _. ⌜ now (rows .exit) ≡ listedRows (now (file .entry)) (now (rows .entry)) (now (out .entry)) ⌝ }
+    ensures { λ r. ⌜ (r ≤ length (now (out .exit))) × (r ≡ length (take r (now (out .exit)))) ⌝ }
+{
+    listing::listing(file, rows, out)
 }

@@ -82,6 +82,14 @@ unsafe extern "C" {
         rows: *mut u8,
         rows_length: usize,
     ) -> Outcome;
+    fn attachment_h_listing(
+        file: *const u8,
+        file_length: usize,
+        rows: *mut u8,
+        rows_length: usize,
+        out: *mut u8,
+        out_length: usize,
+    ) -> usize;
     fn attachment_h_withheld_penalty(
         multiplier: u8,
         a: *const u32,
@@ -176,6 +184,20 @@ pub fn settle(file: &[u8], correction: &[u8], rows: &mut [u8]) -> Result<Settled
         penalties: outcome.penalties,
         make_ups: outcome.make_ups,
     })
+}
+
+pub fn listing(file: &[u8], rows: &mut [u8], out: &mut [u8]) -> usize {
+    // SAFETY: the slices are live for the call, which only reads the first, and none overlaps another.
+    unsafe {
+        attachment_h_listing(
+            file.as_ptr(),
+            file.len(),
+            rows.as_mut_ptr(),
+            rows.len(),
+            out.as_mut_ptr(),
+            out.len(),
+        )
+    }
 }
 
 pub fn withheld_penalty(multiplier: u8, a: &[u32], b: &[i32]) -> Answer {

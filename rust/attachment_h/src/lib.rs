@@ -72,6 +72,27 @@ pub fn settle(file: &[u8], correction: &[u8], rows: &mut [u8]) -> Result<Settled
     ffi::settle(file, correction, rows)
 }
 
+/// What `out` of [`list_into`] has to have at least.
+pub const LISTING_LENGTH: usize = 42_048;
+
+/// The rows of every case: 200 events of 128 bytes.
+pub const ROWS_LENGTH: usize = 25_600;
+
+/// Settles a case with no correction into `rows`, puts its listing into `out` and gives the length of the
+/// text; 0, and both buffers as they were, where `out` is shorter than [`LISTING_LENGTH`].
+pub fn list_into(file: &[u8], rows: &mut [u8], out: &mut [u8]) -> usize {
+    ffi::listing(file, rows, out)
+}
+
+/// The listing of a case with no correction: a line for each event and one for the totals, or the
+/// refusal, each ending in a line feed.
+pub fn listing(file: &[u8]) -> String {
+    let mut out = vec![0; LISTING_LENGTH];
+    let length = list_into(file, &mut [0; ROWS_LENGTH], &mut out);
+    out.truncate(length);
+    String::from_utf8(out).expect("digits, spaces, letters and line feeds")
+}
+
 /// Whether a bid fails the conduct test of its component, 0 to 8; components 4 to 6 get their single
 /// test, "d > 180".
 ///

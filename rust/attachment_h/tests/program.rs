@@ -1,0 +1,55 @@
+//! The program `listing` on many inputs, short and too long. `rt ci` and `rt check listing` write it to
+//! target/bin; the gate names it in `ATTACHMENT_H_LISTING`, and elsewhere it may be missing.
+
+use std::env;
+use std::io::Write;
+use std::path::{Path, PathBuf};
+use std::process::{Command, Stdio};
+use std::thread;
+
+use cases::Random;
+use cases::generator::{any_case, random_bytes};
+
+fn listed(program: &Path, input: Vec<u8>) -> String {
+    let mut child = Command::new(program)
+        .stdin(Stdio::piped())
+        .stdout(Stdio::piped())
+        .spawn()
+        .expect("the program listing");
+    let mut stdin = child.stdin.take().expect("piped");
+    // The program stops reading an input that is too long, so the write may fail.
+    let writer = thread::spawn(move || {
+        let _ = stdin.write_all(&input);
+    });
+    let output = child.wait_with_output().expect("its output");
+    writer.join().expect("the writer");
+    assert!(output.status.success());
+    String::from_utf8(output.stdout).expect("text")
+}
+
+#[test]
+fn many_inputs() {
+    let default = Path::new(env!("CARGO_MANIFEST_DIR")).join("../../target/bin/listing");
+    let named = env::var_os("ATTACHMENT_H_LISTING").map(PathBuf::from);
+    if named.is_none() && !default.exists() {
+        println!("target/bin/listing is not built: not run");
+        return;
+    }
+    let program = named.unwrap_or(default);
+    let mut random = Random::new(601);
+    for place in 0..300 {
+        let file = match place % 3 {
+            0 => random_bytes(&mut random).file,
+            _ => any_case(&mut random).input().file,
+        };
+        let expected = second::listing(&file);
+        assert_eq!(listed(&program, file), expected, "input {place}");
+    }
+    for length in [
+        0, 1, 35, 36, 64_999, 65_000, 65_001, 65_002, 70_000, 200_000,
+    ] {
+        let file = vec![0; length];
+        let expected = second::listing(&file);
+        assert_eq!(listed(&program, file), expected, "{length} bytes");
+    }
+}
