@@ -8,7 +8,7 @@ use std::env;
 use std::hint::black_box;
 use std::time::{Duration, Instant};
 
-use cases::case::DAY_AHEAD;
+use cases::case::{DAY_AHEAD, EVERY_HOUR};
 use cases::{Case, Event, Input, Random, Reference, Size, Unit, Wanted};
 
 const SEED: u64 = 1;
@@ -33,6 +33,119 @@ fn main() {
         measure(&format!("generated {place}"), rounds, &input);
     }
     measure("last unit", rounds, &bids_of_the_last_unit());
+    measure("worked", rounds, &worked_example());
+    for kind in 1..=4 {
+        for count in [25, 50, 100, 200] {
+            measure(
+                &format!("kind {kind}, {count}"),
+                rounds,
+                &one_kind(kind, count),
+            );
+        }
+    }
+    measure("mixed 200", rounds, &mixed());
+}
+
+/// Document 01's own case: one withheld event.
+fn worked_example() -> Input {
+    let unit = |unit, capability| Unit {
+        unit,
+        group: 1,
+        capability,
+        ..Unit::default()
+    };
+    let case = Case {
+        units: vec![unit(12, 5_000), unit(13, 15_000)],
+        references: Vec::new(),
+        past: Vec::new(),
+        events: vec![Event::withheld(8_000, DAY_AHEAD, 12, &[(0, 501, 4_000)])],
+    };
+    Input::new(&case, &[])
+}
+
+/// An event of a kind in every hour; of kind 4, component by component.
+fn event(kind: u8, day: u32, unit: u16, component: u8) -> Event {
+    let hours = 0..24;
+    match kind {
+        1 => {
+            let cells: Vec<_> = hours.map(|hour| (hour, 501, 4_000)).collect();
+            Event::withheld(day, DAY_AHEAD, unit, &cells)
+        }
+        2 => {
+            let cells: Vec<_> = hours.map(|hour| (hour, 501, 4_000)).collect();
+            Event::dispatch(day, unit, &cells)
+        }
+        3 => {
+            let cells: Vec<_> = hours.map(|hour| (hour, 501, 4_000)).collect();
+            Event::fuel(day, DAY_AHEAD, unit, (EVERY_HOUR, 1_000, 0), &cells)
+        }
+        _ => {
+            let cells: Vec<_> = hours.map(|hour| (hour, 9_001, 100, 10)).collect();
+            Event::bids(day, DAY_AHEAD, unit, component, 0, &cells)
+        }
+    }
+}
+
+/// One group's events of one kind: 64 units to a day, the largest party-days there can be; of kind 4 all
+/// nine components of 23 units.
+fn one_kind(kind: u8, count: u16) -> Input {
+    let units = if kind == 4 { 23 } else { 64 };
+    let place = |i: u16| {
+        if kind == 4 {
+            (0, i / 9, (i % 9) as u8)
+        } else {
+            (u32::from(i / 64), i % 64, 0)
+        }
+    };
+    let mut case = Case {
+        units: units_of(units, 1),
+        references: references_of(if kind == 4 { units } else { 0 }),
+        past: Vec::new(),
+        events: (0..count)
+            .map(|i| {
+                let (day, unit, component) = place(i);
+                event(kind, day, unit, component)
+            })
+            .collect(),
+    };
+    case.sort_events();
+    Input::new(&case, &[])
+}
+
+/// 200 events of all kinds over 10 days and 4 groups.
+fn mixed() -> Input {
+    let mut case = Case {
+        units: units_of(20, 4),
+        references: references_of(20),
+        past: Vec::new(),
+        events: (0..200u16)
+            .map(|i| event((i % 4 + 1) as u8, u32::from(i / 20), i % 20, (i % 9) as u8))
+            .collect(),
+    };
+    case.sort_events();
+    Input::new(&case, &[])
+}
+
+fn units_of(count: u16, groups: u16) -> Vec<Unit> {
+    (0..count)
+        .map(|unit| Unit {
+            unit,
+            group: unit % groups,
+            capability: 5_000,
+            ..Unit::default()
+        })
+        .collect()
+}
+
+/// References of all nine components of each unit.
+fn references_of(units: u16) -> Vec<Reference> {
+    (0..units * 9)
+        .map(|place| Reference {
+            unit: place / 9,
+            component: (place % 9) as u8,
+            value: 1_000,
+        })
+        .collect()
 }
 
 /// 200 bids of the last of 64 units, with 128 references and 256 corrections: the longest way to every
