@@ -108,3 +108,51 @@ unfoldable pub minimumGeneration : List ℕ
 minimumGeneration =
     fileOf (unitBytes 12 1 0 5000) (referenceBytes 12 1 5000) []
     (eventOf 8000 4 0 12 1 0 0 262144 4 (at 18 (cellBytes 15001 0 0) (at 20 (cellBytes 4500 0 0) empty)))
+
+-- ---- all four kinds
+
+unfoldable pub mixedReferences : List ℕ
+mixedReferences = referenceBytes 20 0 2000 ++ referenceBytes 20 3 1000
+
+-- withheld in a tight hour, dispatch without impact, fuel after a past penalty, and two bids
+unfoldable pub mixedEvents : List ℕ
+mixedEvents =
+    eventOf 8000 1 1 20 0 1 4 0 0 (at 2 (cellBytes 600 2500 0) empty)
+    ++ eventOf 8000 2 1 13 0 0 0 0 0 (at 4 (cellBytes 1001 999 0) empty)
+    ++ eventOf 8000 3 0 12 0 0 1 100000 (minus 50) (at 0 (cellBytes 10 100 0) empty)
+    ++ eventOf 8000 4 0 20 0 0 0 1 0 (at 0 (cellBytes 12001 0 100) empty)
+    ++ eventOf 8000 4 0 20 3 0 0 0 0 (at 1 (cellBytes 3001 0 0) empty)
+
+unfoldable pub mixed : List ℕ
+mixed = fileOf areaUnits mixedReferences (entryBytes 1 3 0 44 7900) mixedEvents
+
+-- 2 × 600 × 2,500 twentieths is 150,000 cents; E is 1,001,000, and 3 × E is below 10,000,000
+unfoldable pub mixedRows : List ℕ
+mixedRows =
+    rowBytes 4 0 150000 0 2 1 1 noBids
+    ++ rowBytes 16 0 0 0 0 0 0 noBids
+    ++ rowBytes 1 0 0 0 3 0 0 noBids
+    ++ rowBytes 1 1 0 0 0 0 0 (at 0 2000 noBids)
+    ++ rowBytes 2 0 0 0 0 0 0 (at 1 3001 noBids)
+
+-- two days of one group: an instance at a negative price counts for the next day's, and a fuel penalty in Real-Time raises the
+-- next day's Day-Ahead, whose union of P is empty
+unfoldable pub twoDaysEvents : List ℕ
+twoDaysEvents =
+    eventOf 8000 1 0 12 0 1 0 0 0 (at 5 (cellBytes 501 (minus 100) 0) empty)
+    ++ eventOf 8000 3 1 12 0 0 2 1000000 0 (at 1 (cellBytes 100 200 0) empty)
+    ++ eventOf 8001 1 0 13 0 1 0 0 0 (at 5 (cellBytes 1501 2000 0) empty)
+    ++ eventOf 8001 3 0 13 0 0 0 (minus 10) 600000 empty
+    ++ eventOf 8001 4 1 13 7 0 0 1 0 (at 0 (cellBytes 201 0 0) empty)
+
+unfoldable pub twoDays : List ℕ
+twoDays = fileOf units (referenceBytes 13 7 100) [] twoDaysEvents
+
+-- E 10,020,000 with M 2; 2 × 1,501 × 2,000 twentieths; E −100 and T 600,000 with M 3 are 11,999,700 twentieths
+unfoldable pub twoDaysRows : List ℕ
+twoDaysRows =
+    rowBytes 32 0 0 0 2 1 1 noBids
+    ++ rowBytes 2 0 1002000 0 2 0 0 noBids
+    ++ rowBytes 32 0 300200 0 2 2 2 noBids
+    ++ rowBytes 0 0 599985 0 3 0 0 noBids
+    ++ rowBytes 1 1 0 0 0 0 0 (at 0 100 noBids)
