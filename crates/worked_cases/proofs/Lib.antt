@@ -1,2 +1,3 @@
+pub mod MixedSettlements
 pub mod Settlements
 pub mod WorseCases

@@ -1,5 +1,5 @@
--- Settlements by computation, from the bytes of the file to the bytes of the rows: the listing's case, a rows buffer too short, a
--- case of sanctions, two cases of bids, and two of all kinds.
+-- Settlements by computation, from the bytes of the file to the bytes of the rows: the listing's case, a rows buffer too short, and
+-- two cases of bids.
 use Prim.Native.Nat.{_+_, _-_}
 use mathlib.Core.List.{[], _∷_, _++_}
 use mathlib.Core.Path.{_≡_, refl}
@@ -21,7 +21,7 @@ use Rattle.default_bids.specs.Mitigation.{hit, mitigated, mitigatedMask, correc
 use Rattle.binary.specs.Lists.{joinTo}
 use Rattle.settlement.specs.Row.{bidBytes, rowOf, rowsOf}
 use Rattle.settlement.specs.Settled.{refused, accepted, answerOf, rowsAfter, settled}
-use Rattle.worked_cases.specs.Cases.{at, tightUnit, cellBytes, eventOf, rowBytes, noBids, areaUnits, pastInstances, sanctionedEvents, sanctioned, sanctionedRows, bidReferences, bidEvents, bids, bidRows, minimumGeneration, mixedReferences, mixedEvents, mixed, mixedRows, twoDaysEvents, twoDays, twoDaysRows}
+use Rattle.worked_cases.specs.Cases.{at, tightUnit, cellBytes, eventOf, rowBytes, noBids, bidReferences, bidEvents, bids, bidRows, minimumGeneration}
 
 -- the byte beyond the last row stays
 pub record Examples : Type 0 where
@@ -31,11 +31,6 @@ pub record Examples : Type 0 where
         rows = rowBytes 1 0 200400 0 2 1 1 noBids ++ (9 ∷ []);
       }
   pub rows-short : settled listing [] (replicate 127 9) ≡ record { answer = refused 15; rows = replicate 127 9 }
-  pub sanctioned-case : settled sanctioned [] (replicate 769 9)
-      ≡ record {
-        answer = record { number = 0; rowCount = 6; penalties = 1826809; makeUps = 0 };
-        rows = sanctionedRows ++ (9 ∷ []);
-      }
   pub bids-case : settled bids (referenceBytes 20 0 2500) (replicate 641 9)
       ≡ record {
         answer = record { number = 0; rowCount = 5; penalties = 0; makeUps = 150000 };
@@ -47,17 +42,7 @@ pub record Examples : Type 0 where
         answer = record { number = 0; rowCount = 1; penalties = 0; makeUps = 0 };
         rows = rowBytes 262144 3932160 0 0 0 0 0 (at 18 4000 (at 20 4500 noBids));
       }
-  pub mixed-case : settled mixed [] (replicate 641 9)
-      ≡ record {
-        answer = record { number = 0; rowCount = 5; penalties = 150000; makeUps = 0 };
-        rows = mixedRows ++ (9 ∷ []);
-      }
-  pub two-days-case : settled twoDays [] (replicate 641 9)
-      ≡ record {
-        answer = record { number = 0; rowCount = 5; penalties = 1902185; makeUps = 0 };
-        rows = twoDaysRows ++ (9 ∷ []);
-      }
 
 pub examples : Examples
-unfolding mixedReferences mixedEvents mixed mixedRows twoDaysEvents twoDays twoDaysRows tightUnit areaUnits pastInstances sanctionedEvents sanctioned sanctionedRows bidReferences bidEvents bids bidRows minimumGeneration cellBytes eventOf rowBytes headed fileOf unitBytes referenceBytes entryBytes eventBytes units withheld listing sumTo countTo anyTo allTo firstTo lastTo maskTo bitOf valueAt bytesOf positivePart negativePart within thresholdOf increase lowerTest constrainedTest percentTest timeTest maximumTest bidTest unitLimit groupLimit withheldTest dispatchTest cents periodCounts ladder withheldPenalty dispatchPenalty fuelDayCounts fuelCharge fuelPenalty between spanned atMost lesser greater defaultBid restores correctedBid correctedInForce excess hourMakeUp makeUp offsetOf lengthOf sectionOf recordAt unitsIn referencesIn violationIn pastIn eventsIn amountsIn decode caseIn isUnit isListed placeOf unitOf groupOf isReference hasReference levelOf correctReferences correctIn referenceOf lengthFine versionFine sectionsFine pairsFine sizeFine sizesFine rises unitFieldsFine unitSpareFine unitFine unitsFine referenceFieldsFine referenceKey referenceFine referencesFine correctionFine violationFine entryFine pastFine maskFine quantitiesFine fieldsFine bidFine cellFine hourFine eventFine eventsFine eventKey orderFine eventListed eventsListed withinCapability amountFine amountsFine readsCorrect referenceFound referencesFound rowsFine headerRefusal recordsRefusal eventsRefusal refusal tight together sumTogether timeBid timeTotal bidFlag groupCapability groupSum withheldFlag dispatchFlag fuelFlag flagged flagMask flaggedWithImpact isInstance countsHere countsPast instances N3 N2 withheldMultiplier withheldAmount withheldPenaltyOf dispatchMultiplier dispatchRevenue dispatchPenaltyOf energyPart gain loss tccChange lowestUnit countsFuel pastFuel fuelStands fuelMultiplierAfter fuelPenaltyUnder priorFuel fuelMultiplier fuelPenaltyOf multiplier penalty totalPenalty hit mitigated mitigatedMask correctOf bidInForce makeUpTenths makeUpOf totalMakeUp joinTo bidBytes rowOf rowsOf accepted answerOf rowsAfter settled
-examples = record { listing-case = refl; rows-short = refl; sanctioned-case = refl; bids-case = refl; span-case = refl; mixed-case = refl; two-days-case = refl }
+unfolding tightUnit bidReferences bidEvents bids bidRows minimumGeneration cellBytes eventOf rowBytes headed fileOf unitBytes referenceBytes entryBytes eventBytes units withheld listing sumTo countTo anyTo allTo firstTo lastTo maskTo bitOf valueAt bytesOf positivePart negativePart within thresholdOf increase lowerTest constrainedTest percentTest timeTest maximumTest bidTest unitLimit groupLimit withheldTest dispatchTest cents periodCounts ladder withheldPenalty dispatchPenalty fuelDayCounts fuelCharge fuelPenalty between spanned atMost lesser greater defaultBid restores correctedBid correctedInForce excess hourMakeUp makeUp offsetOf lengthOf sectionOf recordAt unitsIn referencesIn violationIn pastIn eventsIn amountsIn decode caseIn isUnit isListed placeOf unitOf groupOf isReference hasReference levelOf correctReferences correctIn referenceOf lengthFine versionFine sectionsFine pairsFine sizeFine sizesFine rises unitFieldsFine unitSpareFine unitFine unitsFine referenceFieldsFine referenceKey referenceFine referencesFine correctionFine violationFine entryFine pastFine maskFine quantitiesFine fieldsFine bidFine cellFine hourFine eventFine eventsFine eventKey orderFine eventListed eventsListed withinCapability amountFine amountsFine readsCorrect referenceFound referencesFound rowsFine headerRefusal recordsRefusal eventsRefusal refusal tight together sumTogether timeBid timeTotal bidFlag groupCapability groupSum withheldFlag dispatchFlag fuelFlag flagged flagMask flaggedWithImpact isInstance countsHere countsPast instances N3 N2 withheldMultiplier withheldAmount withheldPenaltyOf dispatchMultiplier dispatchRevenue dispatchPenaltyOf energyPart gain loss tccChange lowestUnit countsFuel pastFuel fuelStands fuelMultiplierAfter fuelPenaltyUnder priorFuel fuelMultiplier fuelPenaltyOf multiplier penalty totalPenalty hit mitigated mitigatedMask correctOf bidInForce makeUpTenths makeUpOf totalMakeUp joinTo bidBytes rowOf rowsOf accepted answerOf rowsAfter settled
+examples = record { listing-case = refl; rows-short = refl; bids-case = refl; span-case = refl }

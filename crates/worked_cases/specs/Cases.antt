@@ -156,3 +156,70 @@ twoDaysRows =
     ++ rowBytes 32 0 300200 0 2 2 2 noBids
     ++ rowBytes 0 0 599985 0 3 0 0 noBids
     ++ rowBytes 1 1 0 0 0 0 0 (at 0 100 noBids)
+
+-- one group's S of an hour flags two units that pass alone, one of them without impact; a unit with no response rate; dispatch on
+-- its limits, tight and not; a fuel day of negative E; reserve and start-up cost
+unfoldable pub groupReferences : List ℕ
+groupReferences = referenceBytes 13 2 1000 ++ referenceBytes 13 3 1000
+
+unfoldable pub groupEvents : List ℕ
+groupEvents =
+    eventOf 8000 1 1 12 0 1 0 0 0 (at 4 (cellBytes 500 3000 0) empty)
+    ++ eventOf 8000 1 1 13 0 0 0 0 0 (at 4 (cellBytes 600 5000 0) empty)
+    ++ eventOf 8000 2 1 12 0 1 0 0 0 (at 7 (cellBytes 1 333 0) empty)
+    ++ eventOf 8000 2 1 20 0 1 2 0 0 (at 0 (cellBytes 1000 999 0) (at 1 (cellBytes 500 999 0) empty))
+    ++ eventOf 8000 3 1 12 0 0 1 (minus 10) 0 empty
+    ++ eventOf 8000 3 1 13 0 0 8 0 0 empty
+    ++ eventOf 8000 4 0 13 2 0 0 3 0 (at 0 (cellBytes 4001 0 0) (at 1 (cellBytes 4000 0 0) empty))
+    ++ eventOf 8001 4 0 13 3 0 0 64 0 (at 6 (cellBytes 3001 0 0) empty)
+
+unfoldable pub group : List ℕ
+group = fileOf areaUnits groupReferences [] groupEvents
+
+-- S is 1,100 of G 20,000: 20 × S is above it; 2 × 500 × 3,000 twentieths; 3 halves of 333 are 499.5
+unfoldable pub groupRows : List ℕ
+groupRows =
+    rowBytes 16 0 150000 0 2 1 1 noBids
+    ++ rowBytes 16 0 0 0 0 0 0 noBids
+    ++ rowBytes 128 0 500 0 3 0 0 noBids
+    ++ rowBytes 0 0 0 0 0 0 0 noBids
+    ++ rowBytes 9 0 0 0 2 0 0 noBids
+    ++ rowBytes 9 0 0 0 0 0 0 noBids
+    ++ rowBytes 1 1 0 0 0 0 0 (at 0 1000 (at 1 4000 noBids))
+    ++ rowBytes 64 64 0 0 0 0 0 (at 6 1000 noBids)
+
+-- past entries on both sides of every window: periods 41 (too early), 42 and 43, the other market; fuel 184 and 183 days before
+unfoldable pub windowPast : List ℕ
+windowPast =
+    entryBytes 1 1 0 41 0 ++ entryBytes 1 1 1 44 0 ++ entryBytes 1 1 0 42 0 ++ entryBytes 1 1 0 43 0
+    ++ entryBytes 2 3 1 44 7816 ++ entryBytes 1 3 1 44 7817
+
+unfoldable pub windowReferences : List ℕ
+windowReferences = referenceBytes 20 0 2000 ++ referenceBytes 20 3 2000
+
+unfoldable pub windowCorrection : List ℕ
+windowCorrection = referenceBytes 20 0 2500 ++ referenceBytes 20 3 2500
+
+-- two instances of one group, a fuel day of each, start-up cost, and energy in a tight hour
+unfoldable pub windowEvents : List ℕ
+windowEvents =
+    eventOf 8000 1 0 12 0 1 0 0 0 (at 23 (cellBytes 1001 1 0) empty)
+    ++ eventOf 8000 1 0 13 0 1 0 0 0 (at 23 (cellBytes 1 5 0) empty)
+    ++ eventOf 8000 3 0 13 0 0 1 0 1000000 (at 0 (cellBytes 100 50000 0) empty)
+    ++ eventOf 8000 3 0 20 0 0 0 500000 0 empty
+    ++ eventOf 8000 4 0 20 3 0 0 1120 0 (at 5 (cellBytes 6001 0 0) (at 6 (cellBytes 6000 0 0) (at 10 (cellBytes 7501 0 0) empty)))
+    ++ eventOf 8000 4 1 20 0 0 4 4 0 (at 2 (cellBytes 2877 2499 7) empty)
+
+unfoldable pub windows : List ℕ
+windows = fileOf areaUnits windowReferences windowPast windowEvents
+
+-- N3 3 and N2 2, then 4 and 3: 4,004 twentieths are 200 cents; E 5,000,000 and T 1,000,000 with M 3; E 5,000,000 with M 2. With
+-- c 2,500 the bid of 6,001 passes and 7,501 fails. 7 × (2,500 − 2,499) tenths are 1 cent
+unfoldable pub windowRows : List ℕ
+windowRows =
+    rowBytes 8388608 0 200 0 4 3 2 noBids
+    ++ rowBytes 8388608 0 1 0 4 4 3 noBids
+    ++ rowBytes 1 0 1750000 0 3 0 0 noBids
+    ++ rowBytes 0 0 500000 0 2 0 0 noBids
+    ++ rowBytes 1056 1056 0 0 0 0 0 (at 5 6001 (at 6 6000 (at 10 2500 noBids)))
+    ++ rowBytes 4 4 0 1 0 0 0 (at 2 2000 noBids)
