@@ -2,7 +2,7 @@
 //! number, over buffers with something in them.
 
 use attachment_h::{Refused, Settled, settle};
-use cases::faults::FAULTS;
+use cases::faults::{FAULTS, faults_of};
 use cases::generator::{any_case, case, random_bytes};
 use cases::{Input, Random, Size, Wanted};
 use second::Outcome;
@@ -39,7 +39,7 @@ fn accepted_cases() {
     let mut random = Random::new(301);
     let (mut cases, mut rows, mut penalties, mut make_ups) = (0, 0, 0, 0);
     for (size, count) in [
-        (Size::Small, 12_000),
+        (Size::Small, 16_000),
         (Size::Medium, 3_000),
         (Size::Full, 200),
     ] {
@@ -58,6 +58,19 @@ fn accepted_cases() {
     }
     println!("{cases} cases, {rows} rows; {penalties} with penalties, {make_ups} with make-ups");
     assert!(rows > 200_000 && penalties > 5_000 && make_ups > 300);
+}
+
+/// A case with a fault, where it has a place for one.
+fn with_fault(random: &mut Random, input: &Input, number: u8) -> Option<Input> {
+    let fault = random.pick(&faults_of(number));
+    let mut faulty = input.clone();
+    (fault.apply)(&mut faulty, random).map(|()| faulty)
+}
+
+/// A case with faults of two numbers, the lower one put in last, since it may break the layout.
+fn with_two_faults(random: &mut Random, input: &Input, low: u8, high: u8) -> Option<Input> {
+    let one = with_fault(random, input, high)?;
+    with_fault(random, &one, low)
 }
 
 #[test]
@@ -82,6 +95,79 @@ fn refused_cases() {
     }
     println!("{refused} refused cases");
     assert!(refused > 3_000);
+}
+
+#[test]
+fn pairs_of_faults() {
+    let mut random = Random::new(304);
+    let mut refused = 0;
+    for low in 1..=15 {
+        for high in low + 1..=15 {
+            let mut tries = 0;
+            for _ in 0..30 {
+                let input = any_case(&mut random).input();
+                let Some(faulty) = with_two_faults(&mut random, &input, low, high) else {
+                    continue;
+                };
+                let outcome = both(&mut random, &faulty, &format!("{low} and {high}"));
+                assert_eq!(outcome, Err(Refused(low)), "{low} and {high}");
+                tries += 1;
+            }
+            assert!(tries > 0, "{low} and {high}");
+            refused += tries;
+        }
+    }
+    println!("{refused} cases with two faults, of 105 pairs of numbers");
+}
+
+/// A case of any size, one in four with faults of one or two numbers, or bytes that no case has.
+fn any_input(random: &mut Random) -> Input {
+    if random.chance(1, 25) {
+        return random_bytes(random);
+    }
+    let size = match random.below(400) {
+        0 => Size::Full,
+        1..=20 => Size::Medium,
+        _ => Size::Small,
+    };
+    let input = case(random, Wanted::of(size)).input();
+    let numbers = [1 + random.below(15) as u8, 1 + random.below(15) as u8];
+    let [low, high] = [numbers[0].min(numbers[1]), numbers[0].max(numbers[1])];
+    let faulty = match random.below(8) {
+        0 => with_fault(random, &input, low),
+        1 => with_two_faults(random, &input, low, high),
+        _ => None,
+    };
+    faulty.unwrap_or(input)
+}
+
+/// Settles so many inputs of a seed; how many were accepted, and their rows.
+fn settle_many(seed: u64, count: usize) -> (usize, usize) {
+    let mut random = Random::new(seed);
+    let (mut accepted, mut rows) = (0, 0);
+    for place in 0..count {
+        let input = any_input(&mut random);
+        if let Ok(settled) = both(&mut random, &input, &format!("seed {seed}, input {place}")) {
+            accepted += 1;
+            rows += settled.rows;
+        }
+    }
+    (accepted, rows)
+}
+
+#[test]
+#[ignore = "takes minutes: sh scripts/million"]
+fn a_million_cases() {
+    let (seeds, each) = (20, 50_000);
+    let (mut accepted, mut rows) = (0, 0);
+    for seed in 1..=seeds {
+        let (more, their_rows) = settle_many(seed, each);
+        accepted += more;
+        rows += their_rows;
+    }
+    let cases = seeds as usize * each;
+    println!("{cases} inputs: {accepted} accepted with {rows} rows, the others refused");
+    assert!(accepted > cases / 2 && accepted < cases);
 }
 
 #[test]
