@@ -14,10 +14,10 @@ use Rattle.binary.proofs.Implies.{and-l, and-r}
 use Rattle.binary.proofs.BoundedLaws.{all-at, any-true}
 use Rattle.casefile.specs.Layout.{sectionCount, headerWidth, longestFile, unitWidth, referenceWidth, pastWidth, eventWidth, mostUnits, mostReferences, mostPast, mostEvents, rowWidth}
 use Rattle.casefile.specs.Decode.{caseIn, lengthOf, sectionOf, FollowOn, HasSection, unitsIn, referencesIn, pastIn, eventsIn, amountsIn, decode}
-use Rattle.casefile.specs.Lookup.{isUnit, isListed, placeOf, unitOf, hasReference, levelOf, Rising, InOrder, correctReferences, correctIn, referenceOf}
+use Rattle.casefile.specs.Lookup.{isUnit, isListed, placeOf, unitOf, hasReference, levelOf, Rising, UnitsInOrder, InOrder, correctReferences, correctIn, referenceOf}
 use Rattle.casefile.specs.Refusal.{sizeFine, sizesFine, rises, unitFine, unitsFine, highestReference, referenceFine, referencesFine, correctionFine, entryFine, pastFine, hourFine, eventFine, eventsFine, eventKey, orderFine, eventListed, eventsListed, withinCapability, amountFine, amountsFine, readsCorrect, referenceFound, referencesFound, rowsFine, eventsRefusal, refusal}
 use Rattle.casefile.proofs.LookupLaws.{listed-place, listed-number}
-use Rattle.casefile.proofs.RangeLaws.{or-right, of-kind, UnitRange, ReferenceRange, ViolationRange, EventRange, CellRange, unit-range, reference-range, violation-range, event-range, cell-range, level-bound, rising, references-in-order, correct-in-order}
+use Rattle.casefile.proofs.RangeLaws.{or-right, of-kind, UnitRange, ReferenceRange, ViolationRange, EventRange, CellRange, unit-range, reference-range, violation-range, event-range, cell-range, level-bound, rising, numbers-in-order, references-in-order, correct-in-order}
 use Rattle.casefile.proofs.RefusalLaws as stages
 use Rattle.casefile.proofs.RefusalLaws.{HeaderFine, RecordsFine, EventsFine}
 
@@ -133,13 +133,12 @@ module _ (f k : List ℕ) (n : ℕ) (h : refusal f k n ≡ 0) where
   unfolding decode caseIn
   unit-ranges i l = unit-range (sectionOf f 0) i (unit-fine i l)
 
-  pub units-rise : Rising (decode f .units .number) (decode f .units .count)
-  unfolding decode caseIn unitFine
-  units-rise i j l m = rising (unitsIn (sectionOf f 0) .number) _ (λ x lx. let t = unit-fine x lx in search (and-l, and-r)) i j l m
+  pub units-rise : UnitsInOrder (sectionOf f 0)
+  units-rise = numbers-in-order (sectionOf f 0) (records .units-fine)
 
   -- a unit has one place
   pub one-place : (i : ℕ) → i < decode f .units .count → placeOf (decode f .units) (decode f .units .number i) ≡ i
-  unfolding isListed isUnit
+  unfolding isListed isUnit decode caseIn unitsIn
   one-place i l = go (ltb place i) refl
     where
       place : ℕ

@@ -14,11 +14,11 @@ use Rattle.binary.specs.Word.{positivePart, negativePart, within}
 use Rattle.binary.proofs.Implies.{and-l, and-r}
 use Rattle.binary.proofs.BoundedLaws.{all-at, last-holds}
 use Rattle.binary.proofs.WordLaws.{within-positive, within-negative}
-use Rattle.casefile.specs.Layout.{referenceWidth}
+use Rattle.casefile.specs.Layout.{unitWidth, referenceWidth}
 use Rattle.casefile.specs.Case.{Units, References, Violation, Events}
 use Rattle.casefile.specs.Decode.{unitsIn, referencesIn}
-use Rattle.casefile.specs.Lookup.{isListed, isReference, hasReference, levelOf, referenceKey, Rising, InOrder, correctReferences}
-use Rattle.casefile.specs.Refusal.{referencesFine, correctionFine, rises, unitFieldsFine, unitFine, highestReference, referenceFieldsFine, referenceFine, violationFine, maskFine, quantitiesFine, fieldsFine, bidFine, cellFine, eventFine}
+use Rattle.casefile.specs.Lookup.{isListed, isReference, hasReference, levelOf, referenceKey, Rising, UnitsInOrder, InOrder, correctReferences}
+use Rattle.casefile.specs.Refusal.{unitsFine, referencesFine, correctionFine, rises, unitFieldsFine, unitFine, highestReference, referenceFieldsFine, referenceFine, violationFine, maskFine, quantitiesFine, fieldsFine, bidFine, cellFine, eventFine}
 use Rattle.casefile.proofs.LookupLaws.{last-below}
 
 -- ---- tests
@@ -222,6 +222,12 @@ rising key n h i (suc j) l m =
         let e : suc j - 1 ≡ j = omega arith in
         ltb-true (key j) (key (suc j))
         (rw e at (or-right (eqb (suc j) 0) (ltb (key (suc j - 1)) (key (suc j))) (h (suc j) m) (ne-eqb (suc j) 0 (λ q. omega arith))))
+
+pub numbers-in-order : (s : List ℕ) → unitsFine s ≡ true → UnitsInOrder s
+unfolding unitsFine unitFine unitsIn
+numbers-in-order s h =
+    rising (unitsIn s .number) (length s / unitWidth)
+    (λ j l. let t = all-at (length s / unitWidth) j (unitFine s) l h in search (and-l, and-r))
 
 pub references-in-order : (u : Units) (s : List ℕ) → referencesFine u s ≡ true → InOrder s
 unfolding referencesFine referenceFine referencesIn

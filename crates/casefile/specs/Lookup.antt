@@ -6,9 +6,9 @@ use mathlib.Core.List.{List}
 use lib.Dec.{eqb}
 use lib.ListN.{length}
 use Rattle.binary.specs.Bounded.{anyTo, lastTo}
-use Rattle.casefile.specs.Layout.{referenceWidth}
+use Rattle.casefile.specs.Layout.{unitWidth, referenceWidth}
 use Rattle.casefile.specs.Case.{Units, References, Case}
-use Rattle.casefile.specs.Decode.{referencesIn, sectionOf}
+use Rattle.casefile.specs.Decode.{unitsIn, referencesIn, sectionOf}
 
 -- unit j has this number
 unfoldable pub isUnit : Units → (number j : ℕ) → Bool
@@ -47,7 +47,11 @@ referenceKey r i = 256 * r .unit i + r .component i
 abbrev pub Rising : (key : ℕ → ℕ) (n : ℕ) → Type 0
 Rising key n = (i j : ℕ) → i < j → j < n → key i < key j
 
--- the references of a section stand in their order
+-- the units of a section stand in the order of their numbers (check 6)
+abbrev pub UnitsInOrder : (units : List ℕ) → Type 0
+UnitsInOrder s = Rising (unitsIn s .number) (length s / unitWidth)
+
+-- the references of a section stand in their order (checks 7 and 8)
 abbrev pub InOrder : (references : List ℕ) → Type 0
 InOrder s = Rising (referenceKey (referencesIn s)) (length s / referenceWidth)
 

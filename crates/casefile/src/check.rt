@@ -1,6 +1,6 @@
 // The check of a whole case, in number order.
 ghost use mathlib.Core.Path.{_≡_};
-ghost use Rattle.casefile.specs.Lookup.{InOrder};
+ghost use Rattle.casefile.specs.Lookup.{UnitsInOrder, InOrder};
 ghost use Rattle.casefile.specs.Refusal.{recordsRefusal, eventsRefusal, refusal};
 use crate::events::amounts_fine;
 use crate::events::events_listed;
@@ -21,14 +21,16 @@ use crate::units::units_fine;
 fn records_refusal(units: &[u8], references: &[u8], correction: &[u8], past: &[u8]) -> u8
     ensures { λ r. ⌜ r ≡ recordsRefusal (now (units .entry)) (now (references .entry)) (now (correction .entry)) (now (past .entry)) 0 ⌝ }
 {
-    let units_good = units_fine(units);
+    // Units are looked up by their order, which 6 is about.
+    if !units_fine(units) {
+        return 6;
+    }
     let references_good = references_fine(units, references);
     let correction_good = correction_fine(units, correction);
     let past_good = past_fine(past);
     let from_9 = unless(past_good, 9, 0);
     let from_8 = unless(correction_good, 8, from_9);
-    let from_7 = unless(references_good, 7, from_8);
-    unless(units_good, 6, from_7)
+    unless(references_good, 7, from_8)
 }
 
 // The number of the first limit that the events break, or 0.
@@ -39,7 +41,7 @@ fn events_refusal(
     events: &[u8],
     rows_length: usize,
 ) -> u8
-    requires { ⌜ InOrder (now references) × InOrder (now correct) ⌝ }
+    requires { ⌜ UnitsInOrder (now units) × InOrder (now references) × InOrder (now correct) ⌝ }
     ensures { λ r. ⌜ r ≡ eventsRefusal (now (units .entry)) (now (references .entry)) (now (correct .entry)) (now (events .entry)) «rows_length» ⌝ }
 {
     let unreadable = reading_refusal(events);

@@ -5,7 +5,7 @@ ghost use Prim.Native.Nat.{_/_, _<_, _≤_};
 ghost use lib.ListN.{length};
 ghost use Rattle.casefile.specs.Layout.{eventWidth, hours};
 ghost use Rattle.casefile.specs.Decode.{unitsIn, referencesIn, eventsIn, amountsIn};
-ghost use Rattle.casefile.specs.Lookup.{InOrder};
+ghost use Rattle.casefile.specs.Lookup.{UnitsInOrder, InOrder};
 ghost use Rattle.casefile.specs.Refusal.{quantitiesFine, fieldsFine, eventFine, eventsFine, rises, eventKey, orderFine, eventListed, eventsListed, amountFine, amountsFine, readsCorrect, referenceFound, referencesFound, unless};
 ghost use Rattle.casefile.specs.Read.{eventOf, numberOf, readEvent};
 use crate::cells::amounts_within;
@@ -180,7 +180,7 @@ pub fn order_fine(events: &[u8]) -> bool
 }
 
 fn event_listed(units: &[u8], events: &[u8], i: usize) -> bool
-    requires { ⌜ i < length (now events) / eventWidth ⌝ }
+    requires { ⌜ (i < length (now events) / eventWidth) × UnitsInOrder (now units) ⌝ }
     ensures { λ r. ⌜ r ≡ eventListed (unitsIn (now (units .entry))) (eventsIn (now (events .entry))) i ⌝ }
 {
     let event = record_at(events, i, layout::EVENT_WIDTH);
@@ -188,6 +188,7 @@ fn event_listed(units: &[u8], events: &[u8], i: usize) -> bool
 }
 
 pub fn events_listed(units: &[u8], events: &[u8]) -> bool
+    requires { ⌜ UnitsInOrder (now units) ⌝ }
     ensures { λ r. ⌜ r ≡ eventsListed (unitsIn (now (units .entry))) (eventsIn (now (events .entry))) ⌝ }
 {
     let n = events.len() / layout::EVENT_WIDTH;
@@ -202,7 +203,7 @@ pub fn events_listed(units: &[u8], events: &[u8]) -> bool
 
 // Whether a is within the capability in each hour of event i, where its kind asks that.
 fn amount_fine(units: &[u8], events: &[u8], i: usize) -> bool
-    requires { ⌜ (i < length (now events) / eventWidth) × (eventsListed (unitsIn (now units)) (eventsIn (now events)) ≡ true) ⌝ }
+    requires { ⌜ (i < length (now events) / eventWidth) × UnitsInOrder (now units) × (eventsListed (unitsIn (now units)) (eventsIn (now events)) ≡ true) ⌝ }
     ensures { λ r. ⌜ r ≡ amountFine (unitsIn (now (units .entry))) (eventsIn (now (events .entry))) (amountsIn (now (events .entry))) i ⌝ }
 {
     let event = record_at(events, i, layout::EVENT_WIDTH);
@@ -215,7 +216,7 @@ fn amount_fine(units: &[u8], events: &[u8], i: usize) -> bool
 }
 
 pub fn amounts_fine(units: &[u8], events: &[u8]) -> bool
-    requires { ⌜ eventsListed (unitsIn (now units)) (eventsIn (now events)) ≡ true ⌝ }
+    requires { ⌜ UnitsInOrder (now units) × (eventsListed (unitsIn (now units)) (eventsIn (now events)) ≡ true) ⌝ }
     ensures { λ r. ⌜ r ≡ amountsFine (unitsIn (now (units .entry))) (now (events .entry)) ⌝ }
 {
     let n = events.len() / layout::EVENT_WIDTH;

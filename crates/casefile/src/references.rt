@@ -5,7 +5,7 @@ ghost use Prim.Native.Nat.{_+_, _*_, _/_, _<_};
 ghost use lib.ListN.{length};
 ghost use Rattle.casefile.specs.Layout.{referenceWidth};
 ghost use Rattle.casefile.specs.Decode.{unitsIn, referencesIn};
-ghost use Rattle.casefile.specs.Lookup.{hasReference, levelOf, referenceKey, InOrder, Between, correctReferences};
+ghost use Rattle.casefile.specs.Lookup.{hasReference, levelOf, referenceKey, UnitsInOrder, InOrder, Between, correctReferences};
 ghost use Rattle.casefile.specs.Refusal.{referenceFieldsFine, referenceFine, referencesFine, correctionFine};
 use crate::layout;
 use crate::records::place_before;
@@ -54,7 +54,7 @@ fn reference_key(references: &[u8], i: usize) -> u32
 }
 
 fn reference_fine(units: &[u8], references: &[u8], i: usize) -> bool
-    requires { ⌜ i < length (now references) / referenceWidth ⌝ }
+    requires { ⌜ (i < length (now references) / referenceWidth) × UnitsInOrder (now units) ⌝ }
     ensures { λ r. ⌜ r ≡ referenceFine (unitsIn (now (units .entry))) (now (references .entry)) i ⌝ }
 {
     let reference = record_at(references, i, layout::REFERENCE_WIDTH);
@@ -70,6 +70,7 @@ fn reference_fine(units: &[u8], references: &[u8], i: usize) -> bool
 }
 
 pub fn references_fine(units: &[u8], references: &[u8]) -> bool
+    requires { ⌜ UnitsInOrder (now units) ⌝ }
     ensures { λ r. ⌜ r ≡ referencesFine (unitsIn (now (units .entry))) (now (references .entry)) ⌝ }
 {
     let n = references.len() / layout::REFERENCE_WIDTH;
@@ -84,6 +85,7 @@ pub fn references_fine(units: &[u8], references: &[u8]) -> bool
 
 // The size comes first: a correction may be of any length.
 pub fn correction_fine(units: &[u8], correction: &[u8]) -> bool
+    requires { ⌜ UnitsInOrder (now units) ⌝ }
     ensures { λ r. ⌜ r ≡ correctionFine (unitsIn (now (units .entry))) (now (correction .entry)) ⌝ }
 {
     if size_fine(

@@ -4,7 +4,7 @@ ghost use Prim.Native.Nat.{_/_, _<_};
 ghost use lib.ListN.{length};
 ghost use Rattle.casefile.specs.Layout.{unitWidth};
 ghost use Rattle.casefile.specs.Decode.{unitsIn};
-ghost use Rattle.casefile.specs.Lookup.{isUnit, isListed, placeOf};
+ghost use Rattle.casefile.specs.Lookup.{isListed, placeOf, UnitsInOrder, Between};
 ghost use Rattle.casefile.specs.Refusal.{unitFieldsFine, unitSpareFine, unitFine, unitsFine};
 use crate::layout;
 use crate::records::place_before;
@@ -79,36 +79,41 @@ pub fn units_fine(units: &[u8]) -> bool
     fine
 }
 
-fn is_unit(units: &[u8], number: u16, j: usize) -> bool
-    requires { ⌜ j < length (now units) / unitWidth ⌝ }
-    ensures { λ r. ⌜ r ≡ isUnit (unitsIn (now (units .entry))) number j ⌝ }
+// The first place whose number is not below this one: the stretch where it stands is halved each time.
+fn unit_from(units: &[u8], number: u16) -> usize
+    requires { ⌜ UnitsInOrder (now units) ⌝ }
+    ensures { λ r. ⌜ Between (unitsIn (now (units .entry)) .number) (length (now (units .entry)) / unitWidth) number r r ⌝ }
 {
-    unit_number(units, j) == number
+    let mut lo = 0;
+    let mut hi = units.len() / layout::UNIT_WIDTH;
+    while lo < hi {
+        let middle = lo + (hi - lo) / 2;
+        let below = unit_number(units, middle) < number;
+        lo = choose_usize(below, middle + 1, lo);
+        hi = choose_usize(below, hi, middle);
+    }
+    lo
 }
 
 pub fn is_listed(units: &[u8], number: u16) -> bool
+    requires { ⌜ UnitsInOrder (now units) ⌝ }
     ensures { λ r. ⌜ r ≡ isListed (unitsIn (now (units .entry))) number ⌝ }
 {
-    let n = units.len() / layout::UNIT_WIDTH;
-    let mut listed = false;
-    let mut j = 0;
-    while j < n {
-        listed = listed | is_unit(units, number, j);
-        j += 1;
+    let at = unit_from(units, number);
+    if at < units.len() / layout::UNIT_WIDTH {
+        return unit_number(units, at) == number;
     }
-    listed
+    false
 }
 
 // The place of the unit of this number, or 0 where it is not listed.
 pub fn unit_place(units: &[u8], number: u16) -> usize
+    requires { ⌜ UnitsInOrder (now units) ⌝ }
     ensures { λ r. ⌜ r ≡ placeOf (unitsIn (now (units .entry))) number ⌝ }
 {
-    let n = units.len() / layout::UNIT_WIDTH;
-    let mut place = 0;
-    let mut j = 0;
-    while j < n {
-        place = choose_usize(is_unit(units, number, j), j, place);
-        j += 1;
+    let at = unit_from(units, number);
+    if at < units.len() / layout::UNIT_WIDTH {
+        return choose_usize(unit_number(units, at) == number, at, 0);
     }
-    place
+    0
 }

@@ -1,24 +1,23 @@
 -- What a stage reads in the tables of the stages before it is the figure of the case.
 use Prim.Native.Nat.{ℕ, zero, suc, _+_, _*_, _/_, _%_, _≤_, _<_}
-use mathlib.Core.Bool.{Bool, true, cond}
+use mathlib.Core.Bool.{Bool, true, false, cond, not, _&&_, _||_}
 use mathlib.Core.List.{List, _++_}
-use mathlib.Core.Path.{_≡_, refl, sym, ap, ap₂, _∙_}
+use mathlib.Core.Path.{_≡_, refl, ap, ap₂, _∙_}
 use native.Mathlib.Omega.{arith}
 use borrow.Author.Tests.{eqb-true, leb-true}
-use lib.Dec.{leb, eqb}
-use lib.ListN.{length, getD, drop, List·getD-eq-default}
-use Rattle.binary.specs.Bounded.{lastTo}
-use Rattle.binary.specs.Bytes.{valueAt}
+use lib.Dec.{T, leb, eqb}
+use lib.ListN.{length, getD, drop}
 use Rattle.binary.specs.Lists.{listTo, firstFrom, Bytes, Holds}
-use Rattle.binary.proofs.Implies.{and-l, and-r}
-use Rattle.binary.proofs.BoundedLaws.{last-bound}
+use Rattle.binary.proofs.Implies.{_⇒_, T→true, true→T, and-l, and-r}
+use Rattle.binary.proofs.BoundedLaws.{all-mono}
 use Rattle.binary.proofs.ListLaws.{list-same}
-use Rattle.casefile.specs.Decode.{unitsIn, referencesIn, eventsIn, caseIn}
-use Rattle.casefile.specs.Lookup.{unitOf, groupOf, isReference, levelOf}
-use Rattle.casefile.specs.Refusal.{sizeFine, eventsListed}
-use Rattle.casefile.proofs.RecordLaws.{value-record}
+use Rattle.casefile.specs.Case.{References, Events}
+use Rattle.casefile.specs.Decode.{unitsIn, eventsIn, caseIn}
+use Rattle.casefile.specs.Lookup.{unitOf, groupOf, hasReference}
+use Rattle.casefile.specs.Refusal.{sizeFine, eventsListed, readsCorrect, referenceFound, referencesFound}
+use Rattle.casefile.proofs.RangeLaws.{of-kind}
 use Rattle.casefile.proofs.EventLaws.{events-place}
-use Rattle.conduct.specs.Parties.{partyKey, leaderOf}
+use Rattle.conduct.specs.Parties.{partyKey, leaderOf, levelFound, levelsFound}
 use Rattle.conduct.specs.Stages.{keyIn, sameKey, leaderIn}
 use Rattle.conduct.proofs.PartyLaws.{keys-together}
 
@@ -72,26 +71,23 @@ module _ (u r p e : List ℕ) where
 
 -- ---- reference levels
 
-value-empty : (w : ℕ) (s : List ℕ) (k : ℕ) → length s ≡ 0 → valueAt w s k ≡ 0
-unfolding valueAt
-value-empty zero s k z = refl
-value-empty (suc w) s k z = rw (List·getD-eq-default s 0 {n = k} (omega arith), value-empty w s (k + 1) z)
-
-level-empty : (s : List ℕ) (unit component : ℕ) → length s ≡ 0 → 0 ≡ levelOf (referencesIn s) unit component
-unfolding levelOf referencesIn
-level-empty s unit component z = sym (value-record 4 8 s _ 4 (omega arith) ∙ value-empty 4 s _ z)
-
--- where there is no reference, the level reads as 0
-pub level-none : (s : List ℕ) (unit component place : ℕ) → length s % 8 ≡ 0
-    → place ≡ lastTo (length s / 8) (isReference (referencesIn s) unit component) → length s / 8 ≤ place
-    → 0 ≡ levelOf (referencesIn s) unit component
-level-none s unit component place m e l = go (length s / 8) refl e l
+-- check 14 says it of the case's own references
+pub found-own : (own correct : References) (e : Events) → referencesFound own correct e ≡ true → levelsFound own e ≡ true
+unfolding referencesFound levelsFound referenceFound levelFound
+found-own own correct e h = T→true _ (all-mono (e .count) _ _ (λ i l.
+    record {
+      give = go (eqb (e .kind i) 4) (hasReference own (e .unit i) (e .component i)) (not (readsCorrect (e .component i)) || hasReference correct (e .unit i) (e .component i));
+    }) .give (true→T _ h))
   where
-    go : (n : ℕ) → length s / 8 ≡ n → place ≡ lastTo (length s / 8) (isReference (referencesIn s) unit component) → length s / 8 ≤ place
-        → 0 ≡ levelOf (referencesIn s) unit component
-    go zero q e l = level-empty s unit component (omega arith)
-    go (suc n) q e l =
-        absurd (let b = last-bound (length s / 8) (isReference (referencesIn s) unit component) (omega arith) in omega arith)
+    go : (k o f : Bool) → T (not k || (o && f)) → T (not k || o)
+    go false o f t = tt
+    go true true f t = tt
+    go true false f t = t
+
+pub level-there : (own : References) (e : Events) (i : ℕ) → levelFound own e i ≡ true → e .kind i ≡ 4
+    → hasReference own (e .unit i) (e .component i) ≡ true
+unfolding levelFound
+level-there own e i f kind = of-kind 4 (e .kind i) (hasReference own (e .unit i) (e .component i)) f kind
 
 -- ---- a table of one figure is a table of another that agrees
 

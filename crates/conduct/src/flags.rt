@@ -2,15 +2,15 @@
 ghost use mathlib.Core.Bool.{true};
 ghost use mathlib.Core.List.{[], _++_};
 ghost use mathlib.Core.Path.{_≡_};
-ghost use Prim.Native.Nat.{_*_, _/_, _%_, _≤_, _<_};
+ghost use Prim.Native.Nat.{_*_, _/_, _≤_, _<_};
 ghost use lib.ListN.{length, drop, getD};
 ghost use Rattle.binary.specs.Bounded.{maskTo};
 ghost use Rattle.binary.specs.Lists.{listTo, Holds};
 ghost use Rattle.casefile.specs.Decode.{unitsIn, referencesIn, eventsIn, caseIn};
-ghost use Rattle.casefile.specs.Lookup.{unitOf, groupOf};
+ghost use Rattle.casefile.specs.Lookup.{unitOf, groupOf, UnitsInOrder, InOrder};
 ghost use Rattle.casefile.specs.Refusal.{eventsListed};
 ghost use Rattle.conduct.specs.Flags.{groupSum, withheldFlag, dispatchFlag, flagMask};
-ghost use Rattle.conduct.specs.Parties.{partyKey, leaderOf, bidLevel};
+ghost use Rattle.conduct.specs.Parties.{partyKey, leaderOf, bidLevel, levelsFound};
 ghost use Rattle.conduct.specs.Stages.{HasSums, HasRow, SmallRow, timeKey, withheldIn, dispatchIn, fuelIn, bidIn, totalRead, bidFlagIn, flagMaskIn, Found};
 use crate::parties::find_parties;
 use crate::parties::reference_levels;
@@ -368,8 +368,9 @@ pub fn find_flags(
     levels: &mut [u32],
     masks: &mut [u32],
 )
-    requires { ⌜ eventsListed (unitsIn (now units)) (eventsIn (now events)) ≡ true ⌝ }
-    requires { ⌜ (length (now units) ≤ 65000) × (length (now references) % 8 ≡ 0) × (length (now events) / 312 ≤ 200) ⌝ }
+    requires { ⌜ UnitsInOrder (now units) × (eventsListed (unitsIn (now units)) (eventsIn (now events)) ≡ true) ⌝ }
+    requires { ⌜ InOrder (now references) × (levelsFound (referencesIn (now references)) (eventsIn (now events)) ≡ true) ⌝ }
+    requires { ⌜ (length (now units) ≤ 65000) × (length (now events) / 312 ≤ 200) ⌝ }
     requires { ⌜ length (now events) / 312 ≤ length (now places) ⌝ }
     requires { ⌜ length (now events) / 312 ≤ length (now groups) ⌝ }
     requires { ⌜ length (now events) / 312 ≤ length (now keys) ⌝ }

@@ -2,26 +2,25 @@
 ghost use mathlib.Core.Bool.{true};
 ghost use mathlib.Core.List.{[], _++_};
 ghost use mathlib.Core.Path.{_≡_};
-ghost use Prim.Native.Nat.{_+_, _*_, _/_, _%_, _≤_, _<_};
+ghost use Prim.Native.Nat.{_+_, _*_, _/_, _≤_, _<_};
 ghost use lib.ListN.{length, drop};
-ghost use Rattle.binary.specs.Bounded.{lastTo};
 ghost use Rattle.binary.specs.Lists.{listTo, Holds};
 ghost use Rattle.casefile.specs.Decode.{unitsIn, referencesIn, eventsIn, caseIn};
-ghost use Rattle.casefile.specs.Lookup.{unitOf, groupOf, isReference, levelOf};
+ghost use Rattle.casefile.specs.Lookup.{unitOf, groupOf, UnitsInOrder, InOrder};
 ghost use Rattle.casefile.specs.Refusal.{eventsListed};
-ghost use Rattle.conduct.specs.Parties.{partyKey, leaderOf, bidLevel};
+ghost use Rattle.conduct.specs.Parties.{partyKey, leaderOf, bidLevel, levelFound, levelsFound};
 ghost use Rattle.conduct.specs.Stages.{keyIn, leaderIn};
 use binary::bytes::load_u8;
 use binary::bytes::load_u16;
 use binary::bytes::load_u32;
-use binary::numbers::choose_usize;
 use casefile::layout;
 use casefile::records::record_at;
+use casefile::references::reference_level;
 use casefile::units::unit_place;
 
 // The place of event i's unit.
 fn event_place(units: &[u8], events: &[u8], i: usize) -> usize
-    requires { ⌜ i < length (now events) / 312 ⌝ }
+    requires { ⌜ (i < length (now events) / 312) × UnitsInOrder (now units) ⌝ }
     ensures { λ r. ⌜ r ≡ unitOf (caseIn (now (units .entry)) [] [] (now (events .entry))) i ⌝ }
 {
     let event = record_at(events, i, layout::EVENT_WIDTH);
@@ -29,7 +28,7 @@ fn event_place(units: &[u8], events: &[u8], i: usize) -> usize
 }
 
 pub fn unit_places(units: &[u8], events: &[u8], places: &mut [usize])
-    requires { ⌜ length (now events) / 312 ≤ length (now places) ⌝ }
+    requires { ⌜ UnitsInOrder (now units) × (length (now events) / 312 ≤ length (now places)) ⌝ }
     ensures { λ _. ⌜ now (places .exit) ≡ listTo (length (now (events .entry)) / 312) (unitOf (caseIn (now (units .entry)) [] [] (now (events .entry)))) ++ drop (length (now (events .entry)) / 312) (now (places .entry)) ⌝ }
 {
     let n = events.len() / layout::EVENT_WIDTH;
@@ -130,7 +129,7 @@ pub fn find_parties(
     keys: &mut [u64],
     leaders: &mut [usize],
 )
-    requires { ⌜ eventsListed (unitsIn (now units)) (eventsIn (now events)) ≡ true ⌝ }
+    requires { ⌜ UnitsInOrder (now units) × (eventsListed (unitsIn (now units)) (eventsIn (now events)) ≡ true) ⌝ }
     requires { ⌜ length (now events) / 312 ≤ length (now places) ⌝ }
     requires { ⌜ length (now events) / 312 ≤ length (now groups) ⌝ }
     requires { ⌜ length (now events) / 312 ≤ length (now keys) ⌝ }
@@ -146,46 +145,9 @@ pub fn find_parties(
     party_leaders(events.len() / layout::EVENT_WIDTH, keys, leaders);
 }
 
-// Whether reference j is of this unit and component.
-fn is_level(references: &[u8], unit: u16, component: u8, j: usize) -> bool
-    requires { ⌜ j < length (now references) / 8 ⌝ }
-    ensures { λ r. ⌜ r ≡ isReference (referencesIn (now (references .entry))) unit component j ⌝ }
-{
-    let reference = record_at(references, j, layout::REFERENCE_WIDTH);
-    let here = load_u16(reference, 0);
-    let of = load_u8(reference, 2);
-    (here == unit) & (of == component)
-}
-
-// The place of the reference of a unit and component, or 0 where there is none.
-fn level_place(references: &[u8], unit: u16, component: u8) -> usize
-    ensures { λ r. ⌜ r ≡ lastTo (length (now (references .entry)) / 8) (isReference (referencesIn (now (references .entry))) unit component) ⌝ }
-{
-    let n = references.len() / layout::REFERENCE_WIDTH;
-    let mut place = 0;
-    let mut j = 0;
-    while j < n {
-        place = choose_usize(is_level(references, unit, component, j), j, place);
-        j += 1;
-    }
-    place
-}
-
-// The reference level of a unit and component.
-pub fn reference_level(references: &[u8], unit: u16, component: u8) -> u32
-    requires { ⌜ length (now references) % 8 ≡ 0 ⌝ }
-    ensures { λ r. ⌜ r ≡ levelOf (referencesIn (now (references .entry))) unit component ⌝ }
-{
-    let place = level_place(references, unit, component);
-    if place < references.len() / layout::REFERENCE_WIDTH {
-        return load_u32(record_at(references, place, layout::REFERENCE_WIDTH), 4);
-    }
-    0
-}
-
 // The reference level of event i where it is a bid, else 0.
 fn event_level(references: &[u8], events: &[u8], i: usize) -> u32
-    requires { ⌜ (i < length (now events) / 312) × (length (now references) % 8 ≡ 0) ⌝ }
+    requires { ⌜ (i < length (now events) / 312) × InOrder (now references) × (levelFound (referencesIn (now references)) (eventsIn (now events)) i ≡ true) ⌝ }
     ensures { λ r. ⌜ r ≡ bidLevel (referencesIn (now (references .entry))) (eventsIn (now (events .entry))) i ⌝ }
 {
     let event = record_at(events, i, layout::EVENT_WIDTH);
@@ -199,7 +161,7 @@ fn event_level(references: &[u8], events: &[u8], i: usize) -> u32
 }
 
 pub fn reference_levels(references: &[u8], events: &[u8], levels: &mut [u32])
-    requires { ⌜ length (now references) % 8 ≡ 0 ⌝ }
+    requires { ⌜ InOrder (now references) × (levelsFound (referencesIn (now references)) (eventsIn (now events)) ≡ true) ⌝ }
     requires { ⌜ length (now events) / 312 ≤ length (now levels) ⌝ }
     ensures { λ _. ⌜ now (levels .exit) ≡ listTo (length (now (events .entry)) / 312) (bidLevel (referencesIn (now (references .entry))) (eventsIn (now (events .entry)))) ++ drop (length (now (events .entry)) / 312) (now (levels .entry)) ⌝ }
 {

@@ -1,22 +1,16 @@
 -- c is there where it is read, and no figure depends on c elsewhere.
-use Prim.Native.Nat.{ℕ, _/_, _<_}
+use Prim.Native.Nat.{ℕ, _<_}
 use mathlib.Core.Bool.{Bool, true, false, cond, not, _&&_, _||_}
-use mathlib.Core.List.{List}
 use mathlib.Core.Path.{_≡_, refl, sym, ap, _∙_}
 use native.Mathlib.Omega.{arith}
 use borrow.Author.Tests.{leb-false, ne-eqb}
 use lib.Dec.{T, leb, eqb}
-use lib.ListN.{length}
-use Rattle.binary.specs.Bounded.{lastTo}
 use Rattle.binary.proofs.Implies.{_⇒_, T→true, true→T, or-l, or-r}
 use Rattle.binary.proofs.BoundedLaws.{all-at, all-mono}
 use Rattle.tariff.specs.DefaultBids.{restores, correctedBid, correctedInForce}
-use Rattle.casefile.specs.Layout.{referenceWidth}
 use Rattle.casefile.specs.Case.{References, Events}
-use Rattle.casefile.specs.Decode.{referencesIn}
-use Rattle.casefile.specs.Lookup.{isReference, hasReference, levelOf}
+use Rattle.casefile.specs.Lookup.{hasReference, levelOf}
 use Rattle.casefile.specs.Refusal.{readsCorrect, referenceFound, referencesFound}
-use Rattle.casefile.proofs.LookupLaws.{last-below}
 use Rattle.default_bids.specs.Figures.{readsLevel, correctLevel, correctFound, correctsFound}
 
 -- check 14 says it of the correct references too
@@ -32,12 +26,6 @@ found-correct own correct e h = T→true _ (all-mono (e .count) _ _ (λ i l.
     go true true true f t = t
     go true true false f t = tt
     go true false r f t = absurd t
-
--- the place of a reference that is there
-pub level-place : (s : List ℕ) (unit component j place : ℕ) → hasReference (referencesIn s) unit component ≡ true
-    → j ≡ length s / referenceWidth → place ≡ lastTo j (isReference (referencesIn s) unit component) → place < length s / referenceWidth
-unfolding hasReference referencesIn
-level-place s unit component j place h e p = rw (p, e) (last-below (length s / referenceWidth) (isReference (referencesIn s) unit component) h)
 
 module _ (correct : References) (e : Events) (i : ℕ) where
   pub found-read : correctFound correct e i ≡ true → readsLevel e i ≡ true → hasReference correct (e .unit i) (e .component i) ≡ true

@@ -1,5 +1,5 @@
 -- From the check's number to what the stages lean on, and from what they leave to the answer and the rows buffer.
-use Prim.Native.Nat.{ℕ, _+_, _*_, _/_, _%_, _≤_, _<_}
+use Prim.Native.Nat.{ℕ, _+_, _*_, _/_, _≤_, _<_}
 use mathlib.Core.List.{List}
 use mathlib.Core.Path.{_≡_, refl, sym, ap, _∙_}
 use native.Mathlib.Omega.{arith}
@@ -11,6 +11,7 @@ use Rattle.casefile.specs.Lookup.{correctReferences, correctIn}
 use Rattle.casefile.specs.Refusal.{refusal}
 use Rattle.casefile.proofs.AcceptedLaws as case
 use Rattle.sanctions.proofs.AcceptedLaws as sanctions
+use Rattle.conduct.proofs.StageLaws.{found-own}
 use Rattle.default_bids.proofs.LevelLaws.{found-correct}
 use Rattle.settlement.specs.declared.settle.Totals.{Totals}
 use Rattle.settlement.specs.Row.{rowsOf}
@@ -46,9 +47,12 @@ accepted-sections f k n h =
     let events = case.events f k n h in
     record {
       units-short = omega (arith, case.section-length f k n h 0 (omega arith), case.has-section f k n h 0 (omega arith) .inside);
-      references-whole = omega (arith, case.section-length f k n h 1 (omega arith), case.references-whole f k n h);
       events-short = omega (arith, case.section-length f k n h 3 (omega arith), case.has-section f k n h 3 (omega arith) .inside);
       accepted = sanctions.accepted f (sectionOf f 1) k (correctReferences k (sectionOf f 1)) n (case.header f k n h) records events;
+      units-ordered = case.units-rise f k n h;
+      references-ordered = case.references-rise f k n h;
+      corrects-ordered = case.correct-rise f k n h;
+      levels-found = found-own (referencesIn (sectionOf f 1)) (referencesIn (correctReferences k (sectionOf f 1))) (eventsIn (sectionOf f 3)) (events .references-found);
       corrects-found = found-correct (referencesIn (sectionOf f 1)) (referencesIn (correctReferences k (sectionOf f 1))) (eventsIn (sectionOf f 3)) (events .references-found);
       rows-long = case.rows-long f k n h;
     }

@@ -1,15 +1,15 @@
 -- What the stages of a settlement hand on: sections that the check accepted, and what was found of each event.
-use Prim.Native.Nat.{ℕ, _*_, _/_, _%_, _≤_}
+use Prim.Native.Nat.{ℕ, _*_, _/_, _≤_}
 use mathlib.Core.Bool.{true}
 use mathlib.Core.List.{List}
 use mathlib.Core.Path.{_≡_}
 use lib.ListN.{length}
 use Rattle.binary.specs.Lists.{Holds}
-use Rattle.casefile.specs.Layout.{longestFile, referenceWidth, eventWidth, rowWidth}
+use Rattle.casefile.specs.Layout.{longestFile, eventWidth, rowWidth}
 use Rattle.casefile.specs.Case.{References, Case}
 use Rattle.casefile.specs.Decode.{referencesIn, eventsIn, caseIn}
-use Rattle.casefile.specs.Lookup.{unitOf}
-use Rattle.conduct.specs.Parties.{bidLevel}
+use Rattle.casefile.specs.Lookup.{unitOf, UnitsInOrder, InOrder}
+use Rattle.conduct.specs.Parties.{bidLevel, levelsFound}
 use Rattle.sanctions.specs.Found.{Accepted, Found}
 use Rattle.sanctions.specs.Penalties.{totalPenalty}
 use Rattle.default_bids.specs.Figures.{correctsFound}
@@ -19,9 +19,12 @@ use Rattle.settlement.specs.declared.settle.Totals.{Totals}
 -- sections of an accepted case, with the references that c is found in, and a rows buffer of that length
 pub record AcceptedSections (units references past correct events : List ℕ) (rowsLength : ℕ) : Type 0 where
   pub units-short : length units ≤ longestFile
-  pub references-whole : length references % referenceWidth ≡ 0
   pub events-short : length events ≤ longestFile
   pub accepted : Accepted units past events
+  pub units-ordered : UnitsInOrder units
+  pub references-ordered : InOrder references
+  pub corrects-ordered : InOrder correct
+  pub levels-found : levelsFound (referencesIn references) (eventsIn events) ≡ true
   pub corrects-found : correctsFound (referencesIn correct) (eventsIn events) ≡ true
   pub rows-long : rowWidth * (length events / eventWidth) ≤ rowsLength
 

@@ -2,7 +2,7 @@ use mathlib.Core.Path.{_≡_, sym, _∙_}
 use native.Mathlib.Omega.{arith}
 use Rattle.casefile.specs.Decode.{sectionOf}
 use Rattle.casefile.specs.Refusal.{headerRefusal, recordsRefusal}
-use Rattle.casefile.proofs.RangeLaws.{references-in-order, correct-in-order}
+use Rattle.casefile.proofs.RangeLaws.{numbers-in-order, references-in-order, correct-in-order}
 use Rattle.casefile.proofs.RefusalLaws.{HeaderFine, RecordsFine, header-fine, records-fine, has-section, refusal-header, refusal-records, refusal-events}
 use Rattle.casefile.proofs.check.check.Statement.{statement}
 use Rattle.casefile.proofs.check.check.Tie as tie
@@ -52,6 +52,7 @@ check-spec =
     (λ c κs.
     let r = c .before .before .before in
     let f = fine-records r (c .before .before .if2 .left) in (
+      rw (r .before .before .before .section .ensures) (numbers-in-order _ (f .units-fine)),
       rw (r .before .before .section2 .ensures) (references-in-order _ _ (f .references-fine)),
       rw (c .correct-references .ensures, r .before .before .section2 .ensures) (correct-in-order _ _ _ (f .references-fine) (f .correction-fine)),
     ))

@@ -34,15 +34,17 @@ events-refusal-spec =
     ))
     (λ c κs. read c)
     (λ c. rw (read (c .before .before), sym (c .before .order-fine .ensures) ∙ not-true _ (c .if2 .taken)))
-    (λ c κs. tt)
+    (λ c κs. c .before .before .before .before .before .before .before .before .pre .0)
     (λ c.
     rw (
       read (c .before .before .before .before),
       ordered (c .before .before),
       sym (c .before .events-listed .ensures) ∙ not-true _ (c .if3 .taken),
     ))
-    (λ c κs. listed c)
-    (λ c κs. c .before .before .before .before .before .before .before .before .before .before .before .pre)
+    (λ c κs. (c .before .before .before .before .before .before .before .before .before .before .pre .0, listed c))
+    (λ c κs.
+    let s = c .before .before .before .before .before .before .before .before .before .before .before in
+    (s .pre .1, s .pre .2))
     (λ c. search needs)
     (λ c κs. tt)
     (λ c κs. tt)

@@ -15,7 +15,7 @@ unfolding unitsIn eventsIn
 place c =
     let s = c .before .before .before .before .before .before in
     rw (c .unit-place .ensures, c .before .load-u16 .ensures, c .before .before .before .record-at .ensures .0)
-    (events-place (unitsIn (s .args .units .now)) (eventsIn (s .args .events .now)) (s .args .i) (s .pre .1) (s .pre .0))
+    (events-place (unitsIn (s .args .units .now)) (eventsIn (s .args .events .now)) (s .args .i) (s .pre .2) (s .pre .0))
 
 pub amount-fine-spec : {M : Type 1} → statement M
 unfolding amountFine unitsIn eventsIn
@@ -25,7 +25,7 @@ amount-fine-spec =
     (λ c κs. search needs)
     (λ c κs. search needs)
     (λ c κs. search needs)
-    (λ c κs. tt)
+    (λ c κs. c .before .before .before .before .before .pre .1)
     (λ c κs. let p = place c in omega arith)
     (λ c κs. search needs)
     (λ c. search needs)

@@ -10,6 +10,6 @@ correction-fine-spec =
     tie.close
     (tie.spec
     (λ c κs. search needs)
-    (λ c κs. tt)
+    (λ c κs. c .before .before .before .before .pre)
     (λ c. rw (c .references-fine .ensures, sym (c .before .before .size-fine .ensures) ∙ c .before .if1 .taken))
     (λ c. rw (sym (c .before .size-fine .ensures) ∙ c .if1 .left)))

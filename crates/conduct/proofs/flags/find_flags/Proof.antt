@@ -14,18 +14,18 @@ find-flags-spec =
     (tie.spec
     (λ c κs.
     let start = c .before .before .before .before .before .before .before .before .before .before .before .before .before in
-    let p = start .pre .1 .1 in
+    let p = start .pre .1 .1 .1 in
     (start .pre .0, (p .0, (p .1 .0, (p .1 .1 .0, p .1 .1 .1 .0)))))
     (λ c κs.
     let start = c .before .before .before .before .before .before .before .before .before .before .before .before .before .before .before .before .before .before .before .before .before .before .before in
-    (start .pre .1 .0 .1, start .pre .1 .1 .1 .1 .1 .1 .0))
+    (start .pre .1 .0, start .pre .1 .1 .1 .1 .1 .1 .1 .0))
     (λ c κs.
     let p = c .before .before .before .before .before .before .before .before .before .before .before .before .before .before .before .before .before in
     let start = p .before .before .before .before .before .before .before .before .before .before .before .before .before .before in (
       record {
-        short = start .pre .1 .0 .0;
-        few = start .pre .1 .0 .2;
-        listed = start .pre .0;
+        short = start .pre .1 .1 .0 .0;
+        few = start .pre .1 .1 .0 .1;
+        listed = start .pre .0 .1;
         places-reach = omega arith;
         groups-reach = omega arith;
         leaders-reach = omega arith;

@@ -13,7 +13,7 @@ find-parties-spec =
     (λ c κs.
     let p = c .before .before .before .before in
     let start = p .before .before .before .before .before .before .before .before in
-    (start .pre .0, (search needs, (holds-fill _ _ _ _ (p .unit-places .ensures), search needs))))
+    (start .pre .0 .1, (search needs, (holds-fill _ _ _ _ (p .unit-places .ensures), search needs))))
     (λ c κs. search needs)
     (λ c κs. search needs)
     (λ c. search needs)

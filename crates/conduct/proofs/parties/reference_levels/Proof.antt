@@ -5,9 +5,10 @@ use borrow.Author.Needs.{needs}
 use native.Mathlib.Omega.{arith}
 use lib.ListN.{length, drop, length-set}
 use Rattle.binary.specs.Lists.{listTo}
+use Rattle.binary.proofs.BoundedLaws.{all-at}
 use Rattle.binary.proofs.ListLaws.{fill-none, fill-more}
 use Rattle.casefile.specs.Decode.{referencesIn, eventsIn}
-use Rattle.conduct.specs.Parties.{bidLevel}
+use Rattle.conduct.specs.Parties.{bidLevel, levelFound, levelsFound}
 use Rattle.conduct.proofs.parties.reference_levels.Statement.{statement}
 use Rattle.conduct.proofs.parties.reference_levels.Tie as tie
 
@@ -19,13 +20,20 @@ abbrev μ-loop : tie.MeasureT-loop
 μ-loop references events levels₀ n i₀ levels i = length events / 312 - i
 
 pub reference-levels-spec : {M : Type 1} → statement M
+unfolding levelsFound eventsIn
 reference-levels-spec =
     tie.close
     (tie.spec
     Inv-loop
     μ-loop
     (λ c. (omega arith, refl, fill-none _ _))
-    (λ c κs. search needs)
+    (λ c κs.
+    let s = c .before .before .before .before .before in
+    let a = s .args in (
+      c .loop-test .taken,
+      s .pre .0 .0,
+      all-at (length (a .events .now) / 312) (c .before .loop .i) (levelFound (referencesIn (a .references .now)) (eventsIn (a .events .now))) (c .loop-test .taken) (s .pre .0 .1),
+    ))
     (λ c. omega arith)
     (λ c. search needs)
     (λ c. omega arith)

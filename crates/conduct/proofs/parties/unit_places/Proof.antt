@@ -25,7 +25,7 @@ unit-places-spec =
     Inv-loop
     μ-loop
     (λ c. (omega arith, refl, fill-none _ _))
-    (λ c κs. c .loop-test .taken)
+    (λ c κs. (c .loop-test .taken, c .before .before .before .before .before .pre .0))
     (λ c. omega arith)
     (λ c. search needs)
     (λ c. omega arith)

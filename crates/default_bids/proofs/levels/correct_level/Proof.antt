@@ -40,18 +40,20 @@ correct-level-spec =
     (λ c κs. search needs)
     (λ c κs. search needs)
     (λ c κs.
-    let s = c .before .before .before .before .before .before .before in
-    rw (
-      c .before .load-u82 .ensures,
-      c .before .before .load-u16 .ensures,
-      c .before .before .before .before .record-at .ensures .0,
-    )
-    (found-read (referencesIn (s .args .correct .now)) (eventsIn (s .args .events .now)) (s .args .i) (s .pre .1) (reads c)))
+    let s = c .before .before .before .before .before .before .before in (
+      s .pre .1,
+      rw (
+        c .before .load-u82 .ensures,
+        c .before .before .load-u16 .ensures,
+        c .before .before .before .before .record-at .ensures .0,
+      )
+          (found-read (referencesIn (s .args .correct .now)) (eventsIn (s .args .events .now)) (s .args .i) (s .pre .2) (reads c)),
+    ))
     (λ c.
     let t = c .before in
     let s = t .before .before .before .before .before .before .before in
     rw (
-      c .level-of .ensures,
+      c .reference-level .ensures,
       t .before .load-u82 .ensures,
       t .before .before .load-u16 .ensures,
       t .before .before .before .before .record-at .ensures .0,

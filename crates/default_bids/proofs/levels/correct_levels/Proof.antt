@@ -32,7 +32,8 @@ correct-levels-spec =
     let s = c .before .before .before .before .before in
     let a = s .args in (
       c .loop-test .taken,
-      all-at (length (a .events .now) / 312) (c .before .loop .i) (correctFound (referencesIn (a .correct .now)) (eventsIn (a .events .now))) (c .loop-test .taken) (s .pre .1),
+      s .pre .1,
+      all-at (length (a .events .now) / 312) (c .before .loop .i) (correctFound (referencesIn (a .correct .now)) (eventsIn (a .events .now))) (c .loop-test .taken) (s .pre .2),
     ))
     (λ c. search needs)
     (λ c. omega arith)

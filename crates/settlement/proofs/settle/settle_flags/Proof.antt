@@ -21,7 +21,7 @@ penalties-asked c κs =
 levels-asked : tie.Need-correct-levels-requires
 levels-asked c κs =
     let s = c .before .before .before .before .before .before .before .before .before .before .before .before .before .before .before .before .before .before .before .before .before in
-    (s .pre .0 .accepted .few-events, s .pre .0 .corrects-found)
+    (s .pre .0 .accepted .few-events, s .pre .0 .corrects-ordered, s .pre .0 .corrects-found)
 
 masks-asked : tie.Need-mitigated-masks-requires
 masks-asked c κs =

@@ -13,8 +13,11 @@ flags-asked : tie.Need-find-flags-requires
 flags-asked c κs =
     let s = c .before .before .before .before .before .before .before .before .before .before .before .before in
     let few = s .pre .accepted .few-events in (
-      s .pre .accepted .events-listed,
-      ((s .pre .units-short, s .pre .references-whole, few), (few, (few, (few, (few, (few, few)))))),
+      (s .pre .units-ordered, s .pre .accepted .events-listed),
+      (
+        (s .pre .references-ordered, s .pre .levels-found),
+        ((s .pre .units-short, few), (few, (few, (few, (few, (few, few)))))),
+      ),
     )
 
 rest-asked : tie.Need-settle-flags-requires
