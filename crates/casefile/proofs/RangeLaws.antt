@@ -8,17 +8,18 @@ use native.Mathlib.Nat.{eq-or-lt-of-le, le-of-suc-le-suc, not-suc-le-zero}
 use native.Mathlib.Omega.{arith}
 use lib.Dec.{ltb, leb, eqb}
 use lib.ListN.{length}
-use borrow.Author.Tests.{ltb-true, leb-true, eqb-true, eq-eqb, ne-eqb, le-ltb, lt-leb}
+use borrow.Author.Tests.{ltb-true, leb-true, eqb-true, eq-eqb, ne-eqb, le-leb, lt-leb}
 use Rattle.binary.specs.Bounded.{lastTo}
 use Rattle.binary.specs.Word.{positivePart, negativePart, within}
 use Rattle.binary.proofs.Implies.{and-l, and-r}
 use Rattle.binary.proofs.BoundedLaws.{all-at, last-holds}
 use Rattle.binary.proofs.WordLaws.{within-positive, within-negative}
+use Rattle.tariff.specs.Ranges.{highestReference, referenceInRange, bidInRange}
 use Rattle.casefile.specs.Layout.{unitWidth, referenceWidth}
 use Rattle.casefile.specs.Case.{Units, References, Violation, Events}
 use Rattle.casefile.specs.Decode.{unitsIn, referencesIn}
 use Rattle.casefile.specs.Lookup.{isListed, isReference, hasReference, levelOf, referenceKey, Rising, UnitsInOrder, InOrder, correctReferences}
-use Rattle.casefile.specs.Refusal.{unitsFine, referencesFine, correctionFine, rises, unitFieldsFine, unitFine, highestReference, referenceFieldsFine, referenceFine, violationFine, maskFine, quantitiesFine, fieldsFine, bidFine, cellFine, eventFine}
+use Rattle.casefile.specs.Refusal.{unitsFine, referencesFine, correctionFine, rises, unitFieldsFine, unitFine, referenceFieldsFine, referenceFine, violationFine, maskFine, quantitiesFine, fieldsFine, cellFine, eventFine}
 use Rattle.casefile.proofs.LookupLaws.{last-below}
 
 -- ---- tests
@@ -103,7 +104,7 @@ unit-range s i h =
     }
 
 pub reference-range : (u : Units) (s : List ℕ) (i : ℕ) → referenceFine u s i ≡ true → ReferenceRange u (referencesIn s) i
-unfolding referenceFine referenceFieldsFine
+unfolding referenceFine referenceFieldsFine referenceInRange
 reference-range u s i h =
     record {
       component = leb-true (referencesIn s .component i) 8 (search (and-l, and-r) depth 10);
@@ -166,13 +167,15 @@ event-range e a i h =
         let t : (ltb (e .Q i) (2 ^ e .hours i) && leb (e .R i) 24) ≡ true = of-kind 4 (e .kind i) _ (search (and-l, and-r) depth 20) k in
         (search (and-l, and-r), search (and-l, and-r))
 
-pub bid-range : (component w : ℕ) → bidFine component w ≡ true → BidRange component w
-unfolding bidFine
+pub bid-range : (component w : ℕ) → bidInRange component w ≡ true → BidRange component w
+unfolding bidInRange
 bid-range component w h =
     record {
-      signed = λ l. within-is 1000000 w (or-right (ltb 1 component) (within 32 1000000 w) (search (and-l, and-r)) (le-ltb 1 component l));
-      reserve = λ e. leb-true w 1000000 (of-kind 2 component (leb w 1000000) (search (and-l, and-r)) e);
-      other = λ l. leb-true w 1000000000 (or-right (leb component 2) (leb w 1000000000) (search (and-l, and-r)) (lt-leb component 2 l));
+      signed = λ l. let t : within 32 1000000 w ≡ true = rw (le-leb component 1 l) at h in within-is 1000000 w t;
+      reserve = λ e. let t : leb w 1000000 ≡ true = rw (lt-leb component 1 (omega arith), eq-eqb component 2 e) at h in leb-true w 1000000 t;
+      other = λ l.
+          let t : leb w 1000000000 ≡ true = rw (lt-leb component 1 (omega arith), ne-eqb component 2 (λ q. omega arith)) at h in
+          leb-true w 1000000000 t;
     }
 
 pub cell-range : (kind component a b m : ℕ) → cellFine kind component a b m ≡ true → CellRange kind component a b m
@@ -189,7 +192,7 @@ cell-range kind component a b m h =
           let t : (leb a 50000 && within 32 1000000 b && eqb m 0) ≡ true = of-kind 3 kind _ (search (and-l, and-r)) k in
           (leb-true a 50000 (search (and-l, and-r)), within-is 1000000 b (search (and-l, and-r)), eqb-true m 0 (search (and-l, and-r)));
       bid = λ k.
-          let t : (bidFine component a && within 32 1000000 b && leb m 50000) ≡ true = of-kind 4 kind _ (search (and-l, and-r)) k in
+          let t : (bidInRange component a && within 32 1000000 b && leb m 50000) ≡ true = of-kind 4 kind _ (search (and-l, and-r)) k in
           (bid-range component a (search (and-l, and-r)), within-is 1000000 b (search (and-l, and-r)), leb-true m 50000 (search (and-l, and-r)));
     }
 

@@ -7,6 +7,7 @@ use lib.ListN.{length}
 use Rattle.binary.specs.Bounded.{allTo}
 use Rattle.binary.specs.Bytes.{byteAt, u16At}
 use Rattle.binary.specs.Word.{within}
+use Rattle.tariff.specs.Ranges.{referenceInRange, bidInRange}
 use Rattle.casefile.specs.Layout.{version, sectionCount, headerWidth, longestFile, unitWidth, referenceWidth, pastWidth, eventWidth, mostUnits, mostReferences, mostPast, mostEvents, rowWidth}
 use Rattle.casefile.specs.Case.{Units, References, Violation, Events}
 use Rattle.casefile.specs.Decode.{offsetOf, lengthOf, sectionOf, recordAt, unitsIn, referencesIn, pastIn, eventsIn, amountsIn}
@@ -66,11 +67,8 @@ unfoldable pub unitsFine : List ℕ → Bool
 unitsFine s = allTo (unitsIn s .count) (unitFine s)
 
 -- 7: a reference, among these units
-abbrev pub highestReference : (component : ℕ) → ℕ
-highestReference component = cond (leb component 2) 1000000 1000000000
-
 unfoldable pub referenceFieldsFine : (component value : ℕ) → Bool
-referenceFieldsFine component value = leb component 8 && leb value (highestReference component)
+referenceFieldsFine component value = leb component 8 && referenceInRange component value
 
 unfoldable pub referenceFine : Units → List ℕ → ℕ → Bool
 referenceFine u s i =
@@ -120,18 +118,13 @@ fieldsFine hours kind market component impact day P Q R =
     && leb day 1000000 && maskFine hours P
     && quantitiesFine hours kind market Q R
 
--- the bid of a component
-unfoldable pub bidFine : (component w : ℕ) → Bool
-bidFine component w =
-    (ltb 1 component || within 32 1000000 w) && (not (eqb component 2) || leb w 1000000) && (leb component 2 || leb w 1000000000)
-
 -- an hour cell, by kind
 unfoldable pub cellFine : (kind component a b m : ℕ) → Bool
 cellFine kind component a b m =
     ofKind 1 kind (within 32 1000000 b && eqb m 0)
     && ofKind 2 kind (leb b 100000000 && eqb m 0)
     && ofKind 3 kind (leb a 50000 && within 32 1000000 b && eqb m 0)
-    && ofKind 4 kind (bidFine component a && within 32 1000000 b && leb m 50000)
+    && ofKind 4 kind (bidInRange component a && within 32 1000000 b && leb m 50000)
 
 -- hour h of event i
 unfoldable pub hourFine : Events → (a : ℕ → ℕ → ℕ) → (i h : ℕ) → Bool

@@ -4,11 +4,12 @@ ghost use Prim.Native.Nat.{_*_, _<_};
 ghost use lib.ListN.{length};
 ghost use Rattle.binary.specs.Bounded.{allTo};
 ghost use Rattle.casefile.specs.Layout.{cellWidth, hours};
-ghost use Rattle.casefile.specs.Refusal.{bidFine, cellFine};
+ghost use Rattle.casefile.specs.Refusal.{cellFine};
 ghost use Rattle.casefile.specs.Read.{cellOf, cellFineAt, amountWithin};
 use crate::layout;
 use binary::bytes::load_u32;
 use binary::words::is_within;
+use tariff::ranges::bid_in_range;
 
 pub struct Cell {
     pub a: u32,
@@ -29,21 +30,11 @@ pub fn cell_at(cells: &[u8], h: usize) -> Cell
     }
 }
 
-// The range of a bid, by component.
-fn bid_fine(component: u8, w: u32) -> bool
-    ensures { λ r. ⌜ r ≡ bidFine component w ⌝ }
-{
-    let signed = is_within(1_000_000, w);
-    ((1 < component) | signed)
-        & ((component != 2) | (w <= 1_000_000))
-        & ((component <= 2) | (w <= 1_000_000_000))
-}
-
 // The ranges of a cell, by kind.
 fn cell_fine(kind: u8, component: u8, a: u32, b: u32, m: u32) -> bool
     ensures { λ r. ⌜ r ≡ cellFine kind component a b m ⌝ }
 {
-    let bid = bid_fine(component, a);
+    let bid = bid_in_range(component, a);
     let price = is_within(1_000_000, b);
     ((kind != 1) | (price & (m == 0)))
         & ((kind != 2) | ((b <= 100_000_000) & (m == 0)))

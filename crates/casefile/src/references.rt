@@ -15,8 +15,8 @@ use crate::units::is_listed;
 use binary::bytes::load_u8;
 use binary::bytes::load_u16;
 use binary::bytes::load_u32;
-use binary::numbers::choose_u32;
 use binary::numbers::choose_usize;
+use tariff::ranges::reference_in_range;
 
 // The correction slice where it isn't empty, otherwise the case's own reference section.
 pub fn correct_references<'a>(correction: &'a [u8], own: &'a [u8]) -> &'a [u8]
@@ -32,8 +32,7 @@ pub fn correct_references<'a>(correction: &'a [u8], own: &'a [u8]) -> &'a [u8]
 fn reference_fields_fine(component: u8, value: u32) -> bool
     ensures { λ r. ⌜ r ≡ referenceFieldsFine component value ⌝ }
 {
-    let highest = choose_u32(component <= 2, 1_000_000, 1_000_000_000);
-    (component <= 8) & (value <= highest)
+    (component <= 8) & reference_in_range(component, value)
 }
 
 // The order of references: by unit, then component.

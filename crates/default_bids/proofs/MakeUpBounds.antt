@@ -19,7 +19,8 @@ use Rattle.tariff.specs.Sanctions.{cents}
 use Rattle.casefile.specs.Layout.{eventWidth, cellsOffset, hours}
 use Rattle.casefile.specs.Case.{Events}
 use Rattle.casefile.specs.Decode.{recordAt, eventsIn, amountsIn}
-use Rattle.casefile.specs.Refusal.{fieldsFine, bidFine, cellFine, hourFine, eventFine, eventsFine}
+use Rattle.tariff.specs.Ranges.{bidInRange}
+use Rattle.casefile.specs.Refusal.{fieldsFine, cellFine, hourFine, eventFine, eventsFine}
 use Rattle.casefile.specs.Read.{cellOf}
 use Rattle.default_bids.specs.Figures.{MegawattsFine, tenthsAt}
 
@@ -39,9 +40,9 @@ make-up-bound r k tenths = cond-bound (eqb k r) (λ t. zero-le) (λ t. omega ari
 cell-megawatts : (kind component a b m : ℕ) → eqb kind 4 ≡ true → cellFine kind component a b m ≡ true → m ≤ 50000
 unfolding cellFine
 cell-megawatts kind component a b m e h =
-    let t : (not (eqb kind 4) || (bidFine component a && within 32 1000000 b && leb m 50000)) ≡ true = search (and-l, and-r) in
-    let f : (bidFine component a && within 32 1000000 b && leb m 50000) ≡ true = rw e at t in
-    leb-true m 50000 (and-r (bidFine component a && within 32 1000000 b) (leb m 50000) f)
+    let t : (not (eqb kind 4) || (bidInRange component a && within 32 1000000 b && leb m 50000)) ≡ true = search (and-l, and-r) in
+    let f : (bidInRange component a && within 32 1000000 b && leb m 50000) ≡ true = rw e at t in
+    leb-true m 50000 (and-r (bidInRange component a && within 32 1000000 b) (leb m 50000) f)
 
 hour-megawatts : (e : Events) (a : ℕ → ℕ → ℕ) (i h : ℕ) → eventFine e a i ≡ true → eqb (e .kind i) 4 ≡ true → h < e .hours i → e .m i h ≤ 50000
 unfolding eventFine hourFine

@@ -5,8 +5,11 @@ use lib.Dec.{leb, eqb}
 use Rattle.binary.specs.Word.{within}
 
 -- at most 1,000,000 for components 0 to 2, else 1,000,000,000
+abbrev pub highestReference : (component : ℕ) → ℕ
+highestReference component = cond (leb component 2) 1000000 1000000000
+
 unfoldable pub referenceInRange : (component r : ℕ) → Bool
-referenceInRange component r = leb r (cond (leb component 2) 1000000 1000000000)
+referenceInRange component r = leb r (highestReference component)
 
 -- ±1,000,000 for components 0 and 1, 0 to 1,000,000 for 2, 0 to 1,000,000,000 above
 unfoldable pub bidInRange : (component a : ℕ) → Bool
