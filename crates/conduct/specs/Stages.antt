@@ -135,6 +135,17 @@ unfoldable pub totalRead : Case → (levels : List ℕ) → (i h : ℕ) → ℕ
 totalRead c levels i h =
     cond (leb 4 (c .events .component i) && leb (c .events .component i) 6) (timeTotalIn c levels i h) 0
 
+-- what the test of the event before read
+unfoldable pub totalBefore : Case → (levels : List ℕ) → (i h : ℕ) → ℕ
+totalBefore c levels i h = cond (eqb i 0) 0 (totalRead c levels (i - 1) h)
+
+-- the event before i has a time component too, and the same unit, day and market
+unfoldable pub sameTotals : Events → ℕ → Bool
+sameTotals e i =
+    cond (eqb i 0) false
+    (leb 4 (e .component (i - 1)) && leb (e .component (i - 1)) 6 && eqb (e .unit (i - 1)) (e .unit i)
+    && eqb (e .day (i - 1)) (e .day i) && eqb (e .market (i - 1)) (e .market i))
+
 unfoldable pub bidFlagIn : Case → (levels : List ℕ) → (i h : ℕ) → Bool
 bidFlagIn c levels i h =
     bidTest (c .events .component i) (getD levels i 0) (c .a i h) (c .events .market i) (tight c i h)

@@ -1,4 +1,7 @@
+use mathlib.Core.Path.{_≡_}
 use borrow.Author.Needs.{needs}
+use native.Mathlib.Omega.{arith}
+use lib.ListN.{length}
 use Rattle.conduct.proofs.FlagLaws.{leaders-below}
 use Rattle.conduct.proofs.flags.flag_masks.Statement.{statement}
 use Rattle.conduct.proofs.flags.flag_masks.Tie as tie
@@ -15,6 +18,11 @@ flag-masks-spec =
     (λ c. search needs)
     (λ c κs.
     let start = c .before .before .before .before .before .before .before .before .before .before .before .before in
-    (start .pre .0, (c .before .before .before .before .party-sums .ensures, ((search needs, search needs, start .pre .1), c .before .before .before .time-keys .ensures))))
+    let few = start .pre .0 .few in
+    let s = c .before .before .before .before .party-sums in
+    let k = c .before .before .before .time-keys in
+    let ls : length (s .result) ≡ 4800 = search needs in
+    let lk : length (k .result) ≡ 200 = search needs in
+    (start .pre .0, (s .ensures, ((omega arith, omega arith, start .pre .1), k .ensures))))
     (λ c. search needs)
     (λ c. c .before .before .event-masks .ensures))
