@@ -42,6 +42,10 @@ cellsIn s i = drop cellsOffset (recordAt eventWidth s i)
 abbrev pub Small : List ℕ → Type 0
 Small l = (k : ℕ) → getD l k 0 ≤ 18446744069414584320
 
+-- every element is 0
+abbrev pub Zeros : List ℕ → Type 0
+Zeros l = (k : ℕ) → getD l k 0 ≡ 0
+
 -- f 0, .. , f (m - 1) were added to the elements from a place on
 pub record Added (at m : ℕ) (old new : List ℕ) (f : ℕ → ℕ) : Type 0 where
   pub each : (k : ℕ) → getD new k 0 ≡ getD old k 0 + cond (leb at k && ltb k (at + m)) (f (k - at)) 0

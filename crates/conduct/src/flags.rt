@@ -11,7 +11,7 @@ ghost use Rattle.casefile.specs.Lookup.{unitOf, groupOf};
 ghost use Rattle.casefile.specs.Refusal.{eventsListed};
 ghost use Rattle.conduct.specs.Flags.{groupSum, withheldFlag, dispatchFlag, flagMask};
 ghost use Rattle.conduct.specs.Parties.{partyKey, leaderOf, bidLevel};
-ghost use Rattle.conduct.specs.Stages.{HasSums, HasRow, SmallRow, timeKey, withheldIn, dispatchIn, fuelIn, bidIn, sameTotals, totalRead, totalBefore, bidFlagIn, flagMaskIn, Found};
+ghost use Rattle.conduct.specs.Stages.{Zeros, HasSums, HasRow, SmallRow, timeKey, withheldIn, dispatchIn, fuelIn, bidIn, sameTotals, totalRead, totalBefore, bidFlagIn, flagMaskIn, Found};
 use crate::parties::find_parties;
 use crate::parties::reference_levels;
 use crate::sums::cells_of;
@@ -349,6 +349,95 @@ fn event_masks(
     }
 }
 
+// The flagged hours of every event, from what was found once for each, in tables of zeros with room for its sums and time keys.
+fn fill_masks(
+    units: &[u8],
+    events: &[u8],
+    places: &[usize],
+    groups: &[u16],
+    leaders: &[usize],
+    levels: &[u32],
+    sums: &mut [u64],
+    keys: &mut [u64],
+    masks: &mut [u32],
+)
+    requires { ⌜ Found (now units) (now events) (now places) (now groups) (now leaders) (now levels) ⌝ }
+    requires { ⌜ (24 * (length (now events) / 312) ≤ length (now sums)) × (length (now events) / 312 ≤ length (now keys)) × (length (now events) / 312 ≤ length (now masks)) ⌝ }
+    requires { ⌜ Zeros (now sums) ⌝ }
+    ensures { λ _. ⌜ now (masks .exit) ≡ listTo (length (now (events .entry)) / 312) (flagMaskIn (caseIn (now (units .entry)) [] [] (now (events .entry))) (now (levels .entry))) ++ drop (length (now (events .entry)) / 312) (now (masks .entry)) ⌝ }
+{
+    party_sums(events, leaders, sums);
+    time_keys(events, keys);
+    event_masks(
+        units,
+        events,
+        places,
+        groups,
+        leaders,
+        levels,
+        sums,
+        keys,
+        masks,
+    );
+}
+
+// Tables of 8 events: to clear those of 200 takes longer than to settle a small case.
+fn small_case_masks(
+    units: &[u8],
+    events: &[u8],
+    places: &[usize],
+    groups: &[u16],
+    leaders: &[usize],
+    levels: &[u32],
+    masks: &mut [u32],
+)
+    requires { ⌜ Found (now units) (now events) (now places) (now groups) (now leaders) (now levels) ⌝ }
+    requires { ⌜ (length (now events) / 312 ≤ 8) × (length (now events) / 312 ≤ length (now masks)) ⌝ }
+    ensures { λ _. ⌜ now (masks .exit) ≡ listTo (length (now (events .entry)) / 312) (flagMaskIn (caseIn (now (units .entry)) [] [] (now (events .entry))) (now (levels .entry))) ++ drop (length (now (events .entry)) / 312) (now (masks .entry)) ⌝ }
+{
+    let mut sums = [0u64; 192];
+    let mut keys = [0u64; 8];
+    fill_masks(
+        units,
+        events,
+        places,
+        groups,
+        leaders,
+        levels,
+        &mut sums,
+        &mut keys,
+        masks,
+    );
+}
+
+fn large_case_masks(
+    units: &[u8],
+    events: &[u8],
+    places: &[usize],
+    groups: &[u16],
+    leaders: &[usize],
+    levels: &[u32],
+    masks: &mut [u32],
+)
+    requires { ⌜ Found (now units) (now events) (now places) (now groups) (now leaders) (now levels) ⌝ }
+    requires { ⌜ length (now events) / 312 ≤ length (now masks) ⌝ }
+    ensures { λ _. ⌜ now (masks .exit) ≡ listTo (length (now (events .entry)) / 312) (flagMaskIn (caseIn (now (units .entry)) [] [] (now (events .entry))) (now (levels .entry))) ++ drop (length (now (events .entry)) / 312) (now (masks .entry)) ⌝ }
+{
+    let mut sums = [0u64; 4800];
+    let mut keys = [0u64; 200];
+    fill_masks(
+        units,
+        events,
+        places,
+        groups,
+        leaders,
+        levels,
+        &mut sums,
+        &mut keys,
+        masks,
+    );
+}
+
 // The flagged hours of every event, from what was found once for each.
 fn flag_masks(
     units: &[u8],
@@ -363,19 +452,11 @@ fn flag_masks(
     requires { ⌜ length (now events) / 312 ≤ length (now masks) ⌝ }
     ensures { λ _. ⌜ now (masks .exit) ≡ listTo (length (now (events .entry)) / 312) (flagMaskIn (caseIn (now (units .entry)) [] [] (now (events .entry))) (now (levels .entry))) ++ drop (length (now (events .entry)) / 312) (now (masks .entry)) ⌝ }
 {
-    let sums = party_sums(events, leaders);
-    let keys = time_keys(events);
-    event_masks(
-        units,
-        events,
-        places,
-        groups,
-        leaders,
-        levels,
-        &sums,
-        &keys,
-        masks,
-    );
+    if events.len() / layout::EVENT_WIDTH <= 8 {
+        small_case_masks(units, events, places, groups, leaders, levels, masks);
+    } else {
+        large_case_masks(units, events, places, groups, leaders, levels, masks);
+    }
 }
 
 // Places, groups, keys, leaders and reference levels of every event, and its flagged hours.
