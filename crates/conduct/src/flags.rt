@@ -349,7 +349,7 @@ fn event_masks(
     }
 }
 
-// The flagged hours of every event, from what was found once for each, in tables of zeros with room for its sums and time keys.
+// The flagged hours of every event, with tables of zeros for the sums and the time keys.
 fn fill_masks(
     units: &[u8],
     events: &[u8],
@@ -381,7 +381,7 @@ fn fill_masks(
     );
 }
 
-// Tables of 8 events: to clear those of 200 takes longer than to settle a small case.
+// The same with tables for 8 events: to clear those for 200 takes longer than to settle a small case.
 fn small_case_masks(
     units: &[u8],
     events: &[u8],
@@ -397,34 +397,6 @@ fn small_case_masks(
 {
     let mut sums = [0u64; 192];
     let mut keys = [0u64; 8];
-    fill_masks(
-        units,
-        events,
-        places,
-        groups,
-        leaders,
-        levels,
-        &mut sums,
-        &mut keys,
-        masks,
-    );
-}
-
-fn large_case_masks(
-    units: &[u8],
-    events: &[u8],
-    places: &[usize],
-    groups: &[u16],
-    leaders: &[usize],
-    levels: &[u32],
-    masks: &mut [u32],
-)
-    requires { ⌜ Found (now units) (now events) (now places) (now groups) (now leaders) (now levels) ⌝ }
-    requires { ⌜ length (now events) / 312 ≤ length (now masks) ⌝ }
-    ensures { λ _. ⌜ now (masks .exit) ≡ listTo (length (now (events .entry)) / 312) (flagMaskIn (caseIn (now (units .entry)) [] [] (now (events .entry))) (now (levels .entry))) ++ drop (length (now (events .entry)) / 312) (now (masks .entry)) ⌝ }
-{
-    let mut sums = [0u64; 4800];
-    let mut keys = [0u64; 200];
     fill_masks(
         units,
         events,
@@ -454,9 +426,21 @@ fn flag_masks(
 {
     if events.len() / layout::EVENT_WIDTH <= 8 {
         small_case_masks(units, events, places, groups, leaders, levels, masks);
-    } else {
-        large_case_masks(units, events, places, groups, leaders, levels, masks);
+        return;
     }
+    let mut sums = [0u64; 4800];
+    let mut keys = [0u64; 200];
+    fill_masks(
+        units,
+        events,
+        places,
+        groups,
+        leaders,
+        levels,
+        &mut sums,
+        &mut keys,
+        masks,
+    );
 }
 
 // Places, groups, keys, leaders and reference levels of every event, and its flagged hours.

@@ -11,8 +11,8 @@ small-case-masks-spec =
     (λ c. search needs)
     (λ c. search needs)
     (λ c κs.
-    let start = c .before .before .before .before .before .before .before .before .before .before in
-    let few = start .pre .1 .0 in
-    (start .pre .0, ((omega arith, omega arith, omega arith), zeros-at 192)))
+    let p = c .before .before .before .before .before .before .before .before .before .before .pre in
+    let few = p .1 .0 in
+    (p .0, ((omega arith, omega arith, p .1 .1), zeros-at 192)))
     (λ c. search needs)
     (λ c. c .before .before .before .before .fill-masks .ensures))
