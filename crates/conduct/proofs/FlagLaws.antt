@@ -24,7 +24,7 @@ use Rattle.casefile.specs.Read.{cellOf}
 use Rattle.conduct.specs.declared.flags.Bid.{Bid}
 use Rattle.conduct.specs.Flags.{tight, together, sumTogether, timeBid, timeTotal, bidFlag, groupCapability, groupSum, withheldFlag, dispatchFlag, fuelFlag, flagged, flagMask}
 use Rattle.conduct.specs.Parties.{bidLevel}
-use Rattle.conduct.specs.Stages.{cellsIn, partyFigure, partySum, HasSums, HasRow, SmallRow, Below, capabilityOf, timeKey, keyedIncrease, cell, HasIncreases, SmallTable, withheldIn, dispatchIn, fuelIn, bidIn, timeTotalIn, totalRead, bidFlagIn, flaggedIn, flagMaskIn, Found}
+use Rattle.conduct.specs.Stages.{cellsIn, partyFigure, partySum, HasSums, HasRow, SmallRow, Below, capabilityOf, timeKey, keyedIncrease, cell, HasIncreases, SmallTable, withheldIn, dispatchIn, fuelIn, bidIn, timeTotalIn, totalRead, totalBefore, sameTotals, bidFlagIn, flaggedIn, flagMaskIn, Found}
 use Rattle.conduct.proofs.PartyLaws.{leader-le}
 use Rattle.conduct.proofs.StageLaws.{place-in}
 use Rattle.conduct.proofs.SumLaws.{cond-given, cell-amount, party-sum, party-sum-le, sum-amounts, sum-union, capability-is, zeros-at, increases-le, time-total}
@@ -50,7 +50,7 @@ module _ (u e places groups leaders levels : List ℕ) (f : Found u e places gro
     pub found-place : getD places i 0 < length u / 24
     found-place = place-in u [] [] e places i l (f .listed) (f .placed)
 
-    pub found-length : (sums : List ℕ) → length sums ≡ 4800
+    pub found-length : (sums : List ℕ) → 24 * (length e / 312) ≤ length sums
         → length (take (24 * getD leaders i 0 + 24 - 24 * getD leaders i 0) (drop (24 * getD leaders i 0) sums)) ≡ 24
     found-length sums z = part-length sums (getD leaders i 0) (let q = leaders-below i l in let few = f .few in omega arith)
 
@@ -234,6 +234,53 @@ pub small-table : (a : ℕ → ℕ → ℕ) (levels keys : List ℕ) (key : ℕ 
     → HasIncreases (λ k. keyedIncrease a levels keys (key k) n) t → SmallTable t
 small-table a levels keys key n t l s k h lk lh = rw (s .each k h lk lh) (increases-le a levels keys (key k) n h l)
 
+events-of : (e : List ℕ) → eventsIn e ≡ caseIn [] [] [] e .events
+unfolding caseIn
+events-of e = refl
+
+-- the totals are those of a unit, day and market
+total-fields : (c : Case) (levels : List ℕ) (i j h : ℕ) → c .events .unit j ≡ c .events .unit i → c .events .day j ≡ c .events .day i
+    → c .events .market j ≡ c .events .market i → timeTotalIn c levels j h ≡ timeTotalIn c levels i h
+unfolding timeTotalIn timeBid
+total-fields c levels i j h eu ed em = sum-same (c .events .count) _ _ (λ m l. rw (eu, ed, em))
+
+total-of : (c : Case) (levels : List ℕ) (i j h : ℕ)
+    → (leb 4 (c .events .component j) && leb (c .events .component j) 6 && eqb (c .events .unit j) (c .events .unit i)
+    && eqb (c .events .day j) (c .events .day i) && eqb (c .events .market j) (c .events .market i)) ≡ true
+    → totalRead c levels j h ≡ timeTotalIn c levels i h
+unfolding totalRead
+total-of c levels i j h q =
+    let b : (leb 4 (c .events .component j) && leb (c .events .component j) 6) ≡ true = search (and-l, and-r) depth 8 in
+    let eu : eqb (c .events .unit j) (c .events .unit i) ≡ true = search (and-l, and-r) depth 8 in
+    let ed : eqb (c .events .day j) (c .events .day i) ≡ true = search (and-l, and-r) depth 8 in
+    let em : eqb (c .events .market j) (c .events .market i) ≡ true = search (and-l, and-r) depth 8 in
+    rw b (total-fields c levels i j h (eqb-true _ _ eu) (eqb-true _ _ ed) (eqb-true _ _ em))
+
+after-first : (b t : Bool) (x y : ℕ) → (t ≡ true → x ≡ y) → cond b false t ≡ true → cond b 0 x ≡ y
+after-first true t x y h q = let z : false ≡ true = q in cc
+after-first false t x y h q = h q
+
+total-before : (c : Case) (levels : List ℕ) (i h : ℕ) → sameTotals (c .events) i ≡ true → totalBefore c levels i h ≡ timeTotalIn c levels i h
+unfolding sameTotals totalBefore
+total-before c levels i h q = after-first (eqb i 0) _ _ _ (total-of c levels i (i - 1) h) q
+
+-- carried from event to event
+pub totals-first : (c : Case) (levels : List ℕ) → HasRow (totalBefore c levels 0) (replicate 24 0)
+unfolding totalBefore
+totals-first c levels = record { each = λ h l. zeros-at 24 h }
+
+pub totals-next : (c : Case) (levels row : List ℕ) (i : ℕ) → HasRow (totalRead c levels i) row → HasRow (totalBefore c levels (i + 1)) row
+unfolding totalBefore
+totals-next c levels row i r =
+    record {
+      each = λ h l.
+          let e : i ≡ i + 1 - 1 = omega arith in
+          let n : eqb (i + 1) 0 ≡ false = ne-eqb (i + 1) 0 (λ z. let q : ⊥ = omega arith in q) in
+          r .each h l
+          ∙ ap (λ (k : ℕ). totalRead c levels k h) e
+          ∙ ap (λ (b : Bool). cond b 0 (totalRead c levels (i + 1 - 1) h)) (sym n);
+    }
+
 component-read : (e levels : List ℕ) (i h component : ℕ) → component ≡ eventsIn e .component i
     → cond (leb 4 component && leb component 6) (timeTotalIn (caseIn [] [] [] e) levels i h) 0 ≡ totalRead (caseIn [] [] [] e) levels i h
 unfolding totalRead caseIn
@@ -249,6 +296,17 @@ module _ (e event levels : List ℕ) (i component : ℕ) (ee : event ≡ recordA
       record {
         each = λ h l.
             zeros-at 24 h ∙ ap (λ (b : Bool). cond b (timeTotalIn (caseIn [] [] [] e) levels i h) 0) (sym q)
+            ∙ component-read e levels i h component of-event;
+      }
+
+  pub totals-kept : (row : List ℕ) → (leb 4 component && leb component 6) ≡ true → sameTotals (eventsIn e) i ≡ true
+      → HasRow (totalBefore (caseIn [] [] [] e) levels i) row → HasRow (totalRead (caseIn [] [] [] e) levels i) row
+  totals-kept row w same r =
+      record {
+        each = λ h l.
+            r .each h l
+            ∙ total-before (caseIn [] [] [] e) levels i h (rw (events-of e) at same)
+            ∙ ap (λ (b : Bool). cond b (timeTotalIn (caseIn [] [] [] e) levels i h) 0) (sym w)
             ∙ component-read e levels i h component of-event;
       }
 

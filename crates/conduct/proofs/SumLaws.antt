@@ -23,7 +23,7 @@ use Rattle.casefile.specs.Read.{cellOf}
 use Rattle.casefile.specs.declared.cells.Cell.{Cell}
 use Rattle.conduct.specs.Flags.{together, sumTogether, groupSum, groupCapability, fuelFlag, timeBid}
 use Rattle.conduct.specs.Parties.{leaderOf}
-use Rattle.conduct.specs.Stages.{cellsIn, Added, partyFigure, ledSum, HasSums, capabilityShare, capabilityOf, timeComponent, timeKey, countedIncrease, keyedIncrease, cell, HasIncreases, timeTotalIn}
+use Rattle.conduct.specs.Stages.{cellsIn, Zeros, Added, partyFigure, ledSum, HasSums, capabilityShare, capabilityOf, timeComponent, timeKey, countedIncrease, keyedIncrease, cell, HasIncreases, timeTotalIn}
 use Rattle.conduct.proofs.PartyLaws.{same-test, together-fields, leader-eqb, record-byte-lt, record-value-lt, packed, packed-same}
 
 -- ---- choices and sums
@@ -164,9 +164,9 @@ figure-le u r p e j h b l = pick (eqb (eventsIn e .kind j) 3) (bitOf (eventsIn e
     pick true false = omega arith
     pick false t = amount-lt e j h b l
 
-pub sums-none : (c : Case) (leaders : List ℕ) (n k : ℕ) → HasSums c leaders n 0 (replicate k 0)
+pub sums-none : (c : Case) (leaders sums : List ℕ) (n : ℕ) → Zeros sums → HasSums c leaders n 0 sums
 unfolding ledSum
-sums-none c leaders n k = record { each = λ l h _ _. zeros-at k (24 * l + h) ∙ sum-none _ }
+sums-none c leaders sums n z = record { each = λ l h _ _. z (24 * l + h) ∙ sum-none _ }
 
 pub sums-more : (c : Case) (leaders old new : List ℕ) (n m : ℕ) → HasSums c leaders n m old
     → Added (24 * getD leaders m 0) 24 old new (partyFigure c m) → HasSums c leaders n (m + 1) new

@@ -42,6 +42,10 @@ cellsIn s i = drop cellsOffset (recordAt eventWidth s i)
 abbrev pub Small : List ℕ → Type 0
 Small l = (k : ℕ) → getD l k 0 ≤ 18446744069414584320
 
+-- every element is 0
+abbrev pub Zeros : List ℕ → Type 0
+Zeros l = (k : ℕ) → getD l k 0 ≡ 0
+
 -- f 0, .. , f (m - 1) were added to the elements from a place on
 pub record Added (at m : ℕ) (old new : List ℕ) (f : ℕ → ℕ) : Type 0 where
   pub each : (k : ℕ) → getD new k 0 ≡ getD old k 0 + cond (leb at k && ltb k (at + m)) (f (k - at)) 0
@@ -134,6 +138,17 @@ timeTotalIn c levels i h = sumTo (c .events .count) (λ j. cond (timeBid c i j) 
 unfoldable pub totalRead : Case → (levels : List ℕ) → (i h : ℕ) → ℕ
 totalRead c levels i h =
     cond (leb 4 (c .events .component i) && leb (c .events .component i) 6) (timeTotalIn c levels i h) 0
+
+-- what the test of the event before read
+unfoldable pub totalBefore : Case → (levels : List ℕ) → (i h : ℕ) → ℕ
+totalBefore c levels i h = cond (eqb i 0) 0 (totalRead c levels (i - 1) h)
+
+-- the event before i has a time component too, and the same unit, day and market
+unfoldable pub sameTotals : Events → ℕ → Bool
+sameTotals e i =
+    cond (eqb i 0) false
+    (leb 4 (e .component (i - 1)) && leb (e .component (i - 1)) 6 && eqb (e .unit (i - 1)) (e .unit i)
+    && eqb (e .day (i - 1)) (e .day i) && eqb (e .market (i - 1)) (e .market i))
 
 unfoldable pub bidFlagIn : Case → (levels : List ℕ) → (i h : ℕ) → Bool
 bidFlagIn c levels i h =

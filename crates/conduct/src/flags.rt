@@ -11,7 +11,7 @@ ghost use Rattle.casefile.specs.Lookup.{unitOf, groupOf, UnitsInOrder, InOrder}
 ghost use Rattle.casefile.specs.Refusal.{eventsListed};
 ghost use Rattle.conduct.specs.Flags.{groupSum, withheldFlag, dispatchFlag, flagMask};
 ghost use Rattle.conduct.specs.Parties.{partyKey, leaderOf, bidLevel, levelsFound};
-ghost use Rattle.conduct.specs.Stages.{HasSums, HasRow, SmallRow, timeKey, withheldIn, dispatchIn, fuelIn, bidIn, totalRead, bidFlagIn, flagMaskIn, Found};
+ghost use Rattle.conduct.specs.Stages.{Zeros, HasSums, HasRow, SmallRow, timeKey, withheldIn, dispatchIn, fuelIn, bidIn, sameTotals, totalRead, totalBefore, bidFlagIn, flagMaskIn, Found};
 use crate::parties::find_parties;
 use crate::parties::reference_levels;
 use crate::sums::cells_of;
@@ -166,10 +166,28 @@ fn fuel_mask(sums: &[u64]) -> u32
     mask
 }
 
-// The time totals of event i's unit, day and market, where its component reads them.
-fn bid_totals(events: &[u8], levels: &[u32], keys: &[u64], i: usize) -> [u64; 24]
+// Whether the event before i has a time component too, and the same unit, day and market: its time totals are event i's.
+fn same_time_totals(events: &[u8], i: usize) -> bool
+    requires { ⌜ i < length (now events) / 312 ⌝ }
+    ensures { λ r. ⌜ r ≡ sameTotals (eventsIn (now (events .entry))) i ⌝ }
+{
+    if i == 0 {
+        return false;
+    }
+    let event = record_at(events, i, layout::EVENT_WIDTH);
+    let before = record_at(events, i - 1, layout::EVENT_WIDTH);
+    let component = load_u8(before, 6);
+    let same_unit = load_u16(before, 2) == load_u16(event, 2);
+    let same_day = load_u32(before, 8) == load_u32(event, 8);
+    let same_market = load_u8(before, 1) == load_u8(event, 1);
+    (4 <= component) & (component <= 6) & same_unit & same_day & same_market
+}
+
+// The time totals of event i's unit, day and market, where its component reads them; before are those that the event before it read.
+fn bid_totals(events: &[u8], levels: &[u32], keys: &[u64], i: usize, before: [u64; 24]) -> [u64; 24]
     requires { ⌜ (i < length (now events) / 312) × (length (now events) / 312 ≤ 200) × (length (now events) / 312 ≤ length (now levels)) × (length (now events) / 312 ≤ length (now keys)) ⌝ }
     requires { ⌜ Holds (length (now events) / 312) (now keys) (timeKey (eventsIn (now events))) ⌝ }
+    requires { ⌜ HasRow (totalBefore (caseIn [] [] [] (now events)) (now levels) i) before ⌝ }
     ensures { λ r. ⌜ HasRow (totalRead (caseIn [] [] [] (now (events .entry))) (now (levels .entry)) i) r ⌝ }
 {
     let event = record_at(events, i, layout::EVENT_WIDTH);
@@ -178,6 +196,9 @@ fn bid_totals(events: &[u8], levels: &[u32], keys: &[u64], i: usize) -> [u64; 24
     let component = load_u8(event, 6);
     let day = load_u32(event, 8);
     if (4 <= component) & (component <= 6) {
+        if same_time_totals(events, i) {
+            return before;
+        }
         return hour_totals(time_increases(events, levels, keys, market, unit, day));
     }
     [0u64; 24]
@@ -224,18 +245,18 @@ fn bid_mask(cells: &[u8], totals: &[u64], bid: Bid) -> u32
     mask
 }
 
-// The flagged hours of a bid.
+// The flagged hours of a bid; totals are those that its component reads.
 fn bid_event(
     units: &[u8],
     events: &[u8],
     levels: &[u32],
-    keys: &[u64],
+    totals: &[u64],
     place: usize,
     i: usize,
 ) -> u32
-    requires { ⌜ (i < length (now events) / 312) × (length (now events) / 312 ≤ 200) × (length (now events) / 312 ≤ length (now levels)) × (length (now events) / 312 ≤ length (now keys)) × (place < length (now units) / 24) ⌝ }
+    requires { ⌜ (i < length (now events) / 312) × (length (now events) / 312 ≤ length (now levels)) × (length (now totals) ≡ 24) × (place < length (now units) / 24) ⌝ }
     requires { ⌜ place ≡ unitOf (caseIn (now units) [] [] (now events)) i ⌝ }
-    requires { ⌜ Holds (length (now events) / 312) (now keys) (timeKey (eventsIn (now events))) ⌝ }
+    requires { ⌜ HasRow (totalRead (caseIn [] [] [] (now events)) (now levels) i) (now totals) ⌝ }
     ensures { λ r. ⌜ r ≡ maskTo 24 (bidFlagIn (caseIn (now (units .entry)) [] [] (now (events .entry))) (now (levels .entry)) i) ⌝ }
 {
     let event = record_at(events, i, layout::EVENT_WIDTH);
@@ -250,8 +271,7 @@ fn bid_event(
         average_price: load_u32(unit, 16),
         constrained_hours: load_u16(unit, 20),
     };
-    let totals = bid_totals(events, levels, keys, i);
-    bid_mask(cells_of(events, i), &totals, bid)
+    bid_mask(cells_of(events, i), totals, bid)
 }
 
 // The flagged hours of event i, by its kind.
@@ -263,19 +283,19 @@ fn event_mask(
     leaders: &[usize],
     levels: &[u32],
     sums: &[u64],
-    keys: &[u64],
+    totals: &[u64],
     i: usize,
 ) -> u32
     requires { ⌜ Found (now units) (now events) (now places) (now groups) (now leaders) (now levels) ⌝ }
     requires { ⌜ HasSums (caseIn [] [] [] (now events)) (now leaders) (length (now events) / 312) (length (now events) / 312) (now sums) ⌝ }
-    requires { ⌜ (length (now sums) ≡ 4800) × (length (now keys) ≡ 200) × (i < length (now events) / 312) ⌝ }
-    requires { ⌜ Holds (length (now events) / 312) (now keys) (timeKey (eventsIn (now events))) ⌝ }
+    requires { ⌜ (24 * (length (now events) / 312) ≤ length (now sums)) × (length (now totals) ≡ 24) × (i < length (now events) / 312) ⌝ }
+    requires { ⌜ HasRow (totalRead (caseIn [] [] [] (now events)) (now levels) i) (now totals) ⌝ }
     ensures { λ r. ⌜ r ≡ flagMaskIn (caseIn (now (units .entry)) [] [] (now (events .entry))) (now (levels .entry)) i ⌝ }
 {
     let kind = load_u8(record_at(events, i, layout::EVENT_WIDTH), 0);
     let place = places[i];
     if kind == 4 {
-        return bid_event(units, events, levels, keys, place, i);
+        return bid_event(units, events, levels, totals, place, i);
     }
     let at = layout::HOURS * leaders[i];
     let end = at + layout::HOURS;
@@ -305,13 +325,15 @@ fn event_masks(
 )
     requires { ⌜ Found (now units) (now events) (now places) (now groups) (now leaders) (now levels) ⌝ }
     requires { ⌜ HasSums (caseIn [] [] [] (now events)) (now leaders) (length (now events) / 312) (length (now events) / 312) (now sums) ⌝ }
-    requires { ⌜ (length (now sums) ≡ 4800) × (length (now keys) ≡ 200) × (length (now events) / 312 ≤ length (now masks)) ⌝ }
+    requires { ⌜ (24 * (length (now events) / 312) ≤ length (now sums)) × (length (now events) / 312 ≤ length (now keys)) × (length (now events) / 312 ≤ length (now masks)) ⌝ }
     requires { ⌜ Holds (length (now events) / 312) (now keys) (timeKey (eventsIn (now events))) ⌝ }
     ensures { λ _. ⌜ now (masks .exit) ≡ listTo (length (now (events .entry)) / 312) (flagMaskIn (caseIn (now (units .entry)) [] [] (now (events .entry))) (now (levels .entry))) ++ drop (length (now (events .entry)) / 312) (now (masks .entry)) ⌝ }
 {
     let n = events.len() / layout::EVENT_WIDTH;
+    let mut totals = [0u64; 24];
     let mut i = 0;
     while i < n {
+        totals = bid_totals(events, levels, keys, i, totals);
         masks[i] = event_mask(
             units,
             events,
@@ -320,11 +342,72 @@ fn event_masks(
             leaders,
             levels,
             sums,
-            keys,
+            &totals,
             i,
         );
         i += 1;
     }
+}
+
+// The flagged hours of every event, with tables of zeros for the sums and the time keys.
+fn fill_masks(
+    units: &[u8],
+    events: &[u8],
+    places: &[usize],
+    groups: &[u16],
+    leaders: &[usize],
+    levels: &[u32],
+    sums: &mut [u64],
+    keys: &mut [u64],
+    masks: &mut [u32],
+)
+    requires { ⌜ Found (now units) (now events) (now places) (now groups) (now leaders) (now levels) ⌝ }
+    requires { ⌜ (24 * (length (now events) / 312) ≤ length (now sums)) × (length (now events) / 312 ≤ length (now keys)) × (length (now events) / 312 ≤ length (now masks)) ⌝ }
+    requires { ⌜ Zeros (now sums) ⌝ }
+    ensures { λ _. ⌜ now (masks .exit) ≡ listTo (length (now (events .entry)) / 312) (flagMaskIn (caseIn (now (units .entry)) [] [] (now (events .entry))) (now (levels .entry))) ++ drop (length (now (events .entry)) / 312) (now (masks .entry)) ⌝ }
+{
+    party_sums(events, leaders, sums);
+    time_keys(events, keys);
+    event_masks(
+        units,
+        events,
+        places,
+        groups,
+        leaders,
+        levels,
+        sums,
+        keys,
+        masks,
+    );
+}
+
+// The same with tables for 8 events: to clear those for 200 takes longer than to settle a small case.
+fn small_case_masks(
+    units: &[u8],
+    events: &[u8],
+    places: &[usize],
+    groups: &[u16],
+    leaders: &[usize],
+    levels: &[u32],
+    masks: &mut [u32],
+)
+    requires { ⌜ Found (now units) (now events) (now places) (now groups) (now leaders) (now levels) ⌝ }
+    requires { ⌜ (length (now events) / 312 ≤ 8) × (length (now events) / 312 ≤ length (now masks)) ⌝ }
+    ensures { λ _. ⌜ now (masks .exit) ≡ listTo (length (now (events .entry)) / 312) (flagMaskIn (caseIn (now (units .entry)) [] [] (now (events .entry))) (now (levels .entry))) ++ drop (length (now (events .entry)) / 312) (now (masks .entry)) ⌝ }
+{
+    let mut sums = [0u64; 192];
+    let mut keys = [0u64; 8];
+    fill_masks(
+        units,
+        events,
+        places,
+        groups,
+        leaders,
+        levels,
+        &mut sums,
+        &mut keys,
+        masks,
+    );
 }
 
 // The flagged hours of every event, from what was found once for each.
@@ -341,17 +424,21 @@ fn flag_masks(
     requires { ⌜ length (now events) / 312 ≤ length (now masks) ⌝ }
     ensures { λ _. ⌜ now (masks .exit) ≡ listTo (length (now (events .entry)) / 312) (flagMaskIn (caseIn (now (units .entry)) [] [] (now (events .entry))) (now (levels .entry))) ++ drop (length (now (events .entry)) / 312) (now (masks .entry)) ⌝ }
 {
-    let sums = party_sums(events, leaders);
-    let keys = time_keys(events);
-    event_masks(
+    if events.len() / layout::EVENT_WIDTH <= 8 {
+        small_case_masks(units, events, places, groups, leaders, levels, masks);
+        return;
+    }
+    let mut sums = [0u64; 4800];
+    let mut keys = [0u64; 200];
+    fill_masks(
         units,
         events,
         places,
         groups,
         leaders,
         levels,
-        &sums,
-        &keys,
+        &mut sums,
+        &mut keys,
         masks,
     );
 }

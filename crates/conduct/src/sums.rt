@@ -9,7 +9,7 @@ ghost use Rattle.binary.specs.Bounded.{bitOf};
 ghost use Rattle.binary.specs.Lists.{Holds};
 ghost use Rattle.casefile.specs.Decode.{unitsIn, eventsIn, amountsIn, caseIn};
 ghost use Rattle.casefile.specs.Read.{cellOf};
-ghost use Rattle.conduct.specs.Stages.{cellsIn, Small, Added, partyFigure, HasSums, HasRow, Below, capabilityShare, capabilityOf, timeComponent, timeKey, countedIncrease, keyedIncrease, cell, HasIncreases, SmallTable};
+ghost use Rattle.conduct.specs.Stages.{cellsIn, Small, Zeros, Added, partyFigure, HasSums, HasRow, Below, capabilityShare, capabilityOf, timeComponent, timeKey, countedIncrease, keyedIncrease, cell, HasIncreases, SmallTable};
 use crate::parties::pack;
 use binary::bytes::load_u8;
 use binary::bytes::load_u16;
@@ -61,20 +61,19 @@ fn add_event(sums: &mut [u64], leader: usize, events: &[u8], j: usize)
     }
 }
 
-// For each leader the 24 sums of its party: S for kinds 1 and 2, for kind 3 how many P have the hour's bit.
-pub fn party_sums(events: &[u8], leaders: &[usize]) -> [u64; 4800]
-    requires { ⌜ (length (now events) / 312 ≤ 200) × (length (now events) / 312 ≤ length (now leaders)) ⌝ }
+// For each leader the 24 sums of its party, added in a table of zeros: S for kinds 1 and 2, for kind 3 how many P have the hour's bit.
+pub fn party_sums(events: &[u8], leaders: &[usize], sums: &mut [u64])
+    requires { ⌜ (length (now events) / 312 ≤ 200) × (length (now events) / 312 ≤ length (now leaders)) × (24 * (length (now events) / 312) ≤ length (now sums)) ⌝ }
     requires { ⌜ Below (length (now events) / 312) (now leaders) ⌝ }
-    ensures { λ r. ⌜ HasSums (caseIn [] [] [] (now (events .entry))) (now (leaders .entry)) (length (now (events .entry)) / 312) (length (now (events .entry)) / 312) r ⌝ }
+    requires { ⌜ Zeros (now sums) ⌝ }
+    ensures { λ _. ⌜ HasSums (caseIn [] [] [] (now (events .entry))) (now (leaders .entry)) (length (now (events .entry)) / 312) (length (now (events .entry)) / 312) (now (sums .exit)) ⌝ }
 {
     let n = events.len() / layout::EVENT_WIDTH;
-    let mut sums = [0u64; 4800];
     let mut j = 0;
     while j < n {
-        add_event(&mut sums, leaders[j], events, j);
+        add_event(sums, leaders[j], events, j);
         j += 1;
     }
-    sums
 }
 
 fn capability_share(units: &[u8], group: u16, u: usize) -> u32
@@ -127,18 +126,16 @@ fn time_key(events: &[u8], j: usize) -> u64
     pack(time_component(kind, component), market, unit, day)
 }
 
-pub fn time_keys(events: &[u8]) -> [u64; 200]
-    requires { ⌜ length (now events) / 312 ≤ 200 ⌝ }
-    ensures { λ r. ⌜ Holds (length (now (events .entry)) / 312) r (timeKey (eventsIn (now (events .entry)))) ⌝ }
+pub fn time_keys(events: &[u8], keys: &mut [u64])
+    requires { ⌜ length (now events) / 312 ≤ length (now keys) ⌝ }
+    ensures { λ _. ⌜ Holds (length (now (events .entry)) / 312) (now (keys .exit)) (timeKey (eventsIn (now (events .entry)))) ⌝ }
 {
     let n = events.len() / layout::EVENT_WIDTH;
-    let mut keys = [0u64; 200];
     let mut j = 0;
     while j < n {
         keys[j] = time_key(events, j);
         j += 1;
     }
-    keys
 }
 
 // Adds the positive d of event j in each hour, where it counts.

@@ -20,7 +20,7 @@ event-mask-spec =
     let a = start .args in
     let f = start .pre .0 in
     let l = start .pre .1 .1 .0 .2 in
-    ((l, f .few, f .levels-reach, omega arith, found-place _ _ _ _ _ _ f _ l), (f .placed _ l, start .pre .1 .1 .1)))
+    ((l, f .levels-reach, start .pre .1 .1 .0 .1, found-place _ _ _ _ _ _ f _ l), (f .placed _ l, start .pre .1 .1 .1)))
     (λ c.
     let k = c .before .before .before in
     mask-4 _ _ _ _ _ _ (k .before .record-at .ensures .0) (k .load-u8 .ensures) _ (c .before .if1 .taken) (c .bid-event .ensures))

@@ -7,16 +7,18 @@ use lib.ListN.{length, drop, length-set}
 use Rattle.binary.specs.Lists.{listTo}
 use Rattle.binary.proofs.ListLaws.{fill-none, fill-more}
 use Rattle.casefile.specs.Decode.{caseIn}
-use Rattle.conduct.specs.Stages.{flagMaskIn}
+use Rattle.conduct.specs.Stages.{HasRow, totalBefore, flagMaskIn}
+use Rattle.conduct.proofs.FlagLaws.{totals-first, totals-next}
 use Rattle.conduct.proofs.flags.event_masks.Statement.{statement}
 use Rattle.conduct.proofs.flags.event_masks.Tie as tie
 
 abbrev Inv-loop : tie.InvT-loop
-Inv-loop units events places groups leaders levels sums keys masks₀ n i₀ masks i =
+Inv-loop units events places groups leaders levels sums keys masks₀ n totals₀ i₀ masks totals i =
     (i ≤ length events / 312) × (length masks ≡ length masks₀) × (masks ≡ listTo i (flagMaskIn (caseIn units [] [] events) levels) ++ drop i masks₀)
+    × HasRow (totalBefore (caseIn [] [] [] events) levels i) totals
 
 abbrev μ-loop : tie.MeasureT-loop
-μ-loop units events places groups leaders levels sums keys masks₀ n i₀ masks i = length events / 312 - i
+μ-loop units events places groups leaders levels sums keys masks₀ n totals₀ i₀ masks totals i = length events / 312 - i
 
 pub event-masks-spec : {M : Type 1} → statement M
 event-masks-spec =
@@ -24,20 +26,27 @@ event-masks-spec =
     (tie.spec
     Inv-loop
     μ-loop
-    (λ c. (omega arith, refl, fill-none _ _))
+    (λ c. (omega arith, refl, fill-none _ _, totals-first _ _))
     (λ c κs.
     let start = c .before .before .before .before .before .before .before .before .before .before .before in
+    let f = start .pre .0 in
     let p = start .pre .1 .1 in
-    (start .pre .0, (start .pre .1 .0, ((p .0 .0, p .0 .1, c .loop-test .taken), p .1))))
+    ((c .loop-test .taken, f .few, f .levels-reach, p .0 .1), (p .1, c .before .loop .inv .3)))
+    (λ c. search needs)
+    (λ c κs.
+    let start = c .before .before .before .before .before .before .before .before .before .before .before .before .before in
+    let p = start .pre .1 .1 in
+    (start .pre .0, (start .pre .1 .0, ((p .0 .0, search needs, c .before .before .loop-test .taken), c .before .bid-totals .ensures))))
     (λ c. omega arith)
     (λ c. search needs)
     (λ c. omega arith)
     (λ c. omega arith)
     (λ c.
-    let l = c .before .before .loop in (
+    let l = c .before .before .before .before .loop in (
       omega arith,
       simp length-set (l .inv .1),
       rw (l .inv .2, c .event-mask .ensures) (fill-more (flagMaskIn _ _) _ _ (omega arith)),
+      totals-next _ _ _ _ (c .before .before .bid-totals .ensures),
     ))
     (λ c. c .before .loop .inv .1)
     (λ c.

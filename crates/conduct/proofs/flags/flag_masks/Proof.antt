@@ -1,5 +1,6 @@
 use borrow.Author.Needs.{needs}
-use Rattle.conduct.proofs.FlagLaws.{leaders-below}
+use native.Mathlib.Omega.{arith}
+use Rattle.conduct.proofs.SumLaws.{zeros-at}
 use Rattle.conduct.proofs.flags.flag_masks.Statement.{statement}
 use Rattle.conduct.proofs.flags.flag_masks.Tie as tie
 
@@ -7,14 +8,14 @@ pub flag-masks-spec : {M : Type 1} → statement M
 flag-masks-spec =
     tie.close
     (tie.spec
-    (λ c κs.
-    let f = c .before .before .before .before .before .before .before .pre .0 in
-    ((f .few, f .leaders-reach), leaders-below _ _ _ _ _ _ f))
-    (λ c κs. c .before .before .before .before .before .before .before .before .pre .0 .few)
+    (λ c κs. let p = c .before .before .before .before .before .before .before .before .before .pre in (p .0, (c .before .if1 .taken, p .1)))
+    (λ c. search needs)
+    (λ c. c .before .before .small-case-masks .ensures)
     (λ c. search needs)
     (λ c. search needs)
     (λ c κs.
-    let start = c .before .before .before .before .before .before .before .before .before .before .before .before in
-    (start .pre .0, (c .before .before .before .before .party-sums .ensures, ((search needs, search needs, start .pre .1), c .before .before .before .time-keys .ensures))))
+    let p = c .before .before .before .before .before .before .before .before .before .before .before .pre in
+    let few = p .0 .few in
+    (p .0, ((omega arith, omega arith, p .1), zeros-at 4800)))
     (λ c. search needs)
-    (λ c. c .before .before .event-masks .ensures))
+    (λ c. c .before .before .before .before .fill-masks .ensures))
