@@ -1,5 +1,5 @@
-use borrow.Author.Needs.{needs}
 use mathlib.Core.Path.{sym, _∙_}
+use borrow.Author.Needs.{needs}
 use Rattle.conduct.proofs.FlagLaws.{small-table, totals-none, totals-kept, totals-of}
 use Rattle.conduct.proofs.flags.bid_totals.Statement.{statement}
 use Rattle.conduct.proofs.flags.bid_totals.Tie as tie
