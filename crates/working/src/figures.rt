@@ -1,6 +1,13 @@
 // The figures of one hour of one event, and what its working says of them.
 
-// What the test of the hour reads; a figure that the kind has not is 0.
+// S, G, and how many events of the party-day have the hour in P; 0 where the kind has no such figure.
+pub struct Sums {
+    pub s: u64,
+    pub g: u64,
+    pub fuel_events: u64,
+}
+
+// What the test of the hour reads; reference and sums are 0 where the kind has none.
 pub struct Figures {
     pub kind: u8,
     pub component: u8,
@@ -16,6 +23,12 @@ pub struct Figures {
     pub g: u64,
     pub fuel_events: u64,
     pub total: u64,
+}
+
+// N3 and N2 of a row.
+pub struct Counts {
+    pub n3: u16,
+    pub n2: u16,
 }
 
 // The refusal's number, or 0 and the working.
