@@ -31,7 +31,8 @@ pub struct Counts {
     pub n2: u16,
 }
 
-// The refusal's number, or 0 and the working.
+// The refusal's number, or 0 and the working, laid out for C.
+#[repr(C)]
 pub struct Working {
     pub number: u8,
     pub flagged: bool,
