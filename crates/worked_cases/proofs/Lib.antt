@@ -1,2 +1,3 @@
 pub mod Settlements
 pub mod WorseCases
+pub mod Workings
