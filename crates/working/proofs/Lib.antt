@@ -1,3 +1,3 @@
 pub mod StepLaws
 pub mod WorkingLaws
-pub mod TellLaws
+pub mod FailedLaws

@@ -2,12 +2,12 @@
 use Prim.Native.Nat.{ℕ, _+_, _*_, _/_, _≤_, _<_}
 use mathlib.Core.Bool.{Bool, true, false, cond, _&&_, _||_}
 use mathlib.Core.List.{List, []}
-use mathlib.Core.Path.{_≡_, refl, sym, ap, _∙_}
+use mathlib.Core.Path.{_≡_, refl, ap, _∙_}
 use native.Mathlib.Omega.{arith}
 use borrow.Author.Tests.{ltb-true, eqb-true, eq-eqb, ne-eqb}
-use lib.Dec.{ltb, leb, eqb}
+use lib.Dec.{ltb, eqb}
 use lib.ListN.{length, getD}
-use Rattle.binary.specs.Bounded.{sumTo, bitOf, maskTo}
+use Rattle.binary.specs.Bounded.{sumTo, bitOf}
 use Rattle.binary.specs.Bytes.{byteAt}
 use Rattle.binary.specs.Lists.{Bytes, Holds}
 use Rattle.binary.proofs.Implies.{and-l, and-r}

@@ -141,7 +141,7 @@ workingOf f k i h =
     (cond (ltb i (decode f .events .count) && ltb h hours) (workingAt (decode f) i h) (refused 10))
     (refused (refusal f k mostRows))
 
--- a working shows why its hour is flagged: one of the comparisons fails
-abbrev pub WorkingTells : Type 0
-WorkingTells = (file correction : List ℕ) (event hour : ℕ)
+-- a working shows why its hour is flagged: the hour is flagged exactly where a comparison fails
+abbrev pub FlaggedWhereFailed : Type 0
+FlaggedWhereFailed = (file correction : List ℕ) (event hour : ℕ)
     → workingOf file correction event hour .flagged ≡ ltb 0 (workingOf file correction event hour .failed)

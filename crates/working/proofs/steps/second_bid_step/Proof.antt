@@ -1,5 +1,4 @@
 use Prim.Native.Nat.{_*_, _≤_}
-use mathlib.Core.Path.{refl}
 use borrow.Author.Needs.{needs}
 use borrow.Author.Tests.{le-leb, lt-leb}
 use native.Mathlib.Omega.{arith}

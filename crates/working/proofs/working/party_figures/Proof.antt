@@ -1,7 +1,5 @@
-use mathlib.Core.Path.{_∙_, ap}
 use borrow.Author.Needs.{needs}
 use native.Mathlib.Omega.{arith}
-use Rattle.casefile.specs.Decode.{caseIn, eventsIn}
 use Rattle.working.proofs.WorkingLaws.{sums-are, below, sum-read, sum-small, group-capability, kind-of}
 use Rattle.working.proofs.working.party_figures.Statement.{statement}
 use Rattle.working.proofs.working.party_figures.Tie as tie

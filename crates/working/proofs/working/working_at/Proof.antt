@@ -1,6 +1,5 @@
-use Prim.Native.Nat.{ℕ}
 use mathlib.Core.List.{[]}
-use mathlib.Core.Path.{_∙_, ap}
+use mathlib.Core.Path.{_∙_}
 use borrow.Author.Needs.{needs}
 use Rattle.binary.proofs.ListLaws.{holds-fill, fill-long}
 use Rattle.conduct.proofs.FlagLaws.{flags-past}
