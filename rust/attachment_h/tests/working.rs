@@ -63,7 +63,7 @@ fn every_hour() {
     assert!(failed.iter().all(|&hours| hours > 50));
 }
 
-/// S and G of every withheld hour, summed again over the file.
+/// S of every withheld and dispatch hour and G of the withheld ones, summed again over the file.
 #[test]
 fn sums() {
     let mut random = Random::new(702);
@@ -78,12 +78,12 @@ fn sums() {
         for (place, event) in events
             .chunks(312)
             .enumerate()
-            .filter(|(_, event)| event[0] == 1)
+            .filter(|(_, event)| event[0] <= 2)
         {
             let own = group(u16_at(event, 2));
             let g: u64 = units
                 .chunks(24)
-                .filter(|record| u16_at(record, 2) == own)
+                .filter(|record| event[0] == 1 && u16_at(record, 2) == own)
                 .map(|record| u64::from(u32_at(record, 8)))
                 .sum();
             for hour in 0..24 {
