@@ -2,7 +2,7 @@
 use Prim.Native.Nat.{ℕ, _+_, _*_, _/_, _≤_, _<_}
 use mathlib.Core.Bool.{Bool, true, false, cond, _&&_, _||_}
 use mathlib.Core.List.{List, []}
-use mathlib.Core.Path.{_≡_, refl, ap, _∙_}
+use mathlib.Core.Path.{_≡_, refl, ap, ap₂, _∙_}
 use native.Mathlib.Omega.{arith}
 use borrow.Author.Tests.{ltb-true, eqb-true, eq-eqb, ne-eqb}
 use lib.Dec.{ltb, eqb}
@@ -20,9 +20,9 @@ use Rattle.casefile.specs.Lookup.{unitOf, groupOf, referenceOf, correctReferenc
 use Rattle.casefile.specs.Refusal.{refusal}
 use Rattle.conduct.specs.Flags.{tight, together, sumTogether, timeBid, timeTotal, groupCapability, groupSum, flagged, flagMask}
 use Rattle.conduct.specs.Parties.{leaderOf, bidLevel}
-use Rattle.conduct.specs.Stages.{partyFigure, partySum, HasSums, Below, capabilityOf, timeTotalIn, totalRead}
-use Rattle.conduct.proofs.PartyLaws.{together-fields, leader-le}
-use Rattle.conduct.proofs.SumLaws.{cond-given, cond-le, party-sum, party-sum-le, sum-amounts, capability-is}
+use Rattle.conduct.specs.Stages.{partyFigure, ledSum, partySum, Below, capabilityOf, timeTotalIn, totalRead}
+use Rattle.conduct.proofs.PartyLaws.{together-fields, leader-le, leader-eqb}
+use Rattle.conduct.proofs.SumLaws.{cond-given, cond-le, party-sum-le, sum-amounts, capability-is}
 use Rattle.settlement.proofs.SettleLaws.{found-sections}
 use Rattle.working.specs.declared.figures.Sums.{Sums}
 use Rattle.working.specs.declared.figures.Figures.{Figures}
@@ -74,16 +74,24 @@ party-sum-is : (u e : List ℕ) (i h : ℕ)
 unfolding partySum sumTogether caseIn eventsIn
 party-sum-is u e i h = refl
 
+figure-sections : (u e : List ℕ) (j h : ℕ) → partyFigure (caseIn [] [] [] e) j h ≡ partyFigure (caseIn u [] [] e) j h
+unfolding partyFigure caseIn
+figure-sections u e j h = refl
+
 module _ (u e leaders : List ℕ) (led : Holds (length e / 312) leaders (leaderOf (caseIn u [] [] e))) where
   pub below : Below (length e / 312) leaders
   below j l = let q = leader-le (caseIn u [] [] e) j in let t = led j l in omega arith
 
+  same-leader : (i j : ℕ) → i < length e / 312 → j < length e / 312
+      → eqb (getD leaders j 0) (getD leaders i 0) ≡ together (caseIn u [] [] e) i j
+  same-leader i j l lj = rw (led j lj, led i l) (leader-eqb (caseIn u [] [] e) i j)
+
   -- the sum of event i's leader is its own
-  pub sum-read : (sums : List ℕ) (i h : ℕ) → HasSums (caseIn [] [] [] e) leaders (length e / 312) (length e / 312) sums
-      → i < length e / 312 → h < 24 → getD sums (24 * getD leaders i 0 + h) 0 ≡ partySum (caseIn u [] [] e) i h
-  sum-read sums i h s l b =
-      ap (λ (k : ℕ). getD sums (24 * k + h) 0) (led i l)
-      ∙ party-sum u [] [] e leaders sums i h s led l (let q = leader-le (caseIn u [] [] e) i in omega arith) b
+  pub led-sum : (i h : ℕ) → i < length e / 312
+      → ledSum (caseIn [] [] [] e) leaders (length e / 312) (getD leaders i 0) h ≡ partySum (caseIn u [] [] e) i h
+  unfolding ledSum
+  led-sum i h l =
+      sum-same (length e / 312) _ _ (λ j lj. ap₂ (λ (b : Bool) (x : ℕ). cond b x 0) (same-leader i j l lj) (figure-sections u e j h))
       ∙ party-sum-is u e i h
 
 pub sum-small : (u e : List ℕ) (i h x sum kind : ℕ) → x ≡ cond (eqb kind 1 || eqb kind 2) sum 0 → sum ≡ partySum (caseIn u [] [] e) i h → Bytes e

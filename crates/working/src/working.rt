@@ -2,12 +2,12 @@
 ghost use mathlib.Core.List.{[]};
 ghost use mathlib.Core.Path.{_≡_};
 ghost use Prim.Native.Nat.{_/_, _≤_, _<_};
-ghost use lib.ListN.{length};
+ghost use lib.ListN.{length, getD};
 ghost use Rattle.binary.specs.Lists.{Holds};
 ghost use Rattle.casefile.specs.Decode.{caseIn};
 ghost use Rattle.casefile.specs.Lookup.{unitOf, groupOf};
 ghost use Rattle.conduct.specs.Parties.{leaderOf};
-ghost use Rattle.conduct.specs.Stages.{totalRead};
+ghost use Rattle.conduct.specs.Stages.{Below, ledSum, totalRead};
 ghost use Rattle.sanctions.specs.Found.{Accepted, Found};
 ghost use Rattle.settlement.specs.Stages.{FoundFlags};
 ghost use Rattle.working.specs.Stages.{AcceptedCase};
@@ -49,6 +49,17 @@ use tariff::conduct::increase;
 // Limit 15 never applies: rows for every case.
 const MOST_ROWS: usize = layout::ROW_WIDTH * layout::MOST_EVENTS;
 
+// The sum of hour h that stands with event i's leader.
+fn leader_sum(events: &[u8], leaders: &[usize], i: usize, h: usize) -> u64
+    requires { ⌜ (i < length (now events) / 312) × (h < 24) × (length (now events) / 312 ≤ 200) × (length (now events) / 312 ≤ length (now leaders)) ⌝ }
+    requires { ⌜ Below (length (now events) / 312) (now leaders) ⌝ }
+    ensures { λ r. ⌜ r ≡ ledSum (caseIn [] [] [] (now (events .entry))) (now (leaders .entry)) (length (now (events .entry)) / 312) (getD (now (leaders .entry)) i 0) h ⌝ }
+{
+    let sums = party_sums(events, leaders);
+    let at = layout::HOURS * leaders[i] + h;
+    sums[at]
+}
+
 // What the party-day of event i adds to in hour h.
 fn party_figures(
     units: &[u8],
@@ -65,9 +76,7 @@ fn party_figures(
     ensures { λ r. ⌜ r .s ≤ 1099511627776 ⌝ }
 {
     let kind = load_u8(record_at(events, i, layout::EVENT_WIDTH), 0);
-    let sums = party_sums(events, leaders);
-    let at = layout::HOURS * leaders[i] + h;
-    let sum = sums[at];
+    let sum = leader_sum(events, leaders, i, h);
     let g = group_capability(units, groups[i]);
     Sums {
         s: choose_u64((kind == 1) | (kind == 2), sum, 0),
