@@ -121,6 +121,25 @@ static void list_cases(void) {
     expect("a refusal", (uint64_t)memcmp(out, "refused 1\n", 10), 0);
 }
 
+static void work_hours(void) {
+    uint8_t file[CASE];
+    write_case(file);
+    attachment_h_hour hour = attachment_h_working(file, CASE, NULL, 0, 0, 0);
+    expect("working", hour.number, 0);
+    expect("working, flagged", hour.flagged, 1);
+    expect("working, failed", hour.failed, 1);
+    expect("working, taken", hour.taken, 15);
+    expect("working, 10 x a", hour.left[0], 5010);
+    expect("working, capability", hour.right[0], 5000);
+    expect("working, 20 x S", hour.left[2], 10020);
+    expect("working, G", hour.right[2], 20000);
+    expect("working, S", hour.s, 501);
+    expect("working, N3 and N2", hour.n3 * 256 + hour.n2, 257);
+    expect("working, no such hour", attachment_h_working(file, CASE, NULL, 0, 0, 24).number, 10);
+    expect("working, no such event", attachment_h_working(file, CASE, NULL, 0, 1, 0).number, 10);
+    expect("working of 35 bytes", attachment_h_working(file, 35, NULL, 0, 0, 0).number, 1);
+}
+
 static void call_rules(void) {
     expect_answer("500 of 5,000", attachment_h_withheld_fails(500, 5000, 500, 20000, false), 0, 0);
     expect_answer("501 of 5,000", attachment_h_withheld_fails(501, 5000, 501, 20000, false), 0, 1);
@@ -160,9 +179,11 @@ int main(void) {
     _Static_assert(sizeof(attachment_h_answer) == 16, "layout of an answer");
     _Static_assert(sizeof(attachment_h_times) == 4, "layout of the time answer");
     _Static_assert(sizeof(attachment_h_outcome) == 32, "layout of an outcome");
+    _Static_assert(sizeof(attachment_h_hour) == 128, "layout of a working");
     check_cases();
     settle_cases();
     list_cases();
+    work_hours();
     call_rules();
     puts(failures == 0 ? "C: every answer is right" : "C: wrong answers");
     return failures != 0;

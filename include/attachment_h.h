@@ -61,6 +61,44 @@ typedef struct {
 } attachment_h_outcome;
 
 /*
+ * number is 0 and the rest is the working of one hour of one event; or number is that of the refusal and the rest 0.
+ *
+ * A conduct test is at most four comparisons, each of which fails where left exceeds right, in document 01's order:
+ *
+ *    kind 1         10 x a, capability | a, 1,000 (tight 500) | 20 x S, G | S, 2,000 (tight 1,000)
+ *    kind 2         a, 15 x rate | a, 1,000 (tight 500) | S, 2,000 (tight 1,000)
+ *    kind 3         the events of the party-day whose P has the hour, 0
+ *    kind 4:
+ *    components 0, 1   d, the lower of 3 x r and 10,000 (taken where a is at least 2,500)
+ *                      | 10 x d x H, 1,752 x Average Price (taken where Real-Time, tight and H at least 1)
+ *    component 2       d, the lower of 3 x r and 5,000 (taken where a is at least 500)
+ *    component 3       d, 2 x r
+ *    components 4 to 6 d, 180 | total, 360 (taken where d is above 0)
+ *    component 7       a, 2 x r
+ *    component 8       r, 2 x a
+ *
+ * where a negative a or d stands as 0. The hour is flagged exactly where failed is not 0.
+ */
+typedef struct {
+    uint8_t number;
+    bool flagged;       /* bit hour of the row's flag mask */
+    bool tight;         /* the unit's area is 1 and bit hour of P is set */
+    uint8_t failed;     /* the number, from 1, of the first comparison that is taken and fails; 0 where none does */
+    uint8_t taken;      /* bit k: comparison k + 1 is one of this test's and counts */
+    uint32_t a;         /* the cell's word as it stands; of kind 4 (int32_t)a is the bid */
+    uint32_t reference; /* r of kind 4, else 0 */
+    uint32_t increase;  /* d = a - r of kind 4, or 0 if negative */
+    uint64_t decrease;  /* -d of kind 4, or 0 if negative */
+    uint64_t s;         /* S of kinds 1 and 2, else 0 */
+    uint64_t g;         /* G of kind 1, else 0 */
+    uint64_t total;     /* the positive d of the unit, day, market and hour, added, for components 4 to 6, else 0 */
+    uint16_t n3;        /* of the row */
+    uint16_t n2;
+    uint64_t left[4];   /* both 0 where the test has no such comparison */
+    uint64_t right[4];
+} attachment_h_hour;
+
+/*
  * Checks a case: its file, its correction (laid out as references; empty for none) and the length of the rows buffer
  * into which it is to be settled. Gives the number of the first limit that it breaks, or 0 where it is accepted.
  */
@@ -77,6 +115,15 @@ uint8_t attachment_h_check(const uint8_t *file, size_t file_length,
 attachment_h_outcome attachment_h_settle(const uint8_t *file, size_t file_length,
                                          const uint8_t *correction, size_t correction_length,
                                          uint8_t *rows, size_t rows_length);
+
+/*
+ * The working of an hour (0 to 23) of an event (from 0, in the file's order) of a case with its correction. Refused with the
+ * number of the case, as attachment_h_check gives it for rows that are long enough, else with 10 where there is no such event
+ * or hour.
+ */
+attachment_h_hour attachment_h_working(const uint8_t *file, size_t file_length,
+                                       const uint8_t *correction, size_t correction_length,
+                                       size_t event, size_t hour);
 
 /* What out of attachment_h_listing has to have at least, and rows to list every case. */
 #define ATTACHMENT_H_LISTING_LENGTH 42048

@@ -39,6 +39,27 @@ class _Outcome(Structure):
     _fields_ = [("number", c_uint8), ("rows", c_size_t), ("penalties", c_uint64), ("make_ups", c_uint64)]
 
 
+class _Hour(Structure):
+    _fields_ = [
+        ("number", c_uint8),
+        ("flagged", c_bool),
+        ("tight", c_bool),
+        ("failed", c_uint8),
+        ("taken", c_uint8),
+        ("a", c_uint32),
+        ("reference", c_uint32),
+        ("increase", c_uint32),
+        ("decrease", c_uint64),
+        ("s", c_uint64),
+        ("g", c_uint64),
+        ("total", c_uint64),
+        ("n3", c_uint16),
+        ("n2", c_uint16),
+        ("left", c_uint64 * 4),
+        ("right", c_uint64 * 4),
+    ]
+
+
 def _fit(kind, value):
     if kind(value).value != value:
         raise OverflowError(f"{value} does not fit {kind.__name__}")
@@ -63,6 +84,7 @@ def _declare(name, result, *arguments):
 
 _check = _declare("check", c_uint8, POINTER(c_uint8), c_size_t, POINTER(c_uint8), c_size_t, c_size_t)
 _settle = _declare("settle", _Outcome, *[POINTER(c_uint8), c_size_t] * 3)
+_working = _declare("working", _Hour, *[POINTER(c_uint8), c_size_t] * 2, c_size_t, c_size_t)
 _listing = _declare("listing", c_size_t, *[POINTER(c_uint8), c_size_t] * 3)
 _bid_fails = _declare("bid_fails", _Answer, c_uint8, c_uint32, c_int32, c_uint8, c_bool, c_uint32, c_uint16)
 _times_fail = _declare("times_fail", _TimeAnswer, c_int32, c_int32, c_int32)
@@ -113,6 +135,20 @@ def settle(file, correction=b"", rows_length=128 * 200):
         rows_length,
     )
     return bytes(rows)[: 128 * outcome.rows], outcome.penalties, outcome.make_ups
+
+
+def working(file, event, hour, correction=b""):
+    """The working of an hour, 0 to 23, of an event, from 0: a dictionary of the fields of attachment_h_hour but number."""
+    answer = _working(
+        (c_uint8 * len(file)).from_buffer_copy(file),
+        len(file),
+        (c_uint8 * len(correction)).from_buffer_copy(correction),
+        len(correction),
+        event,
+        hour,
+    )
+    fields = {name: getattr(answer, name) for name, _ in _Hour._fields_ if name != "number"}
+    return fields | {"left": list(answer.left), "right": list(answer.right)}
 
 
 def listing(file):

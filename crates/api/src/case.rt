@@ -1,15 +1,18 @@
-// A whole case.
+// A whole case, and the working of one of its hours.
 ghost use mathlib.Core.Path.{_≡_};
 ghost use Prim.Native.Nat.{_≤_};
 ghost use lib.ListN.{length, take};
 ghost use Rattle.casefile.specs.Refusal.{refusal};
 ghost use Rattle.settlement.specs.Settled.{answerOf, rowsAfter};
+ghost use Rattle.working.specs.Working.{workingOf};
 ghost use Rattle.report.specs.Listing.{listedLength, listedOut, listedRows};
 ghost use Rattle.api.specs.Exported.{exportedSettlement};
 use casefile::check;
 use report::listing;
 use settlement::settle;
 use settlement::settle::Settlement;
+use working::figures::Working;
+use working::working::working;
 
 // The refusal's number, or 0 and the row count and both totals in cents.
 #[repr(C)]
@@ -60,6 +63,19 @@ pub extern "C" fn attachment_h_settle<'a>(
             make_ups,
         },
     }
+}
+
+// The working of an hour of an event: the refusal's number, 10 where there is no such event or hour, or 0 and the figures.
+#[no_mangle]
+pub extern "C" fn attachment_h_working<'a>(
+    file: &'a [u8],
+    correction: &'a [u8],
+    event: usize,
+    hour: usize,
+) -> Working
+    ensures { λ r. ⌜ r ≡ workingOf (now (file .entry)) (now (correction .entry)) event hour ⌝ }
+{
+    working(file, correction, event, hour)
 }
 
 // Settles the file with no correction, puts its listing into out and answers the length of that; where out is too short

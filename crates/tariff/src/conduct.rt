@@ -97,13 +97,13 @@ pub fn bid_test(
         | ((component == 8) & maximum)
 }
 
-fn unit_limit(tight: bool) -> u32
+pub fn unit_limit(tight: bool) -> u32
     ensures { λ r. ⌜ r ≡ unitLimit tight ⌝ }
 {
     choose_u32(tight, 500, 1000)
 }
 
-fn group_limit(tight: bool) -> u64
+pub fn group_limit(tight: bool) -> u64
     ensures { λ r. ⌜ r ≡ groupLimit tight ⌝ }
 {
     choose_u64(tight, 1000, 2000)

@@ -1,3 +1,4 @@
 pub mod MixedSettlements
 pub mod Settlements
 pub mod WorseCases
+pub mod Workings

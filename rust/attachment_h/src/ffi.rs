@@ -5,7 +5,7 @@
 
 #![allow(unsafe_code)]
 
-use crate::{Refused, Settled};
+use crate::{Comparison, Refused, Settled, Working};
 
 /// The refusal's number, or 0 and the figure.
 #[repr(C)]
@@ -32,9 +32,31 @@ struct Outcome {
     make_ups: u64,
 }
 
+/// The refusal's number, or 0 and the working.
+#[repr(C)]
+struct Hour {
+    number: u8,
+    flagged: bool,
+    tight: bool,
+    failed: u8,
+    taken: u8,
+    a: u32,
+    reference: u32,
+    increase: u32,
+    decrease: u64,
+    s: u64,
+    g: u64,
+    total: u64,
+    n3: u16,
+    n2: u16,
+    left: [u64; 4],
+    right: [u64; 4],
+}
+
 const _: () = assert!(size_of::<Answer>() == 16 && align_of::<Answer>() == 8);
 const _: () = assert!(size_of::<TimeAnswer>() == 4 && align_of::<TimeAnswer>() == 1);
 const _: () = assert!(size_of::<Outcome>() == 32 && align_of::<Outcome>() == 8);
+const _: () = assert!(size_of::<Hour>() == 128 && align_of::<Hour>() == 8);
 
 impl Answer {
     pub fn figure(self) -> Result<u64, Refused> {
@@ -56,6 +78,35 @@ impl TimeAnswer {
     pub fn verdicts(self) -> Result<[bool; 3], Refused> {
         refused(self.number)?;
         Ok([self.start_up, self.minimum_run, self.minimum_down])
+    }
+}
+
+impl Hour {
+    fn comparison(&self, place: usize) -> Comparison {
+        Comparison {
+            taken: self.taken >> place & 1 == 1,
+            left: self.left[place],
+            right: self.right[place],
+        }
+    }
+
+    /// d from its two parts, one of which is 0; `decrease` is at most 2^32 + 2^31.
+    fn working(self) -> Result<Working, Refused> {
+        refused(self.number)?;
+        Ok(Working {
+            flagged: self.flagged,
+            tight: self.tight,
+            failed: self.failed,
+            comparisons: std::array::from_fn(|place| self.comparison(place)),
+            a: self.a,
+            reference: self.reference,
+            d: i64::from(self.increase) - self.decrease as i64,
+            s: self.s,
+            g: self.g,
+            total: self.total,
+            n3: self.n3,
+            n2: self.n2,
+        })
     }
 }
 
@@ -82,6 +133,14 @@ unsafe extern "C" {
         rows: *mut u8,
         rows_length: usize,
     ) -> Outcome;
+    fn attachment_h_working(
+        file: *const u8,
+        file_length: usize,
+        correction: *const u8,
+        correction_length: usize,
+        event: usize,
+        hour: usize,
+    ) -> Hour;
     fn attachment_h_listing(
         file: *const u8,
         file_length: usize,
@@ -184,6 +243,26 @@ pub fn settle(file: &[u8], correction: &[u8], rows: &mut [u8]) -> Result<Settled
         penalties: outcome.penalties,
         make_ups: outcome.make_ups,
     })
+}
+
+pub fn working(
+    file: &[u8],
+    correction: &[u8],
+    event: usize,
+    hour: usize,
+) -> Result<Working, Refused> {
+    // SAFETY: both slices are live for the call, which only reads them.
+    let answer = unsafe {
+        attachment_h_working(
+            file.as_ptr(),
+            file.len(),
+            correction.as_ptr(),
+            correction.len(),
+            event,
+            hour,
+        )
+    };
+    answer.working()
 }
 
 pub fn listing(file: &[u8], rows: &mut [u8], out: &mut [u8]) -> usize {
