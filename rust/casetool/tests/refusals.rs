@@ -196,6 +196,7 @@ fn every_fault_has_its_place() {
 fn faults_of_the_header_have_their_field() {
     let mut random = Random::new(712);
     let good = every_kind(&mut random, Size::Small).input();
+    let mut located = 0;
     for fault in FAULTS
         .iter()
         .filter(|fault| (2..=5).contains(&fault.number))
@@ -237,8 +238,10 @@ fn faults_of_the_header_have_their_field() {
                 }
             };
             assert_eq!(place.at, at, "{}: {}", fault.name, place.sentence);
+            located += 1;
         }
     }
+    println!("{located} faults of the header");
 }
 
 #[test]
