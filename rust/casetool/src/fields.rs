@@ -2,6 +2,7 @@
 //! text, and their limits. What shows, writes and checks a case goes by this one table.
 
 use crate::amounts::Measure;
+use crate::calendar;
 use crate::hours;
 use crate::words::{COMPONENTS, KINDS, MARKETS, Names};
 
@@ -16,6 +17,8 @@ pub enum Form {
     Name(Names),
     /// A mask of hours.
     Hours,
+    /// A day number; a text may have a date for it.
+    Day,
 }
 
 impl Form {
@@ -28,6 +31,7 @@ impl Form {
                 None => value.to_string(),
             },
             Form::Hours => hours::text(value as u32),
+            Form::Day => value.to_string(),
         }
     }
 
@@ -52,6 +56,15 @@ impl Form {
                 Ok,
             ),
             Form::Hours => hours::read(word, 31).map(i64::from),
+            Form::Day => calendar::day_of(word).map_or_else(
+                || {
+                    Measure::Plain.read(word).map_err(|_| {
+                        "expected a day number, from 0 on 1 January 2000, or a date such as 2021-11-26"
+                            .to_string()
+                    })
+                },
+                |day| Ok(i64::from(day)),
+            ),
         }
     }
 
@@ -59,7 +72,7 @@ impl Form {
     pub fn measure_word(self) -> Option<&'static str> {
         match self {
             Form::Amount(measure) | Form::Signed(measure) => measure.word(),
-            Form::Name(_) | Form::Hours => None,
+            Form::Name(_) | Form::Hours | Form::Day => None,
         }
     }
 }
@@ -215,6 +228,11 @@ pub const UNIT: [Field; 12] = [
     Field::spare("spare-23", 23),
 ];
 
+/// The day of a past entry or an event.
+const DAY: Field = Field::new(("day", "day"), (8, 4), Form::Day)
+    .needed()
+    .within(0, LAST_DAY);
+
 /// The fields of a past entry.
 pub const PAST: [Field; 7] = [
     Field::new(("group", "group"), (0, 2), PLAIN).needed(),
@@ -227,9 +245,7 @@ pub const PAST: [Field; 7] = [
     Field::new(("period", "period"), (4, 2), PLAIN).needed(),
     Field::spare("spare-6", 6),
     Field::spare("spare-7", 7),
-    Field::new(("day", "day"), (8, 4), PLAIN)
-        .needed()
-        .within(0, LAST_DAY),
+    DAY,
 ];
 
 /// What a component is counted in.
@@ -280,9 +296,7 @@ pub fn event(kind: u8, market: u8) -> [Field; 10] {
     let most_impact = if matches!(kind, 3 | 4) { 0 } else { 1 };
     let [p, q, r] = words_of_event(kind, market);
     [
-        Field::new(("day", "day"), (8, 4), PLAIN)
-            .needed()
-            .within(0, LAST_DAY),
+        DAY,
         KIND,
         Field::new(("market", "market"), (1, 1), Form::Name(MARKETS))
             .needed()

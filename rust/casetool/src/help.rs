@@ -80,6 +80,7 @@ text is a record, or hours of the event above it; # begins a comment:
   event day 8000 kind withheld market day-ahead unit 12 period 44 impact 1
     hour 0 withheld 50.1 MW price $40.00
 
+A day is the number of days since 1 January 2000, or a date such as 2021-11-26.
 docs/FORMAT.md has every key.
 
   -o, --output FILE  writes to a file instead of standard output

@@ -174,7 +174,7 @@ fn other_ways_to_write() {
     );
     for text in [
         "unit 12 capability 500 group 7 average-price 50\r\n\
-         event unit 12 component 0 market 1 kind 4 period 44 day 8000\r\n\
+         event unit 12 component 0 market 1 kind 4 period 44 day 2021-11-26\r\n\
          \thours 5,6,7 bid -5\r\n",
         "\u{feff}event day 8000 kind bids market real-time unit 12 period 44 component energy # late\n\
          hour 6 bid -5.0\n  hours 5,7 bid -$5 price 0 quantity 0 MW\n\

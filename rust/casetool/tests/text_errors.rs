@@ -131,6 +131,10 @@ fn values() {
             "line 1, column 28, '256': expected energy to 255: the field has no room for more",
         ),
         (
+            "past group 1 kind fuel market 0 period 0 day 2021-02-29",
+            "line 1, column 46, '2021-02-29': expected a day number, from 0 on 1 January 2000, or a date such as 2021-11-26",
+        ),
+        (
             "past group 1 kind fuel market dayahead",
             "line 1, column 31, 'dayahead': expected one of day-ahead, real-time, or a number",
         ),
