@@ -76,20 +76,22 @@ fn figures(event: &Event<'_>, row: &Row) -> String {
         }
         text += &line("make-up", &dollars(row.make_up));
     } else {
-        text += &line("multiplier", &multiplier(row));
+        text += &line("multiplier", &multiplier(event.kind, row));
         text += &line("penalty", &dollars(row.penalty));
     }
     text
 }
 
-/// A multiplier from its halves, with the instances behind it where the event is one.
-fn multiplier(row: &Row) -> String {
+/// A multiplier from its halves, with the instances behind it, or why there is none.
+fn multiplier(kind: u8, row: &Row) -> String {
     let half = if row.multiplier % 2 == 1 { ".5" } else { "" };
-    let instances = match row.n3 {
-        0 => String::new(),
-        n3 => format!(" (N3 {n3}, N2 {})", row.n2),
+    let note = match (kind, row.multiplier) {
+        (1, 0) => " (no instance)".to_string(),
+        (1, _) => format!(" (N3 {}, N2 {})", row.n3, row.n2),
+        (3, 0) => " (the party-day's penalty stands on its lowest unit)".to_string(),
+        _ => String::new(),
     };
-    format!("{}{half}{instances}", row.multiplier / 2)
+    format!("{}{half}{note}", row.multiplier / 2)
 }
 
 /// The bids in force in the mitigated hours, neighbours that are alike together.

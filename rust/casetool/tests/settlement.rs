@@ -8,7 +8,7 @@ use cases::Row;
 use cases::generator::any_case;
 use casetool::amounts::{Measure, dollars};
 use casetool::{calendar, hours};
-use support::{casetool, file_with, repository};
+use support::{casetool, file_with, repository, written};
 
 fn example(name: &str) -> Vec<u8> {
     std::fs::read(repository(&format!("examples/{name}"))).expect("an example")
@@ -71,13 +71,18 @@ fn cents_of(dollars: &str) -> u64 {
     digits.parse().expect("cents")
 }
 
-/// Halves, N3 and N2 of a multiplier such as `1.5` or `1 (N3 2, N2 2)`.
+/// Halves, N3 and N2 of a multiplier such as `1.5` or `1 (N3 2, N2 2)`; other notes stand beside 0.
 fn multiplier_of(text: &str) -> (u16, u16, u16) {
-    let (multiplier, instances) = text.split_once(" (N3 ").unwrap_or((text, "0, N2 0)"));
-    let (n3, n2) = instances.split_once(", N2 ").expect("N2");
-    let (whole, half) = multiplier
-        .split_once(".5")
-        .map_or((multiplier, 0), |(whole, _)| (whole, 1));
+    let (multiplier, note) = text.split_once(" (").unwrap_or((text, ""));
+    let instances = note
+        .strip_prefix("N3 ")
+        .and_then(|rest| rest.split_once(", N2 "));
+    assert!(note.is_empty() || instances.is_some() || multiplier == "0");
+    let (n3, n2) = instances.unwrap_or(("0", "0"));
+    let (whole, half) = match multiplier.strip_suffix(".5") {
+        Some(whole) => (whole, 1),
+        None => (multiplier, 0),
+    };
     let number = |digits: &str| {
         digits
             .trim_end_matches(')')
@@ -111,6 +116,28 @@ fn mitigated_bids(row: &Row) -> Vec<(u32, i32)> {
         .filter(|hour| row.mitigated >> hour & 1 == 1)
         .map(|hour| (hour, row.bids[hour as usize]))
         .collect()
+}
+
+#[test]
+fn a_multiplier_of_0_has_its_reason() {
+    let case = written(
+        "unit 12 group 7 capability 500.0 MW\nunit 13 group 7 capability 500.0 MW\n\
+         event day 1 kind withheld market day-ahead unit 12 period 0\n  hour 0 withheld 50.1 MW\n\
+         event day 1 kind dispatch market real-time unit 12 period 0\n\
+         event day 1 kind fuel market day-ahead unit 12 period 0 guarantee-change $5000\n\
+         event day 1 kind fuel market day-ahead unit 13 period 0\n",
+    );
+    let ran = casetool(&["settle"], &case);
+    let multipliers: Vec<&str> = (0..4)
+        .map(|event| figure(&paragraph(ran.text(), event), "multiplier").expect("a multiplier"))
+        .collect();
+    let expected = [
+        "0 (no instance)",
+        "0",
+        "1",
+        "0 (the party-day's penalty stands on its lowest unit)",
+    ];
+    assert_eq!(multipliers, expected);
 }
 
 #[test]
