@@ -230,6 +230,8 @@ fn no_text() {
         (error.column, error.word.as_deref()),
         (9, Some("\\u{1}é\\u{a0}x"))
     );
+    let error = case_file("unit 12 é 5 é 6".as_bytes()).expect_err("a key twice");
+    assert_eq!((error.column, error.word.as_deref()), (13, Some("é")));
     let long = "x".repeat(100_000);
     let error = case_file(long.as_bytes()).expect_err("no record");
     assert_eq!(error.word.map(|word| word.chars().count()), Some(41));
