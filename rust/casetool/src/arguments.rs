@@ -45,6 +45,10 @@ pub struct Given {
     pub correction: Option<Source>,
     /// That what is written or shown is a correction.
     pub is_correction: bool,
+    /// The event of a working.
+    pub event: usize,
+    /// The hour of a working.
+    pub hour: usize,
 }
 
 /// The options and files of a command, as far as they are read.
@@ -54,6 +58,8 @@ struct Found {
     output: Option<PathBuf>,
     correction: Option<Source>,
     is_correction: bool,
+    event: Option<usize>,
+    hour: Option<usize>,
 }
 
 /// Reads a command line without the name of the program.
@@ -109,7 +115,7 @@ fn command(topic: Topic, arguments: &[OsString]) -> Result<Request, Misuse> {
         result.map_err(|problem| Misuse { problem, topic })?;
     }
     found
-        .given()
+        .given(topic)
         .map(|given| Request::Run(topic, given))
         .map_err(|problem| Misuse { problem, topic })
 }
@@ -126,6 +132,14 @@ impl Found {
             "--correction" if takes_text => flag(&mut self.is_correction, option),
             "--correction" => once(&mut self.correction, option, source(value(option, rest)?)),
             "-o" | "--output" => once(&mut self.output, option, value(option, rest)?.into()),
+            "--event" if topic == Topic::Working => {
+                let event = number(option, value(option, rest)?, usize::MAX)?;
+                once(&mut self.event, option, event)
+            }
+            "--hour" if topic == Topic::Working => {
+                let hour = number(option, value(option, rest)?, 23)?;
+                once(&mut self.hour, option, hour)
+            }
             _ => Err(format!("there is no option {}", shown(OsStr::new(option)))),
         }
     }
@@ -140,16 +154,24 @@ impl Found {
         }
     }
 
-    fn given(self) -> Result<Given, String> {
+    fn given(self, topic: Topic) -> Result<Given, String> {
         let source = self.source.unwrap_or(Source::Input);
         if source == Source::Input && self.correction == Some(Source::Input) {
             return Err("the case and the correction can't both be standard input".to_string());
+        }
+        if topic == Topic::Working && self.event.is_none() {
+            return Err("--event is missing".to_string());
+        }
+        if topic == Topic::Working && self.hour.is_none() {
+            return Err("--hour is missing".to_string());
         }
         Ok(Given {
             source,
             output: self.output,
             correction: self.correction,
             is_correction: self.is_correction,
+            event: self.event.unwrap_or(0),
+            hour: self.hour.unwrap_or(0),
         })
     }
 }
@@ -183,4 +205,17 @@ fn source(argument: &OsStr) -> Source {
         Some("-") => Source::Input,
         _ => Source::File(argument.into()),
     }
+}
+
+fn number(option: &str, argument: &OsStr, most: usize) -> Result<usize, String> {
+    let expected = match most {
+        usize::MAX => "a number from 0".to_string(),
+        most => format!("0 to {most}"),
+    };
+    argument
+        .to_str()
+        .filter(|digits| digits.bytes().all(|byte| byte.is_ascii_digit()))
+        .and_then(|digits| digits.parse().ok())
+        .filter(|&number| number <= most)
+        .ok_or_else(|| format!("{option} {}: expected {expected}", shown(argument)))
 }

@@ -2,19 +2,32 @@
 
 use std::io::{Read, Write};
 
-use attachment_h::{ROWS_LENGTH, check, settle};
+use attachment_h::{ROWS_LENGTH, check, settle, working};
 
 use crate::arguments::{Given, Source};
 use crate::blocks;
+use crate::event::Event;
 use crate::files;
 use crate::help::Topic;
 use crate::layout::{Section, Sections};
 use crate::refusal::describe;
 use crate::text_show;
 use crate::text_write;
+use crate::working::Hour;
 
-/// Why a command has no answer: the message for standard error.
-type Failure = String;
+/// Why a command has no answer.
+pub enum Failure {
+    /// The message for standard error.
+    Message(String),
+    /// It was asked for what its case does not have.
+    Misuse(String),
+}
+
+impl From<String> for Failure {
+    fn from(message: String) -> Failure {
+        Failure::Message(message)
+    }
+}
 
 /// What a command answers, and whether that is an acceptance.
 struct Answer {
@@ -44,17 +57,18 @@ pub fn run(
         None => Vec::new(),
     };
     let answer = match topic {
-        Topic::Write => write(&file, given),
-        Topic::Show => show(&file, given),
+        Topic::Write => write(&file, given).map_err(Failure::from),
+        Topic::Show => show(&file, given).map_err(Failure::from),
         Topic::Check => Ok(checked(&file, &correction)),
-        Topic::Settle => settled(&file, &correction),
+        Topic::Settle => settled(&file, &correction).map_err(Failure::from),
+        Topic::Working => worked(&file, &correction, given),
         Topic::Casetool => Ok(Answer::done(topic.text())),
     }?;
     files::write(&answer.bytes, given.output.as_deref(), output)?;
     Ok(answer.accepted)
 }
 
-fn write(text: &[u8], given: &Given) -> Result<Answer, Failure> {
+fn write(text: &[u8], given: &Given) -> Result<Answer, String> {
     let bytes = if given.is_correction {
         text_write::correction(text)
     } else {
@@ -72,7 +86,7 @@ fn name(source: &Source) -> String {
     }
 }
 
-fn show(file: &[u8], given: &Given) -> Result<Answer, Failure> {
+fn show(file: &[u8], given: &Given) -> Result<Answer, String> {
     let name = name(&given.source);
     if given.is_correction {
         let (bytes, most) = (
@@ -115,11 +129,32 @@ fn checked(file: &[u8], correction: &[u8]) -> Answer {
     }
 }
 
-fn settled(file: &[u8], correction: &[u8]) -> Result<Answer, Failure> {
+fn settled(file: &[u8], correction: &[u8]) -> Result<Answer, String> {
     let mut rows = vec![0; ROWS_LENGTH];
     let settled = settle(file, correction, &mut rows)
         .map_err(|refused| describe(refused, file, correction, ROWS_LENGTH))?;
     let sections = Sections::of(file)
         .ok_or("casetool finds no sections in this settled case, which is a mistake of casetool")?;
     Ok(Answer::done(blocks::settlement(&sections, &rows, &settled)))
+}
+
+fn worked(file: &[u8], correction: &[u8], given: &Given) -> Result<Answer, Failure> {
+    let mistake =
+        "casetool finds no such hour in this accepted case, which is a mistake of casetool";
+    check(file, correction, ROWS_LENGTH)
+        .map_err(|refused| describe(refused, file, correction, ROWS_LENGTH))?;
+    let sections = Sections::of(file).ok_or_else(|| mistake.to_string())?;
+    let Some(record) = sections.records(Section::Events).nth(given.event) else {
+        let count = Section::Events.count(sections.count(Section::Events));
+        let problem = format!("--event {}: this case has {count}, from 0", given.event);
+        return Err(Failure::Misuse(problem));
+    };
+    let hour = Hour {
+        number: given.event,
+        event: Event::of(record),
+        hour: given.hour,
+    };
+    let working = working(file, correction, given.event, given.hour)
+        .map_err(|refused| format!("{refused}: {mistake}"))?;
+    Ok(Answer::done(hour.text(&working)))
 }

@@ -13,11 +13,19 @@ pub enum Topic {
     Check,
     /// `casetool settle`.
     Settle,
+    /// `casetool working`.
+    Working,
 }
 
 impl Topic {
     /// The commands.
-    pub const COMMANDS: [Topic; 4] = [Topic::Write, Topic::Show, Topic::Check, Topic::Settle];
+    pub const COMMANDS: [Topic; 5] = [
+        Topic::Write,
+        Topic::Show,
+        Topic::Check,
+        Topic::Settle,
+        Topic::Working,
+    ];
 
     /// The name of a command; nothing for the tool.
     pub fn name(self) -> &'static str {
@@ -27,6 +35,7 @@ impl Topic {
             Topic::Show => "show",
             Topic::Check => "check",
             Topic::Settle => "settle",
+            Topic::Working => "working",
         }
     }
 
@@ -46,6 +55,7 @@ impl Topic {
             Topic::Show => SHOW,
             Topic::Check => CHECK,
             Topic::Settle => SETTLE,
+            Topic::Working => WORKING,
         }
     }
 }
@@ -57,6 +67,7 @@ casetool: cases of the Attachment H settlement, as text and in words
   casetool show     shows a case file as text
   casetool check    says whether a case is accepted, or what is wrong and where
   casetool settle   settles a case: a block for each plant, then the totals
+  casetool working  the pencil working of one hour of one event
 
 casetool COMMAND --help has the options of a command; casetool --version the version.
 A file that is - or left out is standard input; -o FILE takes the answer, otherwise it goes
@@ -121,6 +132,20 @@ file order, counted from 0: flagged hours, multiplier and penalty, or mitigated 
 force and make-up; then the totals. A refused case is described as by casetool check, on
 standard error.
 
+  --correction FILE  the correction of the case, as a file of casetool write --correction
+  -o, --output FILE  writes to a file instead of standard output
+  -h, --help         this help
+";
+
+const WORKING: &str = "\
+casetool working [CASE] --event N --hour H [--correction FILE] [-o FILE]
+
+The pencil working of one hour of one event: each comparison of its conduct test with both
+sides, the step that failed, and the figures behind it (a, r, d, S, G, N3, N2), all from the
+proved library. Events are counted from 0, as casetool settle and casetool show number them.
+
+  --event N          the event, from 0
+  --hour H           the hour, 0 to 23
   --correction FILE  the correction of the case, as a file of casetool write --correction
   -o, --output FILE  writes to a file instead of standard output
   -h, --help         this help

@@ -21,11 +21,13 @@ pub mod text_line;
 pub mod text_show;
 pub mod text_write;
 pub mod words;
+pub mod working;
 
 use std::ffi::OsString;
 use std::io::{Read, Write};
 
-use arguments::Request;
+use arguments::{Misuse, Request};
+use commands::Failure;
 
 /// Runs casetool on its arguments without the name of the program; the exit status: 0 done, 1
 /// refused, unreadable or no text of a case, 2 misuse.
@@ -37,11 +39,7 @@ pub fn run(
 ) -> u8 {
     let request = match arguments::read(arguments) {
         Ok(request) => request,
-        Err(misuse) => {
-            let help = misuse.topic.help_command();
-            say(errors, &format!("{}; see {help}", misuse.problem));
-            return 2;
-        }
+        Err(misuse) => return say_misuse(errors, misuse),
     };
     let result = match request {
         Request::Help(topic) => files::write(topic.text().as_bytes(), None, output).map(|()| true),
@@ -49,7 +47,11 @@ pub fn run(
             let version = format!("casetool {}\n", env!("CARGO_PKG_VERSION"));
             files::write(version.as_bytes(), None, output).map(|()| true)
         }
-        Request::Run(topic, given) => commands::run(topic, &given, input, output),
+        Request::Run(topic, given) => match commands::run(topic, &given, input, output) {
+            Ok(accepted) => Ok(accepted),
+            Err(Failure::Message(message)) => Err(message),
+            Err(Failure::Misuse(problem)) => return say_misuse(errors, Misuse { problem, topic }),
+        },
     };
     match result {
         Ok(accepted) => u8::from(!accepted),
@@ -58,6 +60,13 @@ pub fn run(
             1
         }
     }
+}
+
+/// Says what was misused and where help is; the exit status.
+fn say_misuse(errors: &mut dyn Write, misuse: Misuse) -> u8 {
+    let help = misuse.topic.help_command();
+    say(errors, &format!("{}; see {help}", misuse.problem));
+    2
 }
 
 /// Puts a message on standard error; there is nobody left to tell where that fails.

@@ -90,6 +90,49 @@ fn misuse() {
 }
 
 #[test]
+fn misuse_of_working() {
+    let case = written(
+        "unit 12 group 7 capability 1 MW\nevent day 1 kind fuel market day-ahead unit 12 period 0",
+    );
+    for (arguments, message) in [
+        (&[][..], "--event is missing"),
+        (&["--event", "0"], "--hour is missing"),
+        (&["--event", "0", "--hour"], "--hour needs a value after it"),
+        (
+            &["--event", "0", "--hour", "24"],
+            "--hour '24': expected 0 to 23",
+        ),
+        (
+            &["--event", "0", "--hour", "-1"],
+            "--hour '-1': expected 0 to 23",
+        ),
+        (
+            &["--event", "x", "--hour", "0"],
+            "--event 'x': expected a number from 0",
+        ),
+        (
+            &["--event", "", "--hour", "0"],
+            "--event '': expected a number from 0",
+        ),
+        (&["--event", "0", "--event", "0"], "--event is there twice"),
+        (
+            &["--event", "1", "--hour", "0"],
+            "--event 1: this case has 1 event, from 0",
+        ),
+    ] {
+        let ran = casetool(&[&["working"], arguments].concat(), &case);
+        assert_eq!((ran.status, ran.output.len()), (2, 0), "{arguments:?}");
+        assert_eq!(
+            ran.errors,
+            format!("casetool: {message}; see casetool working --help\n")
+        );
+    }
+    let refused = casetool(&["working", "--event", "0", "--hour", "0"], &case[..40]);
+    assert_eq!((refused.status, refused.output.len()), (1, 0));
+    assert!(refused.errors.starts_with("casetool: refused 4: "));
+}
+
+#[test]
 fn files_that_cannot_be_read_or_written() {
     for name in ["write", "show", "check", "settle"] {
         let ran = casetool(&[name, "/no/such/file"], b"");
