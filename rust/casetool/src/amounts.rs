@@ -1,0 +1,133 @@
+//! Amounts of the file as people write them: tenths of MW as MW, cents as dollars, exactly.
+
+/// What an amount is counted in.
+#[derive(Clone, Copy, Debug, PartialEq, Eq)]
+pub enum Measure {
+    /// A plain number.
+    Plain,
+    /// Dollars, in the file cents.
+    Dollars,
+    /// MW, in the file tenths.
+    Power,
+    /// MW a minute, in the file tenths.
+    Rate,
+    /// MWh, in the file tenths.
+    Energy,
+    /// Minutes.
+    Minutes,
+}
+
+/// The words that may stand after an amount.
+pub const MEASURE_WORDS: [&str; 4] = ["MW", "MW/min", "MWh", "minutes"];
+
+impl Measure {
+    /// The decimals that an amount may have.
+    pub fn decimals(self) -> usize {
+        match self {
+            Measure::Plain | Measure::Minutes => 0,
+            Measure::Dollars => 2,
+            Measure::Power | Measure::Rate | Measure::Energy => 1,
+        }
+    }
+
+    /// The word after the amount, if it has one.
+    pub fn word(self) -> Option<&'static str> {
+        match self {
+            Measure::Plain | Measure::Dollars => None,
+            Measure::Power => Some("MW"),
+            Measure::Rate => Some("MW/min"),
+            Measure::Energy => Some("MWh"),
+            Measure::Minutes => Some("minutes"),
+        }
+    }
+
+    /// What an amount looks like, for a message.
+    fn expected(self) -> &'static str {
+        match self {
+            Measure::Plain => "a whole number",
+            Measure::Dollars => "dollars with at most two decimals, such as $40.00",
+            Measure::Power => "MW with at most one decimal, such as 50.1 MW",
+            Measure::Rate => "MW a minute with at most one decimal, such as 10.0 MW/min",
+            Measure::Energy => "MWh with at most one decimal, such as 50.1 MWh",
+            Measure::Minutes => "whole minutes, such as 180 minutes",
+        }
+    }
+
+    /// The value of the file in the text form: `$40.00`, `50.1 MW`.
+    pub fn text(self, value: i64) -> String {
+        self.with_digits(value, |digits| digits)
+    }
+
+    /// The value of the file for people, with a comma before every three digits: `$2,004.00`.
+    pub fn spoken(self, value: i64) -> String {
+        self.with_digits(value, |digits| grouped(&digits))
+    }
+
+    fn with_digits(self, value: i64, shape: impl Fn(String) -> String) -> String {
+        let decimals = self.decimals();
+        let digits = format!("{:0width$}", value.unsigned_abs(), width = decimals + 1);
+        let (whole, part) = digits.split_at(digits.len() - decimals);
+        let sign = if value < 0 { "-" } else { "" };
+        let dollar = if self == Measure::Dollars { "$" } else { "" };
+        let point = if decimals == 0 { "" } else { "." };
+        let word = self.word().map_or(String::new(), |word| format!(" {word}"));
+        format!(
+            "{sign}{dollar}{}{point}{part}{word}",
+            shape(whole.to_string())
+        )
+    }
+
+    /// Reads an amount without its word: the value of the file, or what was expected.
+    pub fn read(self, text: &str) -> Result<i64, String> {
+        self.value(text)
+            .ok_or_else(|| format!("expected {}", self.expected()))
+    }
+
+    fn value(self, text: &str) -> Option<i64> {
+        let (negative, text) = match text.strip_prefix('-') {
+            Some(rest) => (true, rest),
+            None => (false, text),
+        };
+        let text = match text.strip_prefix('$') {
+            Some(rest) if self == Measure::Dollars => rest,
+            _ => text,
+        };
+        let (whole, part) = match text.split_once('.') {
+            Some((_, "")) => return None,
+            Some(parts) => parts,
+            None => (text, ""),
+        };
+        let all_digits = whole
+            .bytes()
+            .chain(part.bytes())
+            .all(|byte| byte.is_ascii_digit());
+        if whole.is_empty() || !all_digits || part.len() > self.decimals() {
+            return None;
+        }
+        let zeros = "0".repeat(self.decimals() - part.len());
+        let value: i64 = format!("{whole}{part}{zeros}").parse().ok()?;
+        Some(if negative { -value } else { value })
+    }
+}
+
+/// Digits with a comma before every three.
+fn grouped(digits: &str) -> String {
+    let mut text = String::new();
+    for (place, digit) in digits.chars().enumerate() {
+        if place > 0 && (digits.len() - place).is_multiple_of(3) {
+            text.push(',');
+        }
+        text.push(digit);
+    }
+    text
+}
+
+/// A number with a comma before every three digits.
+pub fn number(value: u64) -> String {
+    grouped(&value.to_string())
+}
+
+/// Cents as dollars, such as `$2,004.00`.
+pub fn dollars(cents: u64) -> String {
+    format!("${}.{:02}", number(cents / 100), cents % 100)
+}

@@ -1,0 +1,221 @@
+//! The command line.
+
+use std::ffi::{OsStr, OsString};
+use std::path::PathBuf;
+
+use crate::help::Topic;
+
+/// A command line that casetool does not take: what is wrong, and whose help to read.
+#[derive(Clone, Debug, PartialEq, Eq)]
+pub struct Misuse {
+    /// What is wrong.
+    pub problem: String,
+    /// The command it was given to.
+    pub topic: Topic,
+}
+
+/// Where bytes come from.
+#[derive(Clone, Debug, PartialEq, Eq)]
+pub enum Source {
+    /// Standard input.
+    Input,
+    /// A file.
+    File(PathBuf),
+}
+
+/// What casetool is asked for.
+#[derive(Clone, Debug, PartialEq, Eq)]
+pub enum Request {
+    /// The help of a command.
+    Help(Topic),
+    /// The version.
+    Version,
+    /// A command with what was given to it.
+    Run(Topic, Given),
+}
+
+/// What was given to a command.
+#[derive(Clone, Debug, PartialEq, Eq)]
+pub struct Given {
+    /// The case, the text or the correction that is read.
+    pub source: Source,
+    /// Where the answer goes; nothing for standard output.
+    pub output: Option<PathBuf>,
+    /// The correction to settle with.
+    pub correction: Option<Source>,
+    /// That what is written or shown is a correction.
+    pub is_correction: bool,
+    /// The event of a working.
+    pub event: usize,
+    /// The hour of a working.
+    pub hour: usize,
+}
+
+/// The options and files of a command, as far as they are read.
+#[derive(Default)]
+struct Found {
+    source: Option<Source>,
+    output: Option<PathBuf>,
+    correction: Option<Source>,
+    is_correction: bool,
+    event: Option<usize>,
+    hour: Option<usize>,
+}
+
+/// Reads a command line without the name of the program.
+pub fn read(arguments: &[OsString]) -> Result<Request, Misuse> {
+    let misuse = |problem: String| Misuse {
+        problem,
+        topic: Topic::Casetool,
+    };
+    let Some(first) = arguments.first() else {
+        return Err(misuse("a command is missing".to_string()));
+    };
+    let rest = &arguments[1..];
+    match first.to_str() {
+        Some("-h" | "--help") => Ok(Request::Help(Topic::Casetool)),
+        Some("-V" | "--version") => Ok(Request::Version),
+        Some("help") => match rest.first() {
+            None => Ok(Request::Help(Topic::Casetool)),
+            Some(name) => topic(name).map(Request::Help).map_err(misuse),
+        },
+        _ => command(topic(first).map_err(misuse)?, rest),
+    }
+}
+
+/// The command of this name.
+fn topic(name: &OsStr) -> Result<Topic, String> {
+    Topic::COMMANDS
+        .into_iter()
+        .find(|topic| name.to_str() == Some(topic.name()))
+        .ok_or_else(|| format!("there is no command {}", shown(name)))
+}
+
+fn shown(argument: &OsStr) -> String {
+    format!("'{}'", argument.to_string_lossy().escape_debug())
+}
+
+/// Reads the arguments of a command.
+fn command(topic: Topic, arguments: &[OsString]) -> Result<Request, Misuse> {
+    let mut found = Found::default();
+    let mut arguments = arguments.iter();
+    let mut only_files = false;
+    while let Some(argument) = arguments.next() {
+        let result = match argument.to_str() {
+            Some("-h" | "--help") if !only_files => return Ok(Request::Help(topic)),
+            Some("--") if !only_files => {
+                only_files = true;
+                Ok(())
+            }
+            Some(option) if !only_files && option.starts_with('-') && option != "-" => {
+                found.option(topic, option, &mut arguments)
+            }
+            _ => found.file(argument),
+        };
+        result.map_err(|problem| Misuse { problem, topic })?;
+    }
+    found
+        .given(topic)
+        .map(|given| Request::Run(topic, given))
+        .map_err(|problem| Misuse { problem, topic })
+}
+
+impl Found {
+    fn option<'a>(
+        &mut self,
+        topic: Topic,
+        option: &str,
+        rest: &mut impl Iterator<Item = &'a OsString>,
+    ) -> Result<(), String> {
+        let takes_text = matches!(topic, Topic::Write | Topic::Show);
+        match option {
+            "--correction" if takes_text => flag(&mut self.is_correction, option),
+            "--correction" => once(&mut self.correction, option, source(value(option, rest)?)),
+            "-o" | "--output" => once(&mut self.output, option, value(option, rest)?.into()),
+            "--event" if topic == Topic::Working => {
+                let event = number(option, value(option, rest)?, usize::MAX)?;
+                once(&mut self.event, option, event)
+            }
+            "--hour" if topic == Topic::Working => {
+                let hour = number(option, value(option, rest)?, 23)?;
+                once(&mut self.hour, option, hour)
+            }
+            _ => Err(format!("there is no option {}", shown(OsStr::new(option)))),
+        }
+    }
+
+    fn file(&mut self, argument: &OsStr) -> Result<(), String> {
+        match self.source {
+            None => {
+                self.source = Some(source(argument));
+                Ok(())
+            }
+            Some(_) => Err(format!("one file too many, {}", shown(argument))),
+        }
+    }
+
+    fn given(self, topic: Topic) -> Result<Given, String> {
+        let source = self.source.unwrap_or(Source::Input);
+        if source == Source::Input && self.correction == Some(Source::Input) {
+            return Err("the case and the correction can't both be standard input".to_string());
+        }
+        if topic == Topic::Working && self.event.is_none() {
+            return Err("--event is missing".to_string());
+        }
+        if topic == Topic::Working && self.hour.is_none() {
+            return Err("--hour is missing".to_string());
+        }
+        Ok(Given {
+            source,
+            output: self.output,
+            correction: self.correction,
+            is_correction: self.is_correction,
+            event: self.event.unwrap_or(0),
+            hour: self.hour.unwrap_or(0),
+        })
+    }
+}
+
+fn once<T>(place: &mut Option<T>, option: &str, value: T) -> Result<(), String> {
+    match place.replace(value) {
+        None => Ok(()),
+        Some(_) => Err(format!("{option} is there twice")),
+    }
+}
+
+fn flag(place: &mut bool, option: &str) -> Result<(), String> {
+    if *place {
+        return Err(format!("{option} is there twice"));
+    }
+    *place = true;
+    Ok(())
+}
+
+fn value<'a>(
+    option: &str,
+    rest: &mut impl Iterator<Item = &'a OsString>,
+) -> Result<&'a OsStr, String> {
+    rest.next()
+        .map(OsString::as_os_str)
+        .ok_or_else(|| format!("{option} needs a value after it"))
+}
+
+fn source(argument: &OsStr) -> Source {
+    match argument.to_str() {
+        Some("-") => Source::Input,
+        _ => Source::File(argument.into()),
+    }
+}
+
+fn number(option: &str, argument: &OsStr, most: usize) -> Result<usize, String> {
+    let expected = match most {
+        usize::MAX => "a number from 0".to_string(),
+        most => format!("0 to {most}"),
+    };
+    argument
+        .to_str()
+        .filter(|digits| digits.bytes().all(|byte| byte.is_ascii_digit()))
+        .and_then(|digits| digits.parse().ok())
+        .filter(|&number| number <= most)
+        .ok_or_else(|| format!("{option} {}: expected {expected}", shown(argument)))
+}

@@ -1,0 +1,160 @@
+//! The commands.
+
+use std::io::{Read, Write};
+
+use attachment_h::{ROWS_LENGTH, check, settle, working};
+
+use crate::arguments::{Given, Source};
+use crate::blocks;
+use crate::event::Event;
+use crate::files;
+use crate::help::Topic;
+use crate::layout::{Section, Sections};
+use crate::refusal::describe;
+use crate::text_show;
+use crate::text_write;
+use crate::working::Hour;
+
+/// Why a command has no answer.
+pub enum Failure {
+    /// The message for standard error.
+    Message(String),
+    /// It was asked for what its case does not have.
+    Misuse(String),
+}
+
+impl From<String> for Failure {
+    fn from(message: String) -> Failure {
+        Failure::Message(message)
+    }
+}
+
+/// What a command answers, and whether that is an acceptance.
+struct Answer {
+    bytes: Vec<u8>,
+    accepted: bool,
+}
+
+impl Answer {
+    fn done(bytes: impl Into<Vec<u8>>) -> Answer {
+        Answer {
+            bytes: bytes.into(),
+            accepted: true,
+        }
+    }
+}
+
+/// Runs a command and writes its answer; whether it was done and, of a check, accepted.
+pub fn run(
+    topic: Topic,
+    given: &Given,
+    input: &mut dyn Read,
+    output: &mut dyn Write,
+) -> Result<bool, Failure> {
+    let file = files::read(&given.source, input)?;
+    let correction = match &given.correction {
+        Some(source) => files::read(source, input)?,
+        None => Vec::new(),
+    };
+    let answer = match topic {
+        Topic::Write => write(&file, given).map_err(Failure::from),
+        Topic::Show => show(&file, given).map_err(Failure::from),
+        Topic::Check => Ok(checked(&file, &correction)),
+        Topic::Settle => settled(&file, &correction).map_err(Failure::from),
+        Topic::Working => worked(&file, &correction, given),
+        Topic::Casetool => Ok(Answer::done(topic.text())),
+    }?;
+    files::write(&answer.bytes, given.output.as_deref(), output)?;
+    Ok(answer.accepted)
+}
+
+fn write(text: &[u8], given: &Given) -> Result<Answer, String> {
+    let bytes = if given.is_correction {
+        text_write::correction(text)
+    } else {
+        text_write::case_file(text)
+    };
+    bytes
+        .map(Answer::done)
+        .map_err(|error| format!("{}: {error}", name(&given.source)))
+}
+
+fn name(source: &Source) -> String {
+    match source {
+        Source::Input => "standard input".to_string(),
+        Source::File(path) => path.display().to_string(),
+    }
+}
+
+fn show(file: &[u8], given: &Given) -> Result<Answer, String> {
+    let name = name(&given.source);
+    if given.is_correction {
+        let (bytes, most) = (
+            Section::References.record_bytes(),
+            Section::References.most(),
+        );
+        if !file.len().is_multiple_of(bytes) || file.len() / bytes > most {
+            return Err(format!(
+                "{name}: no correction: it has {} bytes; expected a multiple of {bytes}, at most {}",
+                file.len(),
+                bytes * most
+            ));
+        }
+        return Ok(Answer::done(text_show::correction_text(file)));
+    }
+    match (Sections::of(file), check(file, &[], ROWS_LENGTH)) {
+        (Some(sections), _) => Ok(Answer::done(text_show::case_text(&sections))),
+        (None, Err(refused)) => {
+            let refusal = describe(refused, file, &[], ROWS_LENGTH);
+            Err(format!(
+                "{name}: this file has no sections to show\n{refusal}"
+            ))
+        }
+        (None, Ok(())) => Err(format!(
+            "{name}: casetool finds no sections in this accepted case, which is a mistake of casetool"
+        )),
+    }
+}
+
+fn checked(file: &[u8], correction: &[u8]) -> Answer {
+    match check(file, correction, ROWS_LENGTH) {
+        Ok(()) => {
+            let events = Sections::of(file).map_or(0, |sections| sections.count(Section::Events));
+            Answer::done(format!("accepted, {}\n", Section::Events.count(events)))
+        }
+        Err(refused) => Answer {
+            bytes: describe(refused, file, correction, ROWS_LENGTH).into(),
+            accepted: false,
+        },
+    }
+}
+
+fn settled(file: &[u8], correction: &[u8]) -> Result<Answer, String> {
+    let mut rows = vec![0; ROWS_LENGTH];
+    let settled = settle(file, correction, &mut rows)
+        .map_err(|refused| describe(refused, file, correction, ROWS_LENGTH))?;
+    let sections = Sections::of(file)
+        .ok_or("casetool finds no sections in this settled case, which is a mistake of casetool")?;
+    Ok(Answer::done(blocks::settlement(&sections, &rows, &settled)))
+}
+
+fn worked(file: &[u8], correction: &[u8], given: &Given) -> Result<Answer, Failure> {
+    let mistake =
+        "casetool finds no such hour in this accepted case, which is a mistake of casetool";
+    check(file, correction, ROWS_LENGTH)
+        .map_err(|refused| describe(refused, file, correction, ROWS_LENGTH))?;
+    let sections = Sections::of(file).ok_or_else(|| mistake.to_string())?;
+    let Some(record) = sections.records(Section::Events).nth(given.event) else {
+        let count = Section::Events.count(sections.count(Section::Events));
+        let problem = format!("--event {}: this case has {count}, from 0", given.event);
+        return Err(Failure::Misuse(problem));
+    };
+    let hour = Hour {
+        number: given.event,
+        event: Event::of(record),
+        hour: given.hour,
+    };
+    let working = working(file, correction, given.event, given.hour)
+        .map_err(|refused| format!("{refused}: {mistake}"))?;
+    Ok(Answer::done(hour.text(&working)))
+}

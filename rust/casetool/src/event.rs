@@ -1,0 +1,73 @@
+//! What an event is known by: day, kind, market, unit and component.
+
+use std::fmt;
+
+use crate::layout::{u16_at, u32_at};
+use crate::words;
+
+/// An event record with the fields that events are sorted by.
+#[derive(Clone, Copy, Debug)]
+pub struct Event<'a> {
+    /// The 312 bytes.
+    pub record: &'a [u8],
+    /// The day number.
+    pub day: u32,
+    /// The kind number.
+    pub kind: u8,
+    /// The market number.
+    pub market: u8,
+    /// The unit number.
+    pub unit: u16,
+    /// The component number.
+    pub component: u8,
+}
+
+impl<'a> Event<'a> {
+    /// The event of a record.
+    pub fn of(record: &'a [u8]) -> Event<'a> {
+        Event {
+            record,
+            day: u32_at(record, 8),
+            kind: record[0],
+            market: record[1],
+            unit: u16_at(record, 2),
+            component: record[6],
+        }
+    }
+
+    /// What events rise strictly by.
+    pub fn order(&self) -> (u32, u8, u8, u16, u8) {
+        (self.day, self.kind, self.market, self.unit, self.component)
+    }
+
+    /// The first part of the order that is another than in an event, with its offset; the last
+    /// part where all are the same.
+    pub fn first_difference(&self, other: &Event<'_>) -> (&'static str, usize) {
+        if self.day != other.day {
+            ("day", 8)
+        } else if self.kind != other.kind {
+            ("kind", 0)
+        } else if self.market != other.market {
+            ("market", 1)
+        } else if self.unit != other.unit {
+            ("unit", 2)
+        } else {
+            ("component", 6)
+        }
+    }
+}
+
+impl fmt::Display for Event<'_> {
+    fn fmt(&self, formatter: &mut fmt::Formatter<'_>) -> fmt::Result {
+        let (kind, market) = (words::kind(self.kind), words::market(self.market));
+        write!(
+            formatter,
+            "day {}, {kind}, {market}, unit {}",
+            self.day, self.unit
+        )?;
+        if self.kind == 4 || self.component != 0 {
+            write!(formatter, ", {}", words::component(self.component))?;
+        }
+        Ok(())
+    }
+}

@@ -1,0 +1,51 @@
+//! Reading what a command is given and writing its answer.
+
+use std::fs::{self, File};
+use std::io::{self, ErrorKind, Read, Write};
+use std::path::Path;
+
+use crate::amounts;
+use crate::arguments::Source;
+
+/// The most bytes that are read: far more than a case or its text can have.
+const MOST_BYTES: u64 = 16 << 20;
+
+/// All bytes of a source, or what went wrong.
+pub fn read(source: &Source, input: &mut dyn Read) -> Result<Vec<u8>, String> {
+    let (name, bytes) = match source {
+        Source::Input => ("standard input".to_string(), all(input)),
+        Source::File(path) => {
+            let name = path.display().to_string();
+            let bytes = File::open(path).and_then(|mut file| all(&mut file));
+            (name, bytes)
+        }
+    };
+    let bytes = bytes.map_err(|error| format!("can't read {name}: {error}"))?;
+    if bytes.len() as u64 > MOST_BYTES {
+        let most = amounts::number(MOST_BYTES);
+        return Err(format!(
+            "{name} has more than {most} bytes: that is no case"
+        ));
+    }
+    Ok(bytes)
+}
+
+fn all(from: &mut dyn Read) -> io::Result<Vec<u8>> {
+    let mut bytes = Vec::new();
+    from.take(MOST_BYTES + 1).read_to_end(&mut bytes)?;
+    Ok(bytes)
+}
+
+/// Writes an answer to a file or to standard output. A reader of the output that has gone away is
+/// no mistake.
+pub fn write(answer: &[u8], path: Option<&Path>, output: &mut dyn Write) -> Result<(), String> {
+    let Some(path) = path else {
+        return match output.write_all(answer).and_then(|()| output.flush()) {
+            Err(error) if error.kind() != ErrorKind::BrokenPipe => {
+                Err(format!("can't write standard output: {error}"))
+            }
+            _ => Ok(()),
+        };
+    };
+    fs::write(path, answer).map_err(|error| format!("can't write {}: {error}", path.display()))
+}

@@ -1,0 +1,152 @@
+//! What `--help` prints.
+
+/// What help is about.
+#[derive(Clone, Copy, Debug, PartialEq, Eq)]
+pub enum Topic {
+    /// The tool as a whole.
+    Casetool,
+    /// `casetool write`.
+    Write,
+    /// `casetool show`.
+    Show,
+    /// `casetool check`.
+    Check,
+    /// `casetool settle`.
+    Settle,
+    /// `casetool working`.
+    Working,
+}
+
+impl Topic {
+    /// The commands.
+    pub const COMMANDS: [Topic; 5] = [
+        Topic::Write,
+        Topic::Show,
+        Topic::Check,
+        Topic::Settle,
+        Topic::Working,
+    ];
+
+    /// The name of a command; nothing for the tool.
+    pub fn name(self) -> &'static str {
+        match self {
+            Topic::Casetool => "",
+            Topic::Write => "write",
+            Topic::Show => "show",
+            Topic::Check => "check",
+            Topic::Settle => "settle",
+            Topic::Working => "working",
+        }
+    }
+
+    /// What to type for help.
+    pub fn help_command(self) -> String {
+        match self {
+            Topic::Casetool => "casetool --help".to_string(),
+            command => format!("casetool {} --help", command.name()),
+        }
+    }
+
+    /// The help.
+    pub fn text(self) -> &'static str {
+        match self {
+            Topic::Casetool => CASETOOL,
+            Topic::Write => WRITE,
+            Topic::Show => SHOW,
+            Topic::Check => CHECK,
+            Topic::Settle => SETTLE,
+            Topic::Working => WORKING,
+        }
+    }
+}
+
+const CASETOOL: &str = "\
+casetool: cases of the Attachment H settlement, as text and in words
+
+  casetool write    makes a case file of a text
+  casetool show     shows a case file as text
+  casetool check    says whether a case is accepted, or what is wrong and where
+  casetool settle   settles a case: a block for each plant, then the totals
+  casetool working  the pencil working of one hour of one event
+
+casetool COMMAND --help has the options of a command; casetool --version the version.
+A file that is - or left out is standard input; -o FILE takes the answer, otherwise it goes
+to standard output. Events and other records are counted from 0, hours from 0 to 23.
+Every figure comes from the proved library. The text form is in docs/FORMAT.md.
+
+Exit status: 0 done, 1 refused, unreadable or not text of a case, 2 misuse.
+";
+
+const WRITE: &str = "\
+casetool write [TEXT] [-o CASE]
+casetool write --correction [TEXT] [-o CORRECTION]
+
+Makes a case file of a text, or a correction, which has references alone. Limits are not
+checked, only that every value has room in its field: casetool check does that. A line of the
+text is a record, or hours of the event above it; # begins a comment:
+
+  unit 12 group 7 capability 500.0 MW
+  reference unit 12 component energy value $20.00
+  past group 7 kind withheld market day-ahead period 43 day 7800
+  event day 8000 kind withheld market day-ahead unit 12 period 44 impact 1
+    hour 0 withheld 50.1 MW price $40.00
+
+A day is the number of days since 1 January 2000, or a date such as 2021-11-26.
+docs/FORMAT.md has every key.
+
+  -o, --output FILE  writes to a file instead of standard output
+  --correction       the text is that of a correction
+  -h, --help         this help
+";
+
+const SHOW: &str = "\
+casetool show [CASE] [-o TEXT]
+casetool show --correction [CORRECTION] [-o TEXT]
+
+Shows a case file, or a correction, as text. casetool write makes the same file of it, byte for
+byte. A case that breaks limits of its fields is shown too; one whose header has no four
+sections of whole records (numbers 1 to 5) can't be.
+
+  -o, --output FILE  writes to a file instead of standard output
+  --correction       the file is a correction
+  -h, --help         this help
+";
+
+const CHECK: &str = "\
+casetool check [CASE] [--correction FILE] [-o FILE]
+
+Checks a case by the proved library. An accepted case is answered with the number of its events
+and status 0; a refused one with its number, what that means, and the first record and field
+that break it, and status 1. Records are counted from 0.
+
+  --correction FILE  the correction of the case, as a file of casetool write --correction
+  -o, --output FILE  writes to a file instead of standard output
+  -h, --help         this help
+";
+
+const SETTLE: &str = "\
+casetool settle [CASE] [--correction FILE] [-o FILE]
+
+Settles a case by the proved library and prints a block for each plant, with its events in
+file order, counted from 0: flagged hours, multiplier and penalty, or mitigated hours, bids in
+force and make-up; then the totals. A refused case is described as by casetool check, on
+standard error.
+
+  --correction FILE  the correction of the case, as a file of casetool write --correction
+  -o, --output FILE  writes to a file instead of standard output
+  -h, --help         this help
+";
+
+const WORKING: &str = "\
+casetool working [CASE] --event N --hour H [--correction FILE] [-o FILE]
+
+The pencil working of one hour of one event: each comparison of its conduct test with both
+sides, the step that failed, and the figures behind it (a, r, d, S, G, N3, N2), all from the
+proved library. Events are counted from 0, as casetool settle and casetool show number them.
+
+  --event N          the event, from 0
+  --hour H           the hour, 0 to 23
+  --correction FILE  the correction of the case, as a file of casetool write --correction
+  -o, --output FILE  writes to a file instead of standard output
+  -h, --help         this help
+";

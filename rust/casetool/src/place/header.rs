@@ -1,0 +1,90 @@
+//! Numbers 1 to 5: the length, the header and its pairs.
+
+use super::{Part, Place};
+use crate::amounts;
+use crate::layout::{HEADER_BYTES, Section, pair, u16_at};
+
+fn place(at: usize, sentence: String) -> Place {
+    Place {
+        part: Part::Header,
+        record: 0,
+        at,
+        sentence,
+    }
+}
+
+/// Number 1: the length of the file.
+pub fn length(file: &[u8]) -> Place {
+    let length = amounts::number(file.len() as u64);
+    place(
+        0,
+        format!("the file: its length is {length} bytes; expected 36 to 65,000"),
+    )
+}
+
+/// Numbers 2 and 3: the version and the section count.
+pub fn fixed(file: &[u8], number: u8) -> Option<Place> {
+    let (name, at, right) = match number {
+        2 => ("version", 0, 1),
+        _ => ("section count", 2, 4),
+    };
+    let value = u16_at(file.get(..HEADER_BYTES)?, at);
+    let mut sentence = format!("the header: {name} is {value}; expected {right}");
+    if number == 2 && looks_like_text(file) {
+        sentence.push_str("\nthis file looks like text: casetool write makes a case file of it");
+    }
+    (value != right).then(|| place(at, sentence))
+}
+
+fn looks_like_text(file: &[u8]) -> bool {
+    let start = &file[..file.len().min(HEADER_BYTES)];
+    start
+        .iter()
+        .all(|byte| byte.is_ascii_graphic() || byte.is_ascii_whitespace())
+}
+
+/// Number 4: the first pair that doesn't follow on, or the end of the last.
+pub fn pairs(file: &[u8]) -> Option<Place> {
+    let mut end = HEADER_BYTES as u64;
+    let mut before = "the header ends".to_string();
+    for section in Section::ALL {
+        file.get(..HEADER_BYTES)?;
+        let (offset, length) = pair(file, section);
+        let name = section.name();
+        if offset != end {
+            let sentence =
+                format!("the header: the offset of {name} is {offset}; {before} at {end}");
+            return Some(place(4 + 8 * section as usize, sentence));
+        }
+        end = offset + length;
+        before = format!("the section before it, {name}, ends");
+    }
+    let length = file.len() as u64;
+    let sentence =
+        format!("the header: the last section, events, ends at {end}; the file at {length}");
+    (end != length).then(|| place(32, sentence))
+}
+
+/// Number 5: the first section of no whole number of records, or of too many.
+pub fn sections(file: &[u8]) -> Option<Place> {
+    file.get(..HEADER_BYTES)?;
+    for section in Section::ALL {
+        let length = pair(file, section).1;
+        let (name, bytes) = (section.name(), section.record_bytes() as u64);
+        let at = 8 + 8 * section as usize;
+        if !length.is_multiple_of(bytes) {
+            let sentence = format!(
+                "the header: the length of {name} is {length}; expected a multiple of {bytes}"
+            );
+            return Some(place(at, sentence));
+        }
+        let (count, most) = (length / bytes, section.most());
+        if count > most as u64 {
+            let sentence = format!(
+                "the header: the length of {name} is {length}, {count} records; expected at most {most}"
+            );
+            return Some(place(at, sentence));
+        }
+    }
+    None
+}

@@ -1,0 +1,82 @@
+//! The words of document 01 for kinds, markets and components.
+
+/// Words that stand for the numbers from `first` on.
+#[derive(Clone, Copy, Debug, PartialEq, Eq)]
+pub struct Names {
+    first: u8,
+    words: &'static [&'static str],
+}
+
+/// The kinds, 1 to 4.
+pub const KINDS: Names = Names {
+    first: 1,
+    words: &["withheld", "dispatch", "fuel", "bids"],
+};
+
+/// The markets, 0 and 1.
+pub const MARKETS: Names = Names {
+    first: 0,
+    words: &["day-ahead", "real-time"],
+};
+
+/// The components, 0 to 8.
+pub const COMPONENTS: Names = Names {
+    first: 0,
+    words: &[
+        "energy",
+        "minimum-generation",
+        "reserve-or-regulation",
+        "start-up-cost",
+        "start-up-time",
+        "minimum-run-time",
+        "minimum-down-time",
+        "minimum-parameter",
+        "maximum-parameter",
+    ],
+};
+
+impl Names {
+    /// The word of a number, if it has one.
+    pub fn word(&self, number: i64) -> Option<&'static str> {
+        let place = number.checked_sub(i64::from(self.first))?;
+        self.words.get(usize::try_from(place).ok()?).copied()
+    }
+
+    /// The number of a word.
+    pub fn number(&self, word: &str) -> Option<i64> {
+        let place = self.words.iter().position(|&known| known == word)?;
+        Some(place as i64 + i64::from(self.first))
+    }
+
+    /// All the words, for a message.
+    pub fn all(&self) -> String {
+        self.words.join(", ")
+    }
+}
+
+/// A kind in a sentence.
+pub fn kind(number: u8) -> String {
+    spoken(&KINDS, "kind", number)
+}
+
+/// A market in a sentence, as the tariff writes it.
+pub fn market(number: u8) -> String {
+    match number {
+        0 => "Day-Ahead".to_string(),
+        1 => "Real-Time".to_string(),
+        _ => format!("market {number}"),
+    }
+}
+
+/// A component in a sentence.
+pub fn component(number: u8) -> String {
+    spoken(&COMPONENTS, "component", number)
+        .replace('-', " ")
+        .replace("start up", "start-up")
+}
+
+fn spoken(names: &Names, what: &str, number: u8) -> String {
+    names
+        .word(i64::from(number))
+        .map_or_else(|| format!("{what} {number}"), str::to_string)
+}

@@ -1,0 +1,86 @@
+//! The commands of README.md's "A case from text to listing", run as they stand: what they print is
+//! what stands under them.
+
+mod support;
+
+use std::fs;
+use std::path::{Path, PathBuf};
+use std::process::Command;
+
+use support::repository;
+
+/// A command of the README and the lines under it.
+struct Shown {
+    command: String,
+    output: String,
+}
+
+/// The commands of a section, each after a `$` in an indented block.
+fn shown(readme: &str) -> Vec<Shown> {
+    let start = readme
+        .find("## A case from text to listing")
+        .expect("the section");
+    let section = &readme[start..];
+    let end = section[3..]
+        .find("\n## ")
+        .map_or(section.len(), |end| end + 3);
+    let mut found: Vec<Shown> = Vec::new();
+    let mut open = false;
+    for line in section[..end].lines() {
+        if let Some(command) = line.strip_prefix("    $ ") {
+            let command = command.to_string();
+            let output = String::new();
+            found.push(Shown { command, output });
+            open = true;
+        } else if open && (line.is_empty() || line.starts_with("    ")) {
+            let last = found.last_mut().expect("an open command");
+            last.output += line.strip_prefix("    ").unwrap_or(line);
+            last.output += "\n";
+        } else {
+            open = false;
+        }
+    }
+    found
+}
+
+/// A folder that looks like the repository: the examples, and the program listing where it is built.
+fn folder() -> PathBuf {
+    let folder = Path::new(env!("CARGO_TARGET_TMPDIR")).join("readme");
+    let _ = fs::remove_dir_all(&folder);
+    for name in ["examples", "target/bin"] {
+        fs::create_dir_all(folder.join(name)).expect("a folder of the test");
+    }
+    for name in [
+        "examples/two-plants.txt",
+        "examples/two-plants-correction.txt",
+        "target/bin/listing",
+    ] {
+        let copied = fs::copy(repository(name), folder.join(name));
+        assert!(copied.is_ok() || name == "target/bin/listing", "{name}");
+    }
+    folder
+}
+
+#[test]
+fn commands_print_what_the_readme_shows() {
+    let readme = fs::read_to_string(repository("README.md")).expect("the README");
+    let folder = folder();
+    let shown = shown(&readme);
+    for Shown { command, output } in &shown {
+        if command.contains("target/bin/listing") && !folder.join("target/bin/listing").exists() {
+            println!("target/bin/listing is not built: not run");
+            continue;
+        }
+        let program = format!("'{}'", env!("CARGO_BIN_EXE_casetool"));
+        let ran = Command::new("sh")
+            .args(["-c", &command.replace("sh scripts/casetool", &program)])
+            .current_dir(&folder)
+            .output()
+            .expect("a shell");
+        assert_eq!(String::from_utf8_lossy(&ran.stderr), "", "{command}");
+        let printed = String::from_utf8(ran.stdout).expect("text");
+        assert_eq!(printed.trim_end(), output.trim_end(), "{command}");
+    }
+    println!("{} commands of README.md", shown.len());
+    assert!(shown.len() >= 6);
+}

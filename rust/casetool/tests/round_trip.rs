@@ -1,0 +1,188 @@
+//! From file to text and back, byte for byte: generated cases, faulty ones whose sections can be
+//! read, sections of noise, and corrections. Then texts that people may write, and their own text.
+
+mod support;
+
+use cases::Random;
+use cases::case::{Input, file_of};
+use cases::faults::FAULTS;
+use cases::generator::{Generated, Size, Wanted, case, random_bytes};
+use casetool::layout::Sections;
+use casetool::text_show::{case_text, correction_text};
+use casetool::text_write::{case_file, correction};
+use support::{casetool, repository, written};
+
+/// Shows a file and writes it again, if it has sections to show; whether it has.
+fn comes_back(file: &[u8]) -> bool {
+    let Some(sections) = Sections::of(file) else {
+        assert!(matches!(
+            attachment_h::check(file, &[], 0),
+            Err(attachment_h::Refused(1..=5))
+        ));
+        let shown = casetool(&["show"], file);
+        assert_eq!((shown.status, shown.output.len()), (1, 0));
+        return false;
+    };
+    let text = case_text(&sections);
+    let again = case_file(text.as_bytes()).unwrap_or_else(|error| panic!("{error}\n{text}"));
+    assert!(again == file, "another file of\n{text}");
+    true
+}
+
+fn correction_comes_back(bytes: &[u8]) {
+    let text = correction_text(bytes);
+    assert_eq!(correction(text.as_bytes()).as_deref(), Ok(bytes), "{text}");
+}
+
+#[test]
+fn accepted() {
+    let mut random = Random::new(701);
+    let mut bytes = 0;
+    for place in 0..2_500 {
+        let size = match place % 50 {
+            0 => Size::Full,
+            1..=10 => Size::Medium,
+            _ => Size::Small,
+        };
+        let generated = case(&mut random, Wanted::of(size));
+        let input = generated.input();
+        assert!(comes_back(&input.file), "case {place}");
+        correction_comes_back(&input.correction);
+        bytes += input.file.len();
+    }
+    println!("2,500 accepted cases of {bytes} bytes");
+}
+
+/// A small case with all kinds, so that most faults have a place.
+fn every_kind(random: &mut Random) -> Generated {
+    let wanted = Wanted {
+        every_kind: true,
+        ..Wanted::of(Size::Small)
+    };
+    case(random, wanted)
+}
+
+#[test]
+fn faulty() {
+    let mut random = Random::new(702);
+    let mut shown = 0;
+    let mut not_shown = 0;
+    for fault in FAULTS {
+        for _ in 0..25 {
+            let mut input = every_kind(&mut random).input();
+            if (fault.apply)(&mut input, &mut random).is_none() {
+                continue;
+            }
+            let readable = comes_back(&input.file);
+            assert_eq!(readable, fault.number > 5, "{}", fault.name);
+            *(if readable { &mut shown } else { &mut not_shown }) += 1;
+        }
+    }
+    println!("{shown} faulty files shown, {not_shown} without sections");
+    assert!(shown > 1_000);
+}
+
+/// Sections of whole records with noise in them, or with noise in some of their bytes.
+fn noise(random: &mut Random) -> Vec<u8> {
+    let sparse = random.chance(1, 2);
+    let sections = [24, 8, 12, 312].map(|record| {
+        (0..record * random.below(4))
+            .map(|_| match sparse && !random.chance(1, 30) {
+                true => 0,
+                false => random.bits() as u8,
+            })
+            .collect()
+    });
+    file_of(&sections)
+}
+
+#[test]
+fn any_content() {
+    let mut random = Random::new(703);
+    let mut shown = 0;
+    for _ in 0..3_000 {
+        let mut file = noise(&mut random);
+        if let Some(event) = file.len().checked_sub(312).filter(|&event| event > 36) {
+            // Mostly a kind and a component that document 01 has, so that the fields have their forms.
+            file[event] = random.below(6) as u8;
+            file[event + 6] = random.below(10) as u8;
+        }
+        assert!(comes_back(&file));
+        let Input { file, .. } = random_bytes(&mut random);
+        shown += usize::from(comes_back(&file));
+    }
+    println!("3,000 files of noise, {shown} of 3,000 changed ones");
+    for length in 0..256 {
+        let bytes: Vec<u8> = (0..8 * length).map(|_| random.bits() as u8).collect();
+        correction_comes_back(&bytes);
+    }
+}
+
+/// The canonical text of a text.
+fn canonical(text: &str) -> String {
+    let shown = casetool(&["show"], &written(text));
+    assert_eq!(shown.status, 0);
+    shown.text().to_string()
+}
+
+#[test]
+fn fixed_point() {
+    let text = std::fs::read_to_string(repository("examples/two-plants.txt")).expect("the example");
+    let shown = canonical(&text);
+    assert_ne!(shown, text);
+    assert_eq!(canonical(&shown), shown);
+    assert_eq!(written(&shown), written(&text));
+    assert_eq!(
+        canonical(""),
+        "# case: 0 units, 0 references, 0 past entries, 0 events\n"
+    );
+}
+
+#[test]
+fn every_key_out_of_the_ordinary() {
+    let text = "\
+# case: 1 unit, 2 references, 1 past entry, 4 events
+
+unit 65535 group 0 area 255 spare-5 1 spare-6 2 spare-7 3 capability 429496729.5 MW response-rate 0.1 MW/min average-price $42949672.95 constrained-hours 65535 spare-22 4 spare-23 255
+
+reference unit 1 component 9 spare-3 7 value 4294967295
+reference unit 1 component minimum-down-time value 4294967295 minutes
+
+past group 65535 kind dispatch market 2 period 65535 spare-6 1 spare-7 2 day 4294967295  # 19 January 11761221
+
+event day 0 kind 0 market 255 unit 0 period 0 component energy impact 255 P 24-31 Q 1 R 4294967295  # event 0, 1 January 2000
+  hour 23 a 1 b 2 m 3
+event day 59 kind withheld market day-ahead unit 0 period 0 component maximum-parameter shadow-price-hours 0,2,4-31 Q 7 R 8  # event 1, 29 February 2000
+  hours 0-23 withheld 429496729.5 MW price -$21474836.48 m 9
+event day 60 kind fuel market day-ahead unit 0 period 0 impact 1 inaccurate-hours 0 guarantee-change -$0.01 tcc-change $21474836.47  # event 2, 1 March 2000
+  hour 0 energy 0.1 MWh price-change -$0.05 m 4294967295
+event day 366 kind bids market real-time unit 0 period 0 component start-up-time impact-hours 31 minimum-run-hours 4294967295  # event 3, 1 January 2001
+  hour 1 bid -2147483648 minutes
+  hours 2-3 price $0.01
+  hour 4 quantity 0.1 MW
+"
+    .replace(" component energy impact 255", " impact 255");
+    assert_eq!(canonical(&text), text);
+}
+
+#[test]
+fn other_ways_to_write() {
+    let canonical_text = canonical(
+        "unit 12 group 7 capability 500.0 MW average-price $50.00\n\
+         event day 8000 kind bids market real-time unit 12 period 44 component energy\n\
+         hours 5-7 bid -$5.00\n",
+    );
+    for text in [
+        "unit 12 capability 500 group 7 average-price 50\r\n\
+         event unit 12 component 0 market 1 kind 4 period 44 day 2021-11-26\r\n\
+         \thours 5,6,7 bid -5\r\n",
+        "\u{feff}event day 8000 kind bids market real-time unit 12 period 44 component energy # late\n\
+         hour 6 bid -5.0\n  hours 5,7 bid -$5 price 0 quantity 0 MW\n\
+         hour 20 bid 0\n\n# the unit comes after\nunit 12 group 7 capability 500.0 MW average-price 50.0",
+        "unit 012 group 7 capability 0500 area 0 average-price $50.00\n\
+         event day 8000 kind bids market real-time unit 12 period 44 component energy impact-hours none\n\
+         hours 5-6,7 bid -$05.00",
+    ] {
+        assert_eq!(canonical(text), canonical_text);
+    }
+}

@@ -1,0 +1,57 @@
+//! What the tests share.
+
+#![allow(dead_code)]
+
+use std::ffi::OsString;
+use std::path::{Path, PathBuf};
+
+/// What a run of casetool gave.
+#[derive(Debug, PartialEq, Eq)]
+pub struct Ran {
+    /// The exit status.
+    pub status: u8,
+    /// Standard output.
+    pub output: Vec<u8>,
+    /// Standard error.
+    pub errors: String,
+}
+
+impl Ran {
+    /// Standard output as text.
+    pub fn text(&self) -> &str {
+        std::str::from_utf8(&self.output).expect("text")
+    }
+}
+
+/// Runs casetool in this process.
+pub fn casetool(arguments: &[&str], mut input: &[u8]) -> Ran {
+    let arguments: Vec<OsString> = arguments.iter().map(OsString::from).collect();
+    let (mut output, mut errors) = (Vec::new(), Vec::new());
+    let status = casetool::run(&arguments, &mut input, &mut output, &mut errors);
+    Ran {
+        status,
+        output,
+        errors: String::from_utf8(errors).expect("text"),
+    }
+}
+
+/// The case file of a text that has nothing wrong.
+pub fn written(text: &str) -> Vec<u8> {
+    let ran = casetool(&["write"], text.as_bytes());
+    assert_eq!((ran.status, ran.errors.as_str()), (0, ""));
+    ran.output
+}
+
+/// A file of the repository.
+pub fn repository(name: &str) -> PathBuf {
+    Path::new(env!("CARGO_MANIFEST_DIR"))
+        .join("../..")
+        .join(name)
+}
+
+/// A file of its own for a test, with these bytes.
+pub fn file_with(name: &str, bytes: &[u8]) -> String {
+    let path = Path::new(env!("CARGO_TARGET_TMPDIR")).join(name);
+    std::fs::write(&path, bytes).expect("a file of the test");
+    path.to_str().expect("a path of text").to_string()
+}
