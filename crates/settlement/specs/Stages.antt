@@ -9,9 +9,10 @@ use Rattle.casefile.specs.Layout.{longestFile, eventWidth, rowWidth}
 use Rattle.casefile.specs.Case.{References, Case}
 use Rattle.casefile.specs.Decode.{referencesIn, eventsIn, caseIn}
 use Rattle.casefile.specs.Lookup.{unitOf, UnitsInOrder, InOrder}
+use Rattle.conduct.specs.Flags.{flagMask}
 use Rattle.conduct.specs.Parties.{bidLevel, levelsFound}
 use Rattle.sanctions.specs.Found.{Accepted, Found}
-use Rattle.sanctions.specs.Penalties.{totalPenalty}
+use Rattle.sanctions.specs.Penalties.{N3, N2, multiplier, penalty, totalPenalty}
 use Rattle.default_bids.specs.Figures.{correctsFound}
 use Rattle.default_bids.specs.Mitigation.{totalMakeUp}
 use Rattle.settlement.specs.declared.settle.Totals.{Totals}
@@ -35,6 +36,26 @@ pub record FoundFlags (units references past events places groups leaders levels
   pub level-held : Holds (length events / eventWidth) levels (bidLevel (referencesIn references) (eventsIn events))
   pub places-long : length events / eventWidth ≤ length places
   pub levels-long : length events / eventWidth ≤ length levels
+
+-- of each event what a row needs beside its penalty: its unit's place, reference level and flag mask
+pub record FoundBids (units references past events places levels masks : List ℕ) : Type 0 where
+  pub place-held : Holds (length events / eventWidth) places (unitOf (caseIn units references past events))
+  pub level-held : Holds (length events / eventWidth) levels (bidLevel (referencesIn references) (eventsIn events))
+  pub mask-held : Holds (length events / eventWidth) masks (flagMask (caseIn units references past events))
+  pub places-long : length events / eventWidth ≤ length places
+  pub levels-long : length events / eventWidth ≤ length levels
+  pub masks-long : length events / eventWidth ≤ length masks
+
+-- of each event its penalty, multiplier, N3 and N2
+pub record FoundPenalties (c : Case) (n : ℕ) (penalties multipliers n3 n2 : List ℕ) : Type 0 where
+  pub penalty-held : Holds n penalties (penalty c)
+  pub multiplier-held : Holds n multipliers (multiplier c)
+  pub three-held : Holds n n3 (N3 c)
+  pub two-held : Holds n n2 (N2 c)
+  pub penalties-long : n ≤ length penalties
+  pub multipliers-long : n ≤ length multipliers
+  pub three-long : n ≤ length n3
+  pub two-long : n ≤ length n2
 
 -- both totals of a case
 unfoldable pub totalsOf : Case → (correct : References) → Totals

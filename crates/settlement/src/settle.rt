@@ -1,10 +1,13 @@
 // The public call: a case settled into rows.
 ghost use mathlib.Core.Path.{_≡_};
+ghost use Prim.Native.Nat.{_/_};
 ghost use lib.ListN.{length};
+ghost use Rattle.casefile.specs.Layout.{eventWidth};
 ghost use Rattle.casefile.specs.Decode.{referencesIn, caseIn};
+ghost use Rattle.default_bids.specs.Mitigation.{totalMakeUp};
 ghost use Rattle.settlement.specs.Row.{rowsOf};
 ghost use Rattle.settlement.specs.Settled.{answerOfSettlement, settlementOf, answerOf, rowsAfter};
-ghost use Rattle.settlement.specs.Stages.{AcceptedSections, FoundFlags, totalsOf};
+ghost use Rattle.settlement.specs.Stages.{AcceptedSections, FoundFlags, FoundBids, FoundPenalties, totalsOf};
 use crate::rows::write_rows;
 use casefile::check::check;
 use casefile::header::section;
@@ -30,7 +33,65 @@ pub struct Totals {
     pub make_ups: u64,
 }
 
-// Sanctions, default bids and rows, from the flags.
+// Default bids and rows, from the flags and the penalties.
+fn settle_bids(
+    units: &[u8],
+    references: &[u8],
+    past: &[u8],
+    correct: &[u8],
+    events: &[u8],
+    places: &[usize],
+    levels: &[u32],
+    masks: &[u32],
+    penalties: &[u64],
+    multipliers: &[u8],
+    n3: &[u16],
+    n2: &[u16],
+    rows: &mut [u8],
+) -> u64
+    requires { ⌜ AcceptedSections (now units) (now references) (now past) (now correct) (now events) (length (now rows)) ⌝ }
+    requires { ⌜ FoundBids (now units) (now references) (now past) (now events) (now places) (now levels) (now masks) ⌝ }
+    requires { ⌜ FoundPenalties (caseIn (now units) (now references) (now past) (now events)) (length (now events) / eventWidth) (now penalties) (now multipliers) (now n3) (now n2) ⌝ }
+    ensures { λ r. ⌜ r ≡ totalMakeUp (caseIn (now (units .entry)) (now (references .entry)) (now (past .entry)) (now (events .entry))) (referencesIn (now (correct .entry))) ⌝ }
+    ensures { λ _. ⌜ now (rows .exit) ≡ rowsOf (caseIn (now (units .entry)) (now (references .entry)) (now (past .entry)) (now (events .entry))) (referencesIn (now (correct .entry))) (now (rows .entry)) ⌝ }
+{
+    let mut corrects = [0u32; 200];
+    correct_levels(correct, events, &mut corrects);
+    let mut mitigated = [0u32; 200];
+    mitigated_masks(units, references, events, masks, &mut mitigated);
+    let mut due = [0u64; 200];
+    let total = make_ups(
+        units,
+        references,
+        correct,
+        events,
+        levels,
+        &corrects,
+        &mitigated,
+        &mut due,
+    );
+    write_rows(
+        units,
+        references,
+        past,
+        correct,
+        events,
+        places,
+        levels,
+        &corrects,
+        masks,
+        &mitigated,
+        penalties,
+        &due,
+        multipliers,
+        n3,
+        n2,
+        rows,
+    );
+    total
+}
+
+// Sanctions, then default bids and rows, from the flags.
 fn settle_flags(
     units: &[u8],
     references: &[u8],
@@ -66,22 +127,7 @@ fn settle_flags(
         &mut n2,
         &mut penalties,
     );
-    let mut corrects = [0u32; 200];
-    correct_levels(correct, events, &mut corrects);
-    let mut mitigated = [0u32; 200];
-    mitigated_masks(units, references, events, masks, &mut mitigated);
-    let mut due = [0u64; 200];
-    let total_due = make_ups(
-        units,
-        references,
-        correct,
-        events,
-        levels,
-        &corrects,
-        &mitigated,
-        &mut due,
-    );
-    write_rows(
+    let total_due = settle_bids(
         units,
         references,
         past,
@@ -89,11 +135,8 @@ fn settle_flags(
         events,
         places,
         levels,
-        &corrects,
         masks,
-        &mitigated,
         &penalties,
-        &due,
         &multipliers,
         &n3,
         &n2,
