@@ -209,6 +209,12 @@ unfolding anyTo
 any-false zero p h = refl
 any-false (suc n) p h = rw (any-false n p (λ i l. h i (omega arith)), h n (omega arith))
 
+-- every index passes
+pub all-true : (n : ℕ) (p : ℕ → Bool) → ((i : ℕ) → i < n → p i ≡ true) → allTo n p ≡ true
+unfolding allTo
+all-true zero p h = refl
+all-true (suc n) p h = rw (all-true n p (λ i l. h i (omega arith)), h n (omega arith))
+
 -- where some index passes, the last one does
 pub last-holds : (n : ℕ) (p : ℕ → Bool) → anyTo n p ≡ true → p (lastTo n p) ≡ true
 unfolding anyTo lastTo

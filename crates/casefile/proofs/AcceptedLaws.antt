@@ -1,32 +1,29 @@
 -- What an accepted case keeps: from `refusal f k n ≡ 0` to the facts that settling it goes by.
 use Prim.Native.Nat.{ℕ, _+_, _*_, _/_, _%_, _≤_, _<_}
-use mathlib.Core.Bool.{Bool, true, false, cond, not, _&&_, _||_}
+use mathlib.Core.Bool.{Bool, true, false, cond}
 use mathlib.Core.List.{List}
 use mathlib.Core.Logic.{⊎-elim}
-use mathlib.Core.Path.{_≡_, refl, sym, ap}
+use mathlib.Core.Path.{_≡_, refl, sym}
 use native.Mathlib.Nat.{eq-or-lt-of-le, le-trans}
 use native.Mathlib.Omega.{arith}
 use lib.Dec.{ltb, eqb}
 use lib.ListN.{length, length-take, length-drop}
-use borrow.Author.Tests.{ltb-true, ltb-false, leb-true, eqb-true, eq-eqb, le-ltb}
-use Rattle.binary.specs.Bounded.{allTo}
+use borrow.Author.Tests.{ltb-true, ltb-false, leb-true, eq-eqb}
 use Rattle.binary.proofs.Implies.{and-l, and-r}
 use Rattle.binary.proofs.BoundedLaws.{all-at, any-true}
 use Rattle.tariff.specs.Ranges.{highestReference}
 use Rattle.casefile.specs.Layout.{sectionCount, headerWidth, longestFile, unitWidth, referenceWidth, pastWidth, eventWidth, mostUnits, mostReferences, mostPast, mostEvents, rowWidth}
-use Rattle.casefile.specs.Decode.{caseIn, lengthOf, sectionOf, FollowOn, HasSection, unitsIn, referencesIn, pastIn, eventsIn, amountsIn, decode}
-use Rattle.casefile.specs.Lookup.{isUnit, isListed, placeOf, unitOf, hasReference, levelOf, Rising, UnitsInOrder, InOrder, correctReferences, correctIn, referenceOf}
-use Rattle.casefile.specs.Refusal.{sizeFine, sizesFine, rises, unitFine, unitsFine, referenceFine, referencesFine, correctionFine, entryFine, pastFine, hourFine, eventFine, eventsFine, eventKey, orderFine, eventListed, eventsListed, withinCapability, amountFine, amountsFine, readsCorrect, referenceFound, referencesFound, rowsFine, eventsRefusal, refusal}
+use Rattle.casefile.specs.Decode.{caseIn, lengthOf, sectionOf, FollowOn, HasSection, unitsIn, referencesIn, pastIn, eventsIn, decode}
+use Rattle.casefile.specs.Lookup.{isUnit, isListed, placeOf, unitOf, hasReference, levelOf, Rising, UnitsInOrder, InOrder, correctReferences, correctIn, referenceOf, readsCorrect}
+use Rattle.casefile.specs.Refusal.{sizeFine, sizesFine, referenceFine, referencesFine, correctionFine, entryFine, pastFine, eventKey, rowsFine, eventsRefusal, refusal}
 use Rattle.casefile.proofs.LookupLaws.{listed-place, listed-number}
-use Rattle.casefile.proofs.RangeLaws.{or-right, of-kind, UnitRange, ReferenceRange, ViolationRange, EventRange, CellRange, unit-range, reference-range, violation-range, event-range, cell-range, level-bound, rising, numbers-in-order, references-in-order, correct-in-order}
+use Rattle.casefile.proofs.RangeLaws.{UnitRange, ReferenceRange, ViolationRange, EventRange, CellRange, reference-range, violation-range, level-bound, numbers-in-order, references-in-order, correct-in-order}
+use Rattle.casefile.proofs.SectionLaws as section
+use Rattle.casefile.proofs.SectionLaws.{sized}
 use Rattle.casefile.proofs.RefusalLaws as stages
 use Rattle.casefile.proofs.RefusalLaws.{HeaderFine, RecordsFine, EventsFine}
 
 -- ---- an accepted case
-
-sized : (length′ width most : ℕ) → sizeFine length′ width most ≡ true → (length′ % width ≡ 0) × (length′ / width ≤ most)
-unfolding sizeFine
-sized n width most h = (eqb-true (n % width) 0 (search (and-l, and-r)), leb-true (n / width) most (search (and-l, and-r)))
 
 module _ (f k : List ℕ) (n : ℕ) (h : refusal f k n ≡ 0) where
   pub header : HeaderFine f
@@ -126,13 +123,9 @@ module _ (f k : List ℕ) (n : ℕ) (h : refusal f k n ≡ 0) where
 
   -- units
 
-  unit-fine : (i : ℕ) → i < decode f .units .count → unitFine (sectionOf f 0) i ≡ true
-  unfolding decode caseIn unitsFine
-  unit-fine i l = all-at (unitsIn (sectionOf f 0) .count) i (unitFine (sectionOf f 0)) l (records .units-fine)
-
   pub unit-ranges : (i : ℕ) → i < decode f .units .count → UnitRange (decode f .units) i
   unfolding decode caseIn
-  unit-ranges i l = unit-range (sectionOf f 0) i (unit-fine i l)
+  unit-ranges i l = section.unit-ranges (sectionOf f 0) (records .units-fine) i l
 
   pub units-rise : UnitsInOrder (sectionOf f 0)
   units-rise = numbers-in-order (sectionOf f 0) (records .units-fine)
@@ -216,34 +209,25 @@ module _ (f k : List ℕ) (n : ℕ) (h : refusal f k n ≡ 0) where
 
   -- events
 
-  event-fine : (i : ℕ) → i < decode f .events .count → eventFine (decode f .events) (decode f .a) i ≡ true
-  unfolding decode caseIn eventsFine
-  event-fine i l =
-      all-at (eventsIn (sectionOf f 3) .count) i (eventFine (eventsIn (sectionOf f 3)) (amountsIn (sectionOf f 3))) l (events .events-fine)
-
   pub event-ranges : (i : ℕ) → i < decode f .events .count → EventRange (decode f .events) i
-  event-ranges i l = event-range (decode f .events) (decode f .a) i (event-fine i l)
+  unfolding decode caseIn
+  event-ranges i l = section.event-ranges (sectionOf f 3) (events .events-fine) i l
 
   pub cell-ranges : (i x : ℕ) → i < decode f .events .count → x < decode f .events .hours i
       → CellRange (decode f .events .kind i) (decode f .events .component i) (decode f .a i x) (decode f .events .b i x) (decode f .events .m i x)
-  unfolding eventFine hourFine
-  cell-ranges i x l m =
-      let t : allTo (decode f .events .hours i) (hourFine (decode f .events) (decode f .a) i) ≡ true =
-      let u = event-fine i l in search and-r in
-      cell-range _ _ _ _ _ (all-at (decode f .events .hours i) x (hourFine (decode f .events) (decode f .a) i) m t)
+  unfolding decode caseIn
+  cell-ranges i x l m = section.cell-ranges (sectionOf f 3) (events .events-fine) i x l m
 
   pub events-rise : Rising (eventKey (decode f .events)) (decode f .events .count)
-  unfolding decode caseIn orderFine
-  events-rise i j l m =
-      rising (eventKey (eventsIn (sectionOf f 3))) _
-      (λ x lx. all-at (eventsIn (sectionOf f 3) .count) x (rises (eventKey (eventsIn (sectionOf f 3)))) lx (events .order-fine)) i j l m
+  unfolding decode caseIn
+  events-rise i j l m = section.events-rise (eventsIn (sectionOf f 3)) (events .order-fine) i j l m
 
   -- of one day, kind and market, by unit and component
   pub units-in-order : (i j : ℕ) → i < j → j < decode f .events .count → decode f .events .day i ≡ decode f .events .day j
       → decode f .events .kind i ≡ decode f .events .kind j → decode f .events .market i ≡ decode f .events .market j
       → 256 * decode f .events .unit i + decode f .events .component i < 256 * decode f .events .unit j + decode f .events .component j
-  unfolding eventKey
-  units-in-order i j l m day kind market = let r = events-rise i j l m in omega arith
+  unfolding decode caseIn
+  units-in-order i j l m day kind market = section.units-in-order (eventsIn (sectionOf f 3)) (events .order-fine) i j l m day kind market
 
   -- unit numbers have two bytes
   pub days-in-order : (i j : ℕ) → i < j → j < decode f .events .count → decode f .events .unit j < 65536
@@ -260,9 +244,8 @@ module _ (f k : List ℕ) (n : ℕ) (h : refusal f k n ≡ 0) where
   -- the event's unit
 
   pub event-listed : (i : ℕ) → i < decode f .events .count → isListed (decode f .units) (decode f .events .unit i) ≡ true
-  unfolding decode caseIn eventsListed eventListed
-  event-listed i l =
-      all-at (eventsIn (sectionOf f 3) .count) i (eventListed (unitsIn (sectionOf f 0)) (eventsIn (sectionOf f 3))) l (events .events-listed)
+  unfolding decode caseIn
+  event-listed i l = section.event-listed (sectionOf f 0) (sectionOf f 3) (events .events-listed) i l
 
   pub unit-place : (i : ℕ) → i < decode f .events .count → unitOf (decode f) i < decode f .units .count
   unfolding unitOf
@@ -275,41 +258,25 @@ module _ (f k : List ℕ) (n : ℕ) (h : refusal f k n ≡ 0) where
   -- a of kinds 1 and 2
   pub amount-capability : (i x : ℕ) → i < decode f .events .count → x < decode f .events .hours i → decode f .events .kind i ≤ 2
       → decode f .a i x ≤ decode f .units .capability (unitOf (decode f) i)
-  unfolding decode caseIn unitOf amountsFine amountFine withinCapability
-  amount-capability i x l m kind =
-      let t = all-at (eventsIn (sectionOf f 3) .count) i
-      (amountFine (unitsIn (sectionOf f 0)) (eventsIn (sectionOf f 3)) (amountsIn (sectionOf f 3))) l (events .amounts-fine) in
-      let w : allTo (eventsIn (sectionOf f 3) .hours i)
-      (withinCapability (unitsIn (sectionOf f 0)) (eventsIn (sectionOf f 3)) (amountsIn (sectionOf f 3)) i) ≡ true =
-      or-right (ltb 2 (eventsIn (sectionOf f 3) .kind i)) _ t (le-ltb 2 (eventsIn (sectionOf f 3) .kind i) kind) in
-      leb-true _ _ (all-at (eventsIn (sectionOf f 3) .hours i) x
-      (withinCapability (unitsIn (sectionOf f 0)) (eventsIn (sectionOf f 3)) (amountsIn (sectionOf f 3)) i) m w)
+  unfolding decode caseIn unitOf
+  amount-capability i x l m kind = section.amount-capability (sectionOf f 0) (sectionOf f 3) (events .amounts-fine) i x l m kind
 
   pub amount-bound : (i x : ℕ) → i < decode f .events .count → x < decode f .events .hours i → decode f .events .kind i ≤ 2 → decode f .a i x ≤ 50000
   amount-bound i x l m kind = le-trans (amount-capability i x l m kind) (unit-ranges (unitOf (decode f) i) (unit-place i l) .capability)
 
   -- r and c of kind 4
 
-  found : (i : ℕ) → i < decode f .events .count → decode f .events .kind i ≡ 4
-      → (hasReference (decode f .references) (decode f .events .unit i) (decode f .events .component i)
-      && (not (readsCorrect (decode f .events .component i)) || hasReference (correctIn f k) (decode f .events .unit i) (decode f .events .component i)))
-      ≡ true
-  unfolding decode caseIn correctIn referencesFound referenceFound
-  found i l kind =
-      of-kind 4 (eventsIn (sectionOf f 3) .kind i) _
-      (all-at (eventsIn (sectionOf f 3) .count) i
-      (referenceFound (referencesIn (sectionOf f 1)) (referencesIn (correctReferences k (sectionOf f 1))) (eventsIn (sectionOf f 3))) l
-      (events .references-found)) kind
-
   pub reference-there : (i : ℕ) → i < decode f .events .count → decode f .events .kind i ≡ 4
       → hasReference (decode f .references) (decode f .events .unit i) (decode f .events .component i) ≡ true
-  reference-there i l kind = let t = found i l kind in search and-l
+  unfolding decode caseIn
+  reference-there i l kind =
+      section.reference-there (referencesIn (sectionOf f 1)) _ (eventsIn (sectionOf f 3)) (events .references-found) i l kind
 
   pub correct-there : (i : ℕ) → i < decode f .events .count → decode f .events .kind i ≡ 4 → readsCorrect (decode f .events .component i) ≡ true
       → hasReference (correctIn f k) (decode f .events .unit i) (decode f .events .component i) ≡ true
+  unfolding decode caseIn correctIn
   correct-there i l kind reads =
-      let t = found i l kind in
-      or-right (not (readsCorrect (decode f .events .component i))) _ (search and-r) (ap not reads)
+      section.correct-there (referencesIn (sectionOf f 1)) _ (eventsIn (sectionOf f 3)) (events .references-found) i l kind reads
 
   pub reference-bound : (i : ℕ) → i < decode f .events .count → decode f .events .kind i ≡ 4
       → referenceOf (decode f) i ≤ highestReference (decode f .events .component i)

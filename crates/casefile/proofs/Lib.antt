@@ -4,4 +4,5 @@ pub mod SearchLaws
 pub mod RangeLaws
 pub mod EventLaws
 pub mod RefusalLaws
+pub mod SectionLaws
 pub mod AcceptedLaws

@@ -1,9 +1,9 @@
 -- A unit found by its number, and a reference by its unit and component. Numbers and references strictly rise (checks 6 to 8),
 -- so that the last match is the only one.
 use Prim.Native.Nat.{ℕ, _+_, _*_, _/_, _≤_, _<_}
-use mathlib.Core.Bool.{Bool, cond, _&&_}
+use mathlib.Core.Bool.{Bool, cond, _&&_, _||_}
 use mathlib.Core.List.{List}
-use lib.Dec.{eqb}
+use lib.Dec.{leb, eqb}
 use lib.ListN.{length}
 use Rattle.binary.specs.Bounded.{anyTo, lastTo}
 use Rattle.casefile.specs.Layout.{unitWidth, referenceWidth}
@@ -65,6 +65,10 @@ pub record Between (key : ℕ → ℕ) (n target lo hi : ℕ) : Type 0 where
 -- the correction slice where it isn't empty, otherwise the case's own reference section (document 01, Default bids and make-up)
 unfoldable pub correctReferences : (correction own : List ℕ) → List ℕ
 correctReferences correction own = cond (eqb (length correction) 0) own correction
+
+-- "Only components 0, 1 and 3 read c"
+unfoldable pub readsCorrect : (component : ℕ) → Bool
+readsCorrect component = leb component 1 || eqb component 3
 
 -- the references that c is found in
 unfoldable pub correctIn : (file correction : List ℕ) → References

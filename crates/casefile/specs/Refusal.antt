@@ -11,7 +11,7 @@ use Rattle.tariff.specs.Ranges.{referenceInRange, bidInRange}
 use Rattle.casefile.specs.Layout.{version, sectionCount, headerWidth, longestFile, unitWidth, referenceWidth, pastWidth, eventWidth, mostUnits, mostReferences, mostPast, mostEvents, rowWidth}
 use Rattle.casefile.specs.Case.{Units, References, Violation, Events}
 use Rattle.casefile.specs.Decode.{offsetOf, lengthOf, sectionOf, recordAt, unitsIn, referencesIn, pastIn, eventsIn, amountsIn}
-use Rattle.casefile.specs.Lookup.{isListed, placeOf, referenceKey, hasReference, correctReferences}
+use Rattle.casefile.specs.Lookup.{isListed, placeOf, referenceKey, hasReference, readsCorrect, correctReferences}
 
 -- 1: the length
 unfoldable pub lengthFine : List ℕ → Bool
@@ -162,10 +162,6 @@ amountFine u e a i = ltb 2 (e .kind i) || allTo (e .hours i) (withinCapability u
 
 unfoldable pub amountsFine : Units → List ℕ → Bool
 amountsFine u s = allTo (eventsIn s .count) (amountFine u (eventsIn s) (amountsIn s))
-
--- the components that read c
-unfoldable pub readsCorrect : (component : ℕ) → Bool
-readsCorrect component = leb component 1 || eqb component 3
 
 -- 14: kind 4 has r, and c where it is read
 unfoldable pub referenceFound : (own correct : References) → Events → ℕ → Bool

@@ -9,14 +9,15 @@ use lib.Dec.{T, leb, eqb}
 use lib.ListN.{length, getD, drop}
 use Rattle.binary.specs.Lists.{listTo, firstFrom, Bytes, Holds}
 use Rattle.binary.proofs.Implies.{_⇒_, T→true, true→T, and-l, and-r}
-use Rattle.binary.proofs.BoundedLaws.{all-mono}
+use Rattle.binary.proofs.BoundedLaws.{all-true}
 use Rattle.binary.proofs.ListLaws.{list-same}
 use Rattle.casefile.specs.Case.{References, Events}
 use Rattle.casefile.specs.Decode.{unitsIn, eventsIn, caseIn}
-use Rattle.casefile.specs.Lookup.{unitOf, groupOf, hasReference}
-use Rattle.casefile.specs.Refusal.{sizeFine, eventsListed, readsCorrect, referenceFound, referencesFound}
+use Rattle.casefile.specs.Lookup.{unitOf, groupOf, hasReference, readsCorrect}
+use Rattle.casefile.specs.Refusal.{sizeFine, eventsListed, referenceFound, referencesFound}
 use Rattle.casefile.proofs.RangeLaws.{of-kind}
 use Rattle.casefile.proofs.EventLaws.{events-place}
+use Rattle.casefile.proofs.SectionLaws.{reference-there}
 use Rattle.conduct.specs.Parties.{partyKey, leaderOf, levelFound, levelsFound}
 use Rattle.conduct.specs.Stages.{keyIn, sameKey, leaderIn}
 use Rattle.conduct.proofs.PartyLaws.{keys-together}
@@ -73,16 +74,12 @@ module _ (u r p e : List ℕ) where
 
 -- check 14 says it of the case's own references
 pub found-own : (own correct : References) (e : Events) → referencesFound own correct e ≡ true → levelsFound own e ≡ true
-unfolding referencesFound levelsFound referenceFound levelFound
-found-own own correct e h = T→true _ (all-mono (e .count) _ _ (λ i l.
-    record {
-      give = go (eqb (e .kind i) 4) (hasReference own (e .unit i) (e .component i)) (not (readsCorrect (e .component i)) || hasReference correct (e .unit i) (e .component i));
-    }) .give (true→T _ h))
+unfolding levelsFound levelFound
+found-own own correct e h = all-true (e .count) _ (λ i l. there i l (eqb (e .kind i) 4) refl)
   where
-    go : (k o f : Bool) → T (not k || (o && f)) → T (not k || o)
-    go false o f t = tt
-    go true true f t = tt
-    go true false f t = t
+    there : (i : ℕ) → i < e .count → (b : Bool) → eqb (e .kind i) 4 ≡ b → (not b || hasReference own (e .unit i) (e .component i)) ≡ true
+    there i l false k = refl
+    there i l true k = reference-there own correct e h i l (eqb-true _ 4 k)
 
 pub level-there : (own : References) (e : Events) (i : ℕ) → levelFound own e i ≡ true → e .kind i ≡ 4
     → hasReference own (e .unit i) (e .component i) ≡ true
@@ -93,13 +90,3 @@ level-there own e i f kind = of-kind 4 (e .kind i) (hasReference own (e .unit i)
 
 pub fill-same : (n : ℕ) (f g : ℕ → ℕ) (l d : List ℕ) → l ≡ listTo n f ++ drop n d → ((i : ℕ) → i < n → f i ≡ g i) → l ≡ listTo n g ++ drop n d
 fill-same n f g l d e h = e ∙ ap (λ (x : List ℕ). x ++ drop n d) (list-same n f g h)
-
--- ---- what the check of sizes says
-
-pub size-whole : (n width most : ℕ) → sizeFine n width most ≡ true → n % width ≡ 0
-unfolding sizeFine
-size-whole n width most h = eqb-true _ _ (and-l (eqb (n % width) 0) (leb (n / width) most) h)
-
-pub size-most : (n width most : ℕ) → sizeFine n width most ≡ true → n / width ≤ most
-unfolding sizeFine
-size-most n width most h = leb-true _ _ (and-r (eqb (n % width) 0) (leb (n / width) most) h)

@@ -19,8 +19,7 @@ use Rattle.tariff.specs.DefaultBids.{spanned, spanMask, correctedInForce, hourM
 use Rattle.casefile.specs.Layout.{eventWidth, cellsOffset, hours}
 use Rattle.casefile.specs.Case.{Units, References, Events, Case}
 use Rattle.casefile.specs.Decode.{recordAt, unitsIn, referencesIn, eventsIn, amountsIn, caseIn}
-use Rattle.casefile.specs.Lookup.{unitOf, levelOf, referenceOf}
-use Rattle.casefile.specs.Refusal.{readsCorrect}
+use Rattle.casefile.specs.Lookup.{unitOf, levelOf, referenceOf, readsCorrect}
 use Rattle.casefile.specs.Read.{cellOf}
 use Rattle.conduct.specs.Flags.{tight, flagged, flagMask}
 use Rattle.conduct.specs.Parties.{bidLevel}

@@ -3,29 +3,27 @@ use Prim.Native.Nat.{ℕ, _<_}
 use mathlib.Core.Bool.{Bool, true, false, cond, not, _&&_, _||_}
 use mathlib.Core.Path.{_≡_, refl, sym, ap, _∙_}
 use native.Mathlib.Omega.{arith}
-use borrow.Author.Tests.{leb-false, ne-eqb}
+use borrow.Author.Tests.{eqb-true, leb-false, ne-eqb}
 use lib.Dec.{T, leb, eqb}
 use Rattle.binary.proofs.Implies.{_⇒_, T→true, true→T, or-l, or-r}
-use Rattle.binary.proofs.BoundedLaws.{all-at, all-mono}
+use Rattle.binary.proofs.BoundedLaws.{all-true}
 use Rattle.tariff.specs.DefaultBids.{restores, correctedBid, correctedInForce}
 use Rattle.casefile.specs.Case.{References, Events}
-use Rattle.casefile.specs.Lookup.{hasReference, levelOf}
-use Rattle.casefile.specs.Refusal.{readsCorrect, referenceFound, referencesFound}
+use Rattle.casefile.specs.Lookup.{hasReference, levelOf, readsCorrect}
+use Rattle.casefile.specs.Refusal.{referencesFound}
+use Rattle.casefile.proofs.SectionLaws.{correct-there}
 use Rattle.default_bids.specs.Figures.{readsLevel, correctLevel, correctFound, correctsFound}
 
 -- check 14 says it of the correct references too
 pub found-correct : (own correct : References) (e : Events) → referencesFound own correct e ≡ true → correctsFound correct e ≡ true
-unfolding referencesFound correctsFound referenceFound correctFound readsLevel
-found-correct own correct e h = T→true _ (all-mono (e .count) _ _ (λ i l.
-    record {
-      give = go (eqb (e .kind i) 4) (hasReference own (e .unit i) (e .component i)) (readsCorrect (e .component i)) (hasReference correct (e .unit i) (e .component i));
-    }) .give (true→T _ h))
+unfolding correctsFound correctFound readsLevel
+found-correct own correct e h = all-true (e .count) _ (λ i l. there i l (eqb (e .kind i) 4) refl (readsCorrect (e .component i)) refl)
   where
-    go : (k o r f : Bool) → T (not k || (o && (not r || f))) → T (not (k && r) || f)
-    go false o r f t = tt
-    go true true true f t = t
-    go true true false f t = tt
-    go true false r f t = absurd t
+    there : (i : ℕ) → i < e .count → (b : Bool) → eqb (e .kind i) 4 ≡ b → (r : Bool) → readsCorrect (e .component i) ≡ r
+        → (not (b && r) || hasReference correct (e .unit i) (e .component i)) ≡ true
+    there i l false k r q = refl
+    there i l true k false q = refl
+    there i l true k true q = correct-there own correct e h i l (eqb-true _ 4 k) q
 
 module _ (correct : References) (e : Events) (i : ℕ) where
   pub found-read : correctFound correct e i ≡ true → readsLevel e i ≡ true → hasReference correct (e .unit i) (e .component i) ≡ true

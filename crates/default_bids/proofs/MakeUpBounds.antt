@@ -7,7 +7,7 @@ use native.Mathlib.Nat.{add-assoc}
 use native.Mathlib.Omega.{arith}
 use lib.Dec.{leb, eqb}
 use lib.ListN.{length, drop}
-use borrow.Author.Tests.{leb-true}
+use borrow.Author.Tests.{eqb-true}
 use Rattle.binary.specs.Bounded.{allTo, bitOf}
 use Rattle.binary.specs.Word.{within}
 use Rattle.binary.proofs.BoundedLaws.{all-at, product-bound}
@@ -19,9 +19,9 @@ use Rattle.tariff.specs.Sanctions.{cents}
 use Rattle.casefile.specs.Layout.{eventWidth, cellsOffset, hours}
 use Rattle.casefile.specs.Case.{Events}
 use Rattle.casefile.specs.Decode.{recordAt, eventsIn, amountsIn}
-use Rattle.tariff.specs.Ranges.{bidInRange}
-use Rattle.casefile.specs.Refusal.{fieldsFine, cellFine, hourFine, eventFine, eventsFine}
+use Rattle.casefile.specs.Refusal.{eventsFine}
 use Rattle.casefile.specs.Read.{cellOf}
+use Rattle.casefile.proofs.SectionLaws.{cell-ranges}
 use Rattle.default_bids.specs.Figures.{MegawattsFine, tenthsAt}
 
 excess-bound : (x y : ℕ) → excess x y ≤ 4294967296
@@ -37,22 +37,9 @@ pub make-up-bound : (r k tenths : ℕ) → makeUp r k tenths ≤ tenths + 1
 unfolding makeUp cents
 make-up-bound r k tenths = cond-bound (eqb k r) (λ t. zero-le) (λ t. omega arith)
 
-cell-megawatts : (kind component a b m : ℕ) → eqb kind 4 ≡ true → cellFine kind component a b m ≡ true → m ≤ 50000
-unfolding cellFine
-cell-megawatts kind component a b m e h =
-    let t : (not (eqb kind 4) || (bidInRange component a && within 32 1000000 b && leb m 50000)) ≡ true = search (and-l, and-r) in
-    let f : (bidInRange component a && within 32 1000000 b && leb m 50000) ≡ true = rw e at t in
-    leb-true m 50000 (and-r (bidInRange component a && within 32 1000000 b) (leb m 50000) f)
-
-hour-megawatts : (e : Events) (a : ℕ → ℕ → ℕ) (i h : ℕ) → eventFine e a i ≡ true → eqb (e .kind i) 4 ≡ true → h < e .hours i → e .m i h ≤ 50000
-unfolding eventFine hourFine
-hour-megawatts e a i h f k l =
-    let g : allTo (e .hours i) (hourFine e a i) ≡ true = search (and-r) in
-    cell-megawatts (e .kind i) (e .component i) (a i h) (e .b i h) (e .m i h) k (all-at (e .hours i) h (hourFine e a i) l g)
-
 pub megawatts-fine : (s : List ℕ) (i : ℕ) → eventsFine s ≡ true → i < length s / eventWidth → eqb (eventsIn s .kind i) 4 ≡ true
     → MegawattsFine (drop cellsOffset (recordAt eventWidth s i))
-unfolding eventsFine cellOf eventsIn
+unfolding cellOf eventsIn
 megawatts-fine s i f l k h b =
-    let m = hour-megawatts (eventsIn s) (amountsIn s) i h (all-at (length s / eventWidth) i (eventFine (eventsIn s) (amountsIn s)) l f) k b in
+    let m : eventsIn s .m i h ≤ 50000 = cell-ranges s f i h l b .bid (eqb-true _ 4 k) .2 in
     simp (value-drop, ← add-assoc) m

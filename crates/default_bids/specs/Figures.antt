@@ -11,8 +11,7 @@ use Rattle.tariff.specs.DefaultBids.{spanMask, correctedInForce, hourMakeUp, ma
 use Rattle.casefile.specs.Layout.{eventWidth, cellsOffset, hours}
 use Rattle.casefile.specs.Case.{Units, References, Events}
 use Rattle.casefile.specs.Decode.{recordAt, eventsIn}
-use Rattle.casefile.specs.Lookup.{hasReference, levelOf}
-use Rattle.casefile.specs.Refusal.{readsCorrect}
+use Rattle.casefile.specs.Lookup.{hasReference, levelOf, readsCorrect}
 use Rattle.casefile.specs.Read.{cellOf}
 use Rattle.default_bids.specs.declared.bids.Terms.{Terms}
 

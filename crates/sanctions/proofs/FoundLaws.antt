@@ -27,7 +27,8 @@ use Rattle.sanctions.specs.Found.{Accepted, Found, Sound, SmallPenalties
 use Rattle.sanctions.specs.Tables.{hourEnergy, hourRevenue, instanceOf, rowCounts, entryOf, entryCounts, instancesHere, instancesPast, instancesAt, withImpact, noSanction, instanceRow, withheldRow, dispatchRow, energyIn, ledBy, energyAt, tccAt, partyDay, fuelRowCounts, fuelEntryCounts, multiplierAt, partyPenalty, fuelRow, rowAt}
 use Rattle.sanctions.specs.declared.sanction.Sanction.{Sanction}
 use Rattle.sanctions.proofs.PenaltyBounds.{penalty-bound}
-use Rattle.sanctions.proofs.PartyLaws.{together-same, leader-le, leader-together, leads, lowest-leader}
+use Rattle.conduct.proofs.PartyLaws.{together-fields, leader-le, leader-together}
+use Rattle.sanctions.proofs.PartyLaws.{leads, lowest-leader}
 use Rattle.sanctions.proofs.PriorLaws.{hasPrior, prior-rows}
 use Rattle.sanctions.proofs.AcceptedLaws.{bare-component, ranges}
 
@@ -222,7 +223,7 @@ module _ (u r p e groups leaders masks : List ℕ) (acc : Accepted u p e) (found
       record {
         withheld = λ j l k h m. ranges u p e acc r .withheld j h l m k .0;
         fuel = λ j l k h m. ranges u p e acc r .fuel j h l m k .0;
-        kinds = λ j l. rw (found .leader-held j l) (together-same c j _ (leader-together c j) .kind);
+        kinds = λ j l. rw (found .leader-held j l) (together-fields c j _ (leader-together c j) .kind);
         before = λ j l. rw (found .leader-held j l) (leader-le c j);
       }
 

@@ -48,7 +48,7 @@ accepted-sections f k n h =
     record {
       units-short = omega (arith, case.section-length f k n h 0 (omega arith), case.has-section f k n h 0 (omega arith) .inside);
       events-short = omega (arith, case.section-length f k n h 3 (omega arith), case.has-section f k n h 3 (omega arith) .inside);
-      accepted = sanctions.accepted f (sectionOf f 1) k (correctReferences k (sectionOf f 1)) n (case.header f k n h) records events;
+      accepted = sanctions.accepted f k n h;
       units-ordered = case.units-rise f k n h;
       references-ordered = case.references-rise f k n h;
       corrects-ordered = case.correct-rise f k n h;

@@ -2,7 +2,7 @@ use mathlib.Core.Bool.{true, false}
 use mathlib.Core.Path.{_≡_, _∙_}
 use borrow.Author.Needs.{needs}
 use Rattle.casefile.specs.Decode.{referencesIn, eventsIn}
-use Rattle.casefile.specs.Refusal.{readsCorrect}
+use Rattle.casefile.specs.Lookup.{readsCorrect}
 use Rattle.default_bids.specs.Figures.{readsLevel}
 use Rattle.default_bids.proofs.LevelLaws.{found-read, level-read, level-unread}
 use Rattle.default_bids.proofs.levels.correct_level.Statement.{statement}
