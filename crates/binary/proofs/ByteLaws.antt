@@ -3,11 +3,11 @@ use Prim.Native.Nat.{ℕ, zero, suc, _+_, _-_, _*_, _/_, _%_, _^_, _≤_, _<_}
 use mathlib.Core.List.{List, [], _∷_, _++_}
 use mathlib.Core.Logic.{_≢_}
 use mathlib.Core.Path.{_≡_, refl, sym, _∙_, ap, ap₂}
-use native.Mathlib.Nat.{add-zero, add-assoc, zero-add, one-mul, suc-add, add-suc, pow-suc, pow-zero, mul-assoc, mul-comm, mul-zero, div-lt-iff-lt-mul}
+use native.Mathlib.Nat.{add-zero, add-assoc, zero-add, one-mul, suc-add, pow-suc, pow-zero, div-lt-iff-lt-mul}
 use native.Mathlib.Numerals.{add-one}
 use native.Mathlib.Omega.{arith}
-use lib.ListN.{length, getD, drop, take, set, length-set, length-take, length-drop}
-use lib.Seq.{sets, getD-set-same, getD-set-other, getD-append-add, getD-take, getD-drop, length-take-le, ext-getD}
+use lib.ListN.{length, drop, take, set, length-set, length-take, length-drop}
+use lib.Seq.{sets, getD-set-same, getD-set-other, getD-append-add, getD-take, getD-drop, ext-getD}
 use Rattle.binary.specs.Bytes.{byteAt, valueAt, bytesOf}
 
 -- the lower bytes and the upper bytes

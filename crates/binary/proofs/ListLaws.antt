@@ -1,13 +1,13 @@
 -- Laws of lists by index, of stretches one after the other and of the search for the first index.
 use Prim.Native.Nat.{ℕ, zero, suc, _+_, _-_, _*_, _≤_, _<_}
 use mathlib.Core.Bool.{Bool, true, false, cond}
-use mathlib.Core.List.{List, [], _∷_, _++_, append-assoc, append-nil}
+use mathlib.Core.List.{List, [], _∷_, _++_, append-assoc}
 use mathlib.Core.Path.{_≡_, refl, sym, ap, ap₂, subst, _∙_}
 use mathlib.Core.Logic.{⊎-elim}
 use native.Mathlib.Nat.{add-zero, add-suc, suc-add, mul-suc, mul-zero, le-refl, add-sub-cancel-left, not-suc-le-zero, le-of-suc-le-suc, eq-or-lt-of-le, mul-le-mul-left}
 use native.Mathlib.Numerals.{add-one}
 use native.Mathlib.Omega.{arith}
-use lib.ListN.{length, getD, take, drop, set, length-append, length-drop, List·getD-append}
+use lib.ListN.{length, getD, drop, set, length-append, length-drop, List·getD-append}
 use lib.Seq.{getD-drop, drop-cons, set-at, append-snoc, getD-at, take-at, drop-at, drop-drop, getD-append-add, ext-getD}
 use borrow.Rule.Slice.PartMut.{putMid}
 use Rattle.binary.specs.Lists.{listTo, joinTo, firstFrom, Holds}
@@ -41,28 +41,11 @@ module _ (f : ℕ → ℕ) where
   pub fill-at : (n i : ℕ) (d : ℕ) (rest : List ℕ) → i < n → getD (listTo n f ++ rest) i d ≡ f i
   fill-at n i d rest h = List·getD-append (listTo n f) rest d i (rw list-length h) ∙ list-at n i d h
 
-  -- what is not yet stored is as it was
-  pub fill-rest : (n i : ℕ) (d : List ℕ) → n ≤ i → getD (listTo n f ++ drop n d) i 0 ≡ getD d i 0
-  fill-rest n i d h =
-      let e : i ≡ length (listTo n f) + (i - n) = omega (arith, list-length n) in
-      let g : n + (i - n) ≡ i = omega arith in
-      ap (λ (k : ℕ). getD (listTo n f ++ drop n d) k 0) e ∙ getD-append-add (listTo n f) (drop n d) (i - n) 0
-      ∙ getD-drop n d (i - n) 0 ∙ ap (λ (k : ℕ). getD d k 0) g
-
-  pub fill-length : (n : ℕ) (d : List ℕ) → n ≤ length d → length (listTo n f ++ drop n d) ≡ length d
-  fill-length n d h = rw (length-append, list-length, length-drop) (omega arith)
-
 -- functions that agree below n
 pub list-same : (n : ℕ) (f g : ℕ → ℕ) → ((k : ℕ) → k < n → f k ≡ g k) → listTo n f ≡ listTo n g
 unfolding listTo
 list-same zero f g e = refl
 list-same (suc n) f g e = ap₂ (λ (x : List ℕ) (y : ℕ). x ++ (y ∷ [])) (list-same n f g (λ k l. e k (omega arith))) (e n (le-refl (suc n)))
-
--- a list is the list of its elements
-pub list-self : (n : ℕ) (l : List ℕ) (f : ℕ → ℕ) → length l ≡ n → ((k : ℕ) → k < n → f k ≡ getD l k 0) → l ≡ listTo n f
-list-self n l f h e =
-    ext-getD 0 l (listTo n f) (h ∙ sym (list-length f n))
-    (λ k lt. let b : k < n = omega arith in sym (list-at f n k 0 b ∙ e k b))
 
 pub join-none : (f : ℕ → List ℕ) (k : ℕ) (d : List ℕ) → d ≡ joinTo 0 f ++ drop (k * 0) d
 unfolding joinTo

@@ -1,6 +1,6 @@
 -- Bounds of the two parts of a signed word, and what its range says.
 use Prim.Native.Nat.{ℕ, suc, _-_, _*_, _^_, _≤_, _<_, zero-le}
-use mathlib.Core.Bool.{Bool, true, false, cond, _&&_}
+use mathlib.Core.Bool.{Bool, true, false, cond}
 use mathlib.Core.Path.{_≡_, refl, ap, _∙_}
 use native.Mathlib.Nat.{le-refl, pow-suc}
 use native.Mathlib.Omega.{arith}
@@ -9,14 +9,6 @@ use lib.Pow.{pow-pos}
 use borrow.Author.Tests.{ltb-true, ltb-false, leb-true}
 use Rattle.binary.specs.Word.{positivePart, negativePart, within}
 use Rattle.binary.proofs.Implies.{and-l, and-r}
-
-pub positive-le : (bits w : ℕ) → positivePart bits w ≤ w
-unfolding positivePart
-positive-le bits w = go (ltb w (2 ^ (bits - 1)))
-  where
-    go : (b : Bool) → cond b w 0 ≤ w
-    go true = le-refl w
-    go false = zero-le
 
 pub positive-lt : (bits w : ℕ) → positivePart bits w < 2 ^ (bits - 1)
 unfolding positivePart

@@ -1,11 +1,11 @@
 -- c is there where it is read, and no figure depends on c elsewhere.
 use Prim.Native.Nat.{ℕ, _<_}
-use mathlib.Core.Bool.{Bool, true, false, cond, not, _&&_, _||_}
-use mathlib.Core.Path.{_≡_, refl, sym, ap, _∙_}
+use mathlib.Core.Bool.{Bool, true, false, not, _&&_, _||_}
+use mathlib.Core.Path.{_≡_, refl}
 use native.Mathlib.Omega.{arith}
 use borrow.Author.Tests.{eqb-true, leb-false, ne-eqb}
-use lib.Dec.{T, leb, eqb}
-use Rattle.binary.proofs.Implies.{_⇒_, T→true, true→T, or-l, or-r}
+use lib.Dec.{leb, eqb}
+use Rattle.binary.proofs.Implies.{or-l, or-r}
 use Rattle.binary.proofs.BoundedLaws.{all-true}
 use Rattle.tariff.specs.DefaultBids.{restores, correctedBid, correctedInForce}
 use Rattle.casefile.specs.Case.{References, Events}

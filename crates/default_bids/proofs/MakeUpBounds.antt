@@ -1,24 +1,22 @@
 -- Bounds of the make-ups of a case whose events are fine.
-use Prim.Native.Nat.{ℕ, _+_, _-_, _*_, _/_, _≤_, _<_, zero-le}
-use mathlib.Core.Bool.{Bool, true, false, cond, not, _&&_, _||_}
+use Prim.Native.Nat.{ℕ, _+_, _-_, _/_, _≤_, _<_, zero-le}
+use mathlib.Core.Bool.{true}
 use mathlib.Core.List.{List}
-use mathlib.Core.Path.{_≡_, refl}
+use mathlib.Core.Path.{_≡_}
 use native.Mathlib.Nat.{add-assoc}
 use native.Mathlib.Omega.{arith}
-use lib.Dec.{leb, eqb}
+use lib.Dec.{eqb}
 use lib.ListN.{length, drop}
 use borrow.Author.Tests.{eqb-true}
-use Rattle.binary.specs.Bounded.{allTo, bitOf}
-use Rattle.binary.specs.Word.{within}
-use Rattle.binary.proofs.BoundedLaws.{all-at, product-bound}
+use Rattle.binary.specs.Bounded.{bitOf}
+use Rattle.binary.proofs.BoundedLaws.{product-bound}
 use Rattle.binary.proofs.ByteLaws.{value-drop}
-use Rattle.binary.proofs.Implies.{and-l, and-r, cond-bound}
+use Rattle.binary.proofs.Implies.{cond-bound}
 use Rattle.binary.proofs.WordLaws.{positive-lt, negative-le}
 use Rattle.tariff.specs.DefaultBids.{lesser, excess, hourMakeUp, makeUp}
 use Rattle.tariff.specs.Sanctions.{cents}
-use Rattle.casefile.specs.Layout.{eventWidth, cellsOffset, hours}
-use Rattle.casefile.specs.Case.{Events}
-use Rattle.casefile.specs.Decode.{recordAt, eventsIn, amountsIn}
+use Rattle.casefile.specs.Layout.{eventWidth, cellsOffset}
+use Rattle.casefile.specs.Decode.{recordAt, eventsIn}
 use Rattle.casefile.specs.Refusal.{eventsFine}
 use Rattle.casefile.specs.Read.{cellOf}
 use Rattle.casefile.proofs.SectionLaws.{cell-ranges}

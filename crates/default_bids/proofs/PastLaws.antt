@@ -1,4 +1,4 @@
--- No flag, mitigated hour, bid in force or make-up depends on the past: a stage that is not lent it takes it to be empty.
+-- No flag, mitigated hour or make-up depends on the past: a stage that is not lent it takes it to be empty.
 use Prim.Native.Nat.{ℕ}
 use mathlib.Core.List.{List}
 use mathlib.Core.Path.{_≡_, refl}
@@ -9,10 +9,6 @@ use Rattle.conduct.specs.Flags.{tight, together, sumTogether, timeBid, timeTota
 use Rattle.default_bids.specs.Mitigation.{hit, mitigated, mitigatedMask, correctOf, bidInForce, makeUpTenths, makeUpOf, totalMakeUp}
 
 module _ (u r p q e : List ℕ) where
-  pub place-past : unitOf (caseIn u r p e) ≡ unitOf (caseIn u r q e)
-  unfolding caseIn unitOf
-  place-past = refl
-
   pub flags-past : flagMask (caseIn u r p e) ≡ flagMask (caseIn u r q e)
   unfolding caseIn unitOf groupOf referenceOf tight together sumTogether timeBid timeTotal bidFlag groupCapability groupSum withheldFlag dispatchFlag fuelFlag flagged flagMask
   flags-past = refl
@@ -20,10 +16,6 @@ module _ (u r p q e : List ℕ) where
   pub mitigated-past : mitigatedMask (caseIn u r p e) ≡ mitigatedMask (caseIn u r q e)
   unfolding caseIn unitOf groupOf referenceOf tight together sumTogether timeBid timeTotal bidFlag groupCapability groupSum withheldFlag dispatchFlag fuelFlag flagged hit mitigated mitigatedMask
   mitigated-past = refl
-
-  pub bids-past : (k : References) → bidInForce (caseIn u r p e) k ≡ bidInForce (caseIn u r q e) k
-  unfolding caseIn unitOf groupOf referenceOf tight together sumTogether timeBid timeTotal bidFlag groupCapability groupSum withheldFlag dispatchFlag fuelFlag flagged hit mitigated correctOf bidInForce
-  bids-past k = refl
 
   pub make-ups-past : (k : References) → makeUpOf (caseIn u r p e) k ≡ makeUpOf (caseIn u r q e) k
   unfolding caseIn unitOf groupOf referenceOf tight together sumTogether timeBid timeTotal bidFlag groupCapability groupSum withheldFlag dispatchFlag fuelFlag flagged hit mitigated correctOf makeUpTenths makeUpOf

@@ -34,6 +34,7 @@ pub fn bid_refusals() {
     lines::bid_in_market(0, 0, 0, 0, false, 0, 8784);
     lines::bid_in_market(0, 0, 0, 0, false, 0, 8785);
     lines::times_fail(1000000001, 0, 0);
+    lines::times_fail(0, 1000000001, 0);
     lines::times_fail(0, 0, 3294967295);
 }
 
@@ -100,6 +101,7 @@ pub fn default_bid_refusals() {
     lines::mitigated_span(1, 25);
     lines::bid_in_force(9, 0, 4000000000, true);
     lines::bid_in_force(0, 1000001, 0, true);
+    lines::corrected_bid(9, 0, 4000000000, 4000000000);
     lines::corrected_bid(1, 1000001, 0, 0);
     lines::corrected_bid_in_market(2, 0, 0);
     lines::corrected_bid_in_market(0, 1000001, 0);

@@ -1,7 +1,7 @@
 -- No line, and one line more.
 use Prim.Native.Nat.{ℕ, _+_}
 use mathlib.Core.List.{List, [], _++_}
-use mathlib.Core.Path.{_≡_, refl, ap, _∙_}
+use mathlib.Core.Path.{_≡_, refl}
 use Rattle.binary.specs.Lists.{joinTo}
 use Rattle.binary.proofs.ListLaws.{join-more}
 use Rattle.report.specs.Line.{eventFields, rowFields, lineOf, linesTo}

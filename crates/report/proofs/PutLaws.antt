@@ -5,7 +5,7 @@ use mathlib.Core.Path.{_≡_, refl, sym, ap, subst, _∙_}
 use native.Mathlib.Omega.{arith}
 use borrow.Author.Tests.{lt-ltb, le-ltb}
 use lib.ListN.{length, length-append}
-use lib.Seq.{sets, length-sets}
+use lib.Seq.{length-sets}
 use Rattle.settlement.proofs.WriteLaws.{sets-append}
 use Rattle.report.specs.Decimal.{field, decimalTo, decimalTo-none, decimalTo-one, decimalTo-more}
 use Rattle.report.specs.Put.{Put}

@@ -1,11 +1,11 @@
 -- From the check's number to what the stages lean on, and from what they leave to the answer and the rows buffer.
-use Prim.Native.Nat.{ℕ, _+_, _*_, _/_, _≤_, _<_}
+use Prim.Native.Nat.{ℕ, _/_}
 use mathlib.Core.List.{List}
-use mathlib.Core.Path.{_≡_, refl, sym, ap, _∙_}
+use mathlib.Core.Path.{_≡_, refl, _∙_}
 use native.Mathlib.Omega.{arith}
 use borrow.Author.Tests.{eq-eqb, ne-eqb}
 use lib.ListN.{length}
-use Rattle.casefile.specs.Layout.{eventWidth, rowWidth}
+use Rattle.casefile.specs.Layout.{eventWidth}
 use Rattle.casefile.specs.Decode.{sectionOf, referencesIn, eventsIn, caseIn, decode}
 use Rattle.casefile.specs.Lookup.{correctReferences, correctIn}
 use Rattle.casefile.specs.Refusal.{refusal}

@@ -1,6 +1,6 @@
 -- What a smaller public call answers: document 01's number (0 where nothing is refused) and the figure (0 where it is refused).
 use Prim.Native.Nat.{ℕ}
-use mathlib.Core.Bool.{Bool, true, false, cond}
+use mathlib.Core.Bool.{Bool, false, cond}
 use Rattle.tariff.specs.declared.answer.Verdict.{Verdict}
 use Rattle.tariff.specs.declared.answer.Verdict.the-variants as verdict
 use Rattle.tariff.specs.declared.answer.Figure.{Figure}

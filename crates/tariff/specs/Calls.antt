@@ -1,5 +1,5 @@
 -- The smaller public calls (document 01, What a case can break, last paragraph): each answers first 7, then 10, then its figure.
-use Prim.Native.Nat.{ℕ, _+_, _*_}
+use Prim.Native.Nat.{ℕ, _+_, _*_, _^_}
 use mathlib.Core.Bool.{Bool, false, not, _&&_, _||_}
 use mathlib.Core.List.{List}
 use lib.Dec.{ltb, leb, eqb}
@@ -105,7 +105,7 @@ periodAnswer k p q = answer false (ltb k 1 || ltb 2 k) (bit (periodCounts k p q)
 
 -- the mask of hours that are flagged with their Q bit, and R
 unfoldable pub spanAnswer : (hits R : ℕ) → Answer
-spanAnswer hits R = answer false (leb 16777216 hits || ltb 24 R) (spanMask hours (bitOf hits) R)
+spanAnswer hits R = answer false (leb (2 ^ hours) hits || ltb hours R) (spanMask hours (bitOf hits) R)
 
 -- the figure is the bid's word
 unfoldable pub inForceAnswer : (component a r : ℕ) (mitigated : Bool) → Answer

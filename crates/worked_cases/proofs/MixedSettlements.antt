@@ -21,7 +21,7 @@ use Rattle.default_bids.specs.Mitigation.{hit, mitigated, mitigatedMask, correc
 use Rattle.binary.specs.Lists.{joinTo}
 use Rattle.settlement.specs.Row.{bidBytes, rowOf, rowsOf}
 use Rattle.settlement.specs.Settled.{accepted, answerOf, rowsAfter, settled}
-use Rattle.worked_cases.specs.Cases.{at, tightUnit, cellBytes, eventOf, rowBytes, noBids, areaUnits, pastInstances, sanctionedEvents, sanctioned, sanctionedRows, mixedReferences, mixedEvents, mixed, mixedRows, twoDaysEvents, twoDays, twoDaysRows, groupReferences, groupEvents, group, groupRows, windowPast, windowReferences, windowCorrection, windowEvents, windows, windowRows}
+use Rattle.worked_cases.specs.Cases.{tightUnit, cellBytes, eventOf, rowBytes, areaUnits, pastInstances, sanctionedEvents, sanctioned, sanctionedRows, mixedReferences, mixedEvents, mixed, mixedRows, twoDaysEvents, twoDays, twoDaysRows, groupReferences, groupEvents, group, groupRows, windowPast, windowReferences, windowCorrection, windowEvents, windows, windowRows}
 
 -- the byte beyond the last row stays
 pub record MixedExamples : Type 0 where

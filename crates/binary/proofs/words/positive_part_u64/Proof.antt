@@ -1,4 +1,3 @@
-use borrow.Author.Needs.{needs}
 use borrow.Author.Tests.{lt-ltb, le-ltb}
 use Rattle.binary.specs.Word.{positivePart}
 use Rattle.binary.proofs.words.positive_part_u64.Statement.{statement}

@@ -1,13 +1,12 @@
 use Prim.Native.Nat.{_≤_, _-_}
 use mathlib.Core.List.{_++_, append-nil}
-use mathlib.Core.Path.{_≡_, _∙_, ap}
+use mathlib.Core.Path.{_≡_, _∙_}
 use borrow.Author.Needs.{needs}
 use native.Mathlib.Omega.{arith}
 use lib.ListN.{drop}
 use Rattle.binary.specs.Lists.{listTo}
 use Rattle.binary.proofs.ListLaws.{fill-none, fill-more}
-use Rattle.casefile.specs.Read.{cellOf}
-use Rattle.default_bids.specs.Figures.{hourBid, bidAt}
+use Rattle.default_bids.specs.Figures.{bidAt}
 use Rattle.default_bids.proofs.bids.hour_bids.Statement.{statement}
 use Rattle.default_bids.proofs.bids.hour_bids.Tie as tie
 

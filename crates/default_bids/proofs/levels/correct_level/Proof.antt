@@ -1,5 +1,5 @@
 use mathlib.Core.Bool.{true, false}
-use mathlib.Core.Path.{_≡_, _∙_}
+use mathlib.Core.Path.{_≡_}
 use borrow.Author.Needs.{needs}
 use Rattle.casefile.specs.Decode.{referencesIn, eventsIn}
 use Rattle.casefile.specs.Lookup.{readsCorrect}

@@ -1,6 +1,5 @@
 use Prim.Native.Nat.{_≤_, _-_, _*_}
 use mathlib.Core.Path.{_≡_}
-use borrow.Author.Needs.{needs}
 use native.Mathlib.Omega.{arith}
 use Rattle.binary.specs.Bounded.{sumTo}
 use Rattle.binary.proofs.BoundedLaws.{sum-none, sum-more}

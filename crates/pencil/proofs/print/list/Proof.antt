@@ -1,5 +1,4 @@
 use Prim.Native.Nat.{_≤_, _-_}
-use borrow.Author.Needs.{needs}
 use native.Mathlib.Omega.{arith}
 use lib.ListN.{length}
 use Rattle.pencil.proofs.print.list.Statement.{statement}

@@ -1,14 +1,12 @@
 -- At the loop's head the lines of the first i events stand in out.
-use Prim.Native.Nat.{ℕ, _≤_, _*_, _-_, _+_}
-use mathlib.Core.List.{List}
+use Prim.Native.Nat.{ℕ, _≤_, _*_, _-_}
 use mathlib.Core.Path.{_≡_, sym, ap}
 use borrow.Author.Needs.{needs}
 use native.Mathlib.Omega.{arith}
 use lib.ListN.{length}
-use Rattle.binary.proofs.ListLaws.{join-more}
 use Rattle.report.specs.Put.{Put}
 use Rattle.report.proofs.PutLaws.{then, nothing, same-text, put-size}
-use Rattle.report.specs.Line.{eventFields, rowFields, lineOf, linesTo}
+use Rattle.report.specs.Line.{eventFields, rowFields, linesTo}
 use Rattle.report.proofs.LineLaws.{lines-none, lines-more}
 use Rattle.report.proofs.lines.put_lines.Statement.{statement}
 use Rattle.report.proofs.lines.put_lines.Tie as tie

@@ -1,9 +1,7 @@
-use Prim.Native.Nat.{_+_, _*_, _≤_}
-use mathlib.Core.Path.{_≡_, _∙_, sym, ap}
+use mathlib.Core.Path.{_∙_, sym, ap}
 use borrow.Author.Needs.{needs}
 use native.Mathlib.Omega.{arith}
 use lib.ListN.{length}
-use Rattle.casefile.specs.Decode.{sectionOf}
 use Rattle.casefile.proofs.AcceptedLaws as case
 use Rattle.report.proofs.PutLaws.{put-size}
 use Rattle.report.proofs.ListingLaws.{counted, short, fine, count, few, rows-long, listed-refusal, listed-settlement, listed-rows}

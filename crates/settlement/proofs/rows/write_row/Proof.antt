@@ -1,4 +1,4 @@
-use mathlib.Core.Path.{_≡_, _∙_, ap, sym}
+use mathlib.Core.Path.{_∙_, ap, sym}
 use borrow.Author.Needs.{needs}
 use lib.ListN.{length}
 use Rattle.settlement.proofs.WriteLaws.{row-stored, row-bytes-length}

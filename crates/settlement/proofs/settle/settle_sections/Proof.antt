@@ -2,7 +2,6 @@ use Prim.Native.Nat.{ℕ}
 use mathlib.Core.List.{[]}
 use mathlib.Core.Path.{_∙_, ap}
 use borrow.Author.Needs.{needs}
-use native.Mathlib.Omega.{arith}
 use Rattle.binary.proofs.ListLaws.{holds-fill, fill-long}
 use Rattle.conduct.proofs.PartyLaws.{unit-sections, group-sections, leader-sections}
 use Rattle.default_bids.proofs.PastLaws.{flags-past}

@@ -1,8 +1,7 @@
-use mathlib.Core.Bool.{false, _||_}
-use mathlib.Core.Path.{_≡_, _∙_, sym}
+use mathlib.Core.Path.{_∙_, sym}
 use native.Mathlib.Omega.{arith}
 use Rattle.binary.proofs.Implies.{or-r}
-use Rattle.tariff.specs.Calls.{badMultiplier, badHours, withheldPenaltyAnswer}
+use Rattle.tariff.specs.Calls.{withheldPenaltyAnswer}
 use Rattle.tariff.proofs.calls.withheld_penalty.Statement.{statement}
 use Rattle.tariff.proofs.calls.withheld_penalty.Tie as tie
 

@@ -1,5 +1,4 @@
 use borrow.Author.Needs.{needs}
-use mathlib.Core.Path.{refl}
 use native.Mathlib.Omega.{arith}
 use Rattle.tariff.specs.Conduct.{increase}
 use Rattle.tariff.proofs.conduct.increase.Statement.{statement}
