@@ -161,9 +161,28 @@ spanned-by hour5 hits e =
     beq-same false true q = q
     beq-same false false q = refl
 
--- hour 10 gives 10 to 17; with the bid of hour 5 raised over the line too the span is 5 to 12
+-- it has no fuel event, so that E is nowhere below 0
+no-loss : EnergyNotNegative (decode (runningUnit 4000))
+unfolding runningUnit headed fileOf unitBytes referenceBytes cellBytes eventOf joinTo valueAt bytesOf offsetOf lengthOf sectionOf recordAt unitsIn referencesIn violationIn pastIn eventsIn amountsIn decode caseIn
+no-loss zero l k = absurd (omega arith)
+no-loss (suc i) l k = absurd (omega arith)
+
+-- hour 10 gives 10 to 17; with the bid of hour 5 raised over the line too, a change that the file takes, the span is 5 to 12.
+-- Both files are accepted and E is nowhere below 0: all that demand 3 asks
 pub hours-cleared : (mitigatedMask (decode (runningUnit 4000)) 0 ≡ maskTo 24 (between 10 17))
     × (applyAll (cell 0 5 15001 ∷ []) (runningUnit 4000) ≡ runningUnit 15001)
     × (mitigatedMask (decode (runningUnit 15001)) 0 ≡ maskTo 24 (between 5 12))
+    × (refusal (runningUnit 4000) [] 128 ≡ 0)
+    × (refusal (runningUnit 15001) [] 128 ≡ 0)
+    × TakesAll (runningUnit 4000) (cell 0 5 15001 ∷ [])
+    × EnergyNotNegative (decode (runningUnit 4000))
 unfolding runningUnit headed fileOf unitBytes referenceBytes cellBytes eventOf cellPlace cellWritten entryPlace entryPut longerPast laterEvents headerMoved apply applyAll moreWithheld lowerBid movedBid worseBid worseAmount sumTo countTo anyTo allTo firstTo lastTo maskTo bitOf valueAt bytesOf positivePart negativePart within thresholdOf increase lowerTest constrainedTest percentTest timeTest maximumTest bidTest unitLimit groupLimit withheldTest dispatchTest cents periodCounts ladder withheldPenalty dispatchPenalty fuelDayCounts fuelCharge fuelPenalty between spanned spanMask atMost lesser greater defaultBid restores correctedBid correctedInForce excess hourMakeUp makeUp offsetOf lengthOf sectionOf recordAt unitsIn referencesIn violationIn pastIn eventsIn amountsIn decode caseIn isUnit isListed placeOf unitOf groupOf isReference hasReference levelOf correctReferences correctIn referenceOf lengthFine versionFine sectionsFine pairsFine sizeFine sizesFine rises unitFieldsFine unitSpareFine unitFine unitsFine referenceFieldsFine referenceKey referenceFine referencesFine correctionFine violationFine entryFine pastFine maskFine quantitiesFine fieldsFine referenceInRange bidInRange cellFine hourFine eventFine eventsFine eventKey orderFine eventListed eventsListed withinCapability amountFine amountsFine readsCorrect referenceFound referencesFound rowsFine headerRefusal recordsRefusal eventsRefusal refusal tight together sumTogether timeBid timeTotal bidFlag groupCapability groupSum withheldFlag dispatchFlag fuelFlag flagged flagMask flaggedWithImpact isInstance countsHere countsPast instances N3 N2 withheldMultiplier withheldAmount withheldPenaltyOf dispatchMultiplier dispatchRevenue dispatchPenaltyOf energyPart gain loss tccChange lowestUnit countsFuel pastFuel fuelStands fuelMultiplierAfter fuelPenaltyUnder priorFuel fuelMultiplier fuelPenaltyOf multiplier penalty totalPenalty hit mitigated mitigatedMask correctOf bidInForce makeUpTenths makeUpOf totalMakeUp joinTo bidBytes rowOf rowsOf accepted answerOf rowsAfter settled
-hours-cleared = (spanned-by 4000 1024 refl ∙ refl, refl, spanned-by 15001 1056 refl ∙ refl)
+hours-cleared = (
+  spanned-by 4000 1024 refl ∙ refl,
+  refl,
+  spanned-by 15001 1056 refl ∙ refl,
+  refl,
+  refl,
+  (record { event = lit< tt; hour = lit< tt; word = lit< tt; worse = refl }, tt),
+  no-loss,
+)

@@ -9,7 +9,7 @@ use Rattle.settlement.specs.Row.{rowsOf}
 use Rattle.settlement.specs.Settled.{Answer, accepted, refused, answerOf, settlementOf, answerOfSettlement, rowsAfter, Settled, settled}
 use Rattle.settlement.specs.declared.settle.Settlement.{Settlement}
 use Rattle.worse_conduct.specs.Promise.{NoSmaller}
-use Rattle.worse_conduct.specs.Demands.{Run, Demand1, Demand2, Demand3}
+use Rattle.worse_conduct.specs.Demands.{Run, Demand1, Demand2, Demand3, WorseOfTwo}
 use Rattle.worse_conduct.proofs.WorseConduct.{worse-conduct}
 
 module _ (file correction rows : List ℕ) (answer : Settlement) (after : List ℕ) (run : Run file correction rows answer after) where
@@ -45,3 +45,10 @@ pub demand-3 : Demand3
 demand-3 file correction rows rows′ after after′ answer answer′ changes run run′ h h′ takes energy =
     rw (← is-settled file correction rows answer after run, ← is-settled _ correction rows′ answer′ after′ run′)
     (worse-conduct file correction rows rows′ changes h h′ takes energy)
+
+pub worse-of-two : (file worse correction rows worseRows : List ℕ) (answer worseAnswer : Settlement) (after worseAfter : List ℕ)
+    → Run file correction rows answer after
+    → Run worse correction worseRows worseAnswer worseAfter
+    → WorseOfTwo file worse correction rows worseRows answer worseAnswer after worseAfter
+worse-of-two file worse correction rows worseRows answer worseAnswer after worseAfter run run′ changes leads h h′ takes energy =
+    demand-3 file correction rows worseRows after worseAfter answer worseAnswer changes run (rw leads run′) h (rw leads h′) takes energy

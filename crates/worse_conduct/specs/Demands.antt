@@ -17,8 +17,8 @@ use Rattle.settlement.specs.declared.settle.Settlement.the-variants as settleme
 use Rattle.worse_conduct.specs.Changes.{Change, applyAll, TakesAll}
 use Rattle.worse_conduct.specs.Promise.{EnergyNotNegative, NoSmaller}
 
--- a run of the call on these arguments: its answer, and the rows buffer before and after. The fields are the call's contract,
--- which is proved of the code for every file, correction and buffer
+-- a run of the call on these arguments: its answer, and the rows buffer before and after. Every call of `settle` is one, for every
+-- file, correction and buffer: the contract of run::settled_once, proved of the code
 pub record Run (file correction rows : List ℕ) (answer : Settlement) (after : List ℕ) : Type 0 where
   pub answered : answerOfSettlement answer ≡ answerOf file correction (length rows)
   pub told : answer ≡ settlementOf (answerOf file correction (length rows))
@@ -53,3 +53,14 @@ Demand3 =
     → TakesAll file changes
     → EnergyNotNegative (decode file)
     → NoSmaller (record { answer = answerOfSettlement answer; rows = after }) (record { answer = answerOfSettlement answer′; rows = after′ })
+
+-- demand 3 of the two runs of run::settled_twice: for every list of changes that leads from the first file to the second
+abbrev pub WorseOfTwo : (file worse correction rows worseRows : List ℕ) (answer worseAnswer : Settlement) (after worseAfter : List ℕ) → Type 0
+WorseOfTwo file worse correction rows worseRows answer worseAnswer after worseAfter =
+    (changes : List Change)
+    → applyAll changes file ≡ worse
+    → refusal file correction (length rows) ≡ 0
+    → refusal worse correction (length worseRows) ≡ 0
+    → TakesAll file changes
+    → EnergyNotNegative (decode file)
+    → NoSmaller (record { answer = answerOfSettlement answer; rows = after }) (record { answer = answerOfSettlement worseAnswer; rows = worseAfter })

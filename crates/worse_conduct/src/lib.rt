@@ -1,1 +1,2 @@
-// Behaving worse never costs less: specs/Promise has the claim, proofs/ its proof.
+// Behaving worse never costs less: specs/Promise has the claim, proofs/ its proof, and run the calls it is about.
+pub mod run;

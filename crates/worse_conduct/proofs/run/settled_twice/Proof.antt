@@ -1,0 +1,15 @@
+use borrow.Author.Needs.{needs}
+use Rattle.worse_conduct.proofs.Demands.{worse-of-two}
+use Rattle.worse_conduct.proofs.run.settled_twice.Statement.{statement}
+use Rattle.worse_conduct.proofs.run.settled_twice.Tie as tie
+
+pub settled-twice-spec : {M : Type 1} → statement M
+settled-twice-spec =
+    tie.close
+    (tie.spec
+    (λ c κs. tt)
+    (λ c κs. tt)
+    (λ c. search needs)
+    (λ c. search needs)
+    (λ c.
+    worse-of-two _ _ _ _ _ _ _ _ _ (c .before .before .before .before .before .before .settled-once .ensures) (c .before .before .settled-once2 .ensures)))

@@ -1,0 +1,31 @@
+// The runs of which specs/Demands speaks are those of the call: one run, and the runs before and after a list of changes.
+ghost use Rattle.worse_conduct.specs.Demands.{Run, WorseOfTwo};
+use settlement::settle::Settlement;
+use settlement::settle::settle;
+
+pub struct Answers {
+    pub before: Settlement,
+    pub after: Settlement,
+}
+
+// One case settled is a run of the demands.
+pub fn settled_once<'a>(file: &'a [u8], correction: &'a [u8], rows: &mut [u8]) -> Settlement
+    ensures { λ r. ⌜ Run (now (file .entry)) (now (correction .entry)) (now (rows .entry)) r (now (rows .exit)) ⌝ }
+{
+    settle(file, correction, rows)
+}
+
+// The cases before and after a list of changes, settled whole with one correction, each into a rows buffer of its own.
+pub fn settled_twice<'a>(
+    file: &'a [u8],
+    worse: &'a [u8],
+    correction: &'a [u8],
+    rows: &mut [u8],
+    worse_rows: &mut [u8],
+) -> Answers
+    ensures { λ r. ⌜ WorseOfTwo (now (file .entry)) (now (worse .entry)) (now (correction .entry)) (now (rows .entry)) (now («worse_rows» .entry)) (r .before) (r .after) (now (rows .exit)) (now («worse_rows» .exit)) ⌝ }
+{
+    let before = settled_once(file, correction, rows);
+    let after = settled_once(worse, correction, worse_rows);
+    Answers { before, after }
+}
