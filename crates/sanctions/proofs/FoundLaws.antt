@@ -42,7 +42,7 @@ unfolding cellOf cellsIn eventsIn
 cell-price e i h = simp (value-drop, add-assoc)
 
 -- a row is an instance where its N3 is above 0
-pub instance-n3 : (c : Case) (j : ℕ) → ltb 0 (N3 c j) ≡ isInstance c j
+instance-n3 : (c : Case) (j : ℕ) → ltb 0 (N3 c j) ≡ isInstance c j
 unfolding N3 instances
 instance-n3 c j = go (isInstance c j) _ _
   where

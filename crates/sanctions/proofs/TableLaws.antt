@@ -49,7 +49,7 @@ module _ (part : ℕ → ℕ) (q : Part part) (cells : List ℕ) (mask : ℕ) (s
       (λ _. let p : cellOf cells h .a * part (cellOf cells h .b) ≤ 50000 * 2147483648 = mul-le-mul (small h l) (q .small _) in omega arith)
       (λ _. zero-le)
 
-  pub energy-small : (Q : ℕ) → energyIn part Q cells mask ≤ 3000000000000000
+  energy-small : (Q : ℕ) → energyIn part Q cells mask ≤ 3000000000000000
   unfolding energyIn
   energy-small Q =
       let s = sum-bound hours (hourEnergy part cells mask) 107374182400000 hour-small in
@@ -86,18 +86,19 @@ unfolding partyShare
 shares d events leaders mask i j e =
     (ap (λ (x : PartyDay). x .gain) e, ap (λ (x : PartyDay). x .loss) e, ap (λ (x : PartyDay). x .rise) e, ap (λ (x : PartyDay). x .fall) e)
 
-module _ (part : ℕ → ℕ) (q : Part part) (events leaders : List ℕ) (mask i : ℕ) (k : eventsIn events .kind i ≡ 3) (s : Sound events leaders) where
-  -- an event that event i leads is of kind 3, and its amounts are small
-  pub led-amounts : (j : ℕ) → j < length events / eventWidth → getD leaders j 0 ≡ i → SmallAmounts (cellsIn events j)
-  led-amounts j l e =
-      let three : eventsIn events .kind j ≡ 3 = sym (s .kinds j l) ∙ ap (λ (x : ℕ). eventsIn events .kind x) e ∙ k in
-      s .fuel j l three
+-- an event that event i leads is of kind 3, and its amounts are small
+pub led-amounts : (events leaders : List ℕ) (i j : ℕ) → eventsIn events .kind i ≡ 3 → Sound events leaders → j < length events / eventWidth
+    → getD leaders j 0 ≡ i → SmallAmounts (cellsIn events j)
+led-amounts events leaders i j k s l e =
+    let three : eventsIn events .kind j ≡ 3 = sym (s .kinds j l) ∙ ap (λ (x : ℕ). eventsIn events .kind x) e ∙ k in
+    s .fuel j l three
 
+module _ (part : ℕ → ℕ) (q : Part part) (events leaders : List ℕ) (mask i : ℕ) (k : eventsIn events .kind i ≡ 3) (s : Sound events leaders) where
   pub energy-led : (j : ℕ) → j < length events / eventWidth → ledBy leaders i (energyAt part events mask) j ≤ 3000000000000000
   unfolding ledBy
   energy-led j l =
       cond-bound (eqb (getD leaders j 0) i)
-      (λ t. energy-small part q (cellsIn events j) mask (led-amounts j l (eqb→eq (getD leaders j 0) i t)) _)
+      (λ t. energy-small part q (cellsIn events j) mask (led-amounts events leaders i j k s l (eqb→eq (getD leaders j 0) i t)) _)
       (λ _. zero-le)
 
   pub tcc-led : (j : ℕ) → j < length events / eventWidth → ledBy leaders i (tccAt part events) j ≤ 2147483648

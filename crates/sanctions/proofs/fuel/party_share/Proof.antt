@@ -1,9 +1,8 @@
 use borrow.Author.Needs.{needs}
 use borrow.Author.Tests.{eq-eqb, ne-eqb}
-use Rattle.binary.specs.Word.{positivePart}
 use Rattle.casefile.specs.Decode.{eventsIn}
 use Rattle.sanctions.specs.Tables.{energyOf, ledBy, partyShare}
-use Rattle.sanctions.proofs.TableLaws.{positive-part, led-amounts}
+use Rattle.sanctions.proofs.TableLaws.{led-amounts}
 use Rattle.sanctions.proofs.fuel.party_share.Statement.{statement}
 use Rattle.sanctions.proofs.fuel.party_share.Tie as tie
 
@@ -24,7 +23,7 @@ party-share-spec =
     let s = t .before .before .before .before in (
       c .cells-of .ensures .1,
       rw (c .cells-of .ensures .0)
-          (led-amounts (positivePart 32) positive-part (s .args .events .now) (s .args .leaders .now) (s .args .mask) _ (s .pre .2) (s .pre .3) _ (s .pre .0) (t .if1 .left)),
+          (led-amounts (s .args .events .now) (s .args .leaders .now) _ _ (s .pre .2) (s .pre .3) (s .pre .0) (t .if1 .left)),
     ))
     (λ c κs. tt)
     (λ c κs. tt)
