@@ -3,7 +3,7 @@ use Prim.Native.Nat.{ℕ, _+_, _*_, _/_, _<_}
 use mathlib.Core.Bool.{Bool, true, false, cond, _&&_, _||_}
 use mathlib.Core.List.{List, _++_}
 use mathlib.Core.Path.{_≡_, refl, sym, ap, ap₂, _∙_}
-use native.Mathlib.Nat.{zero-mul}
+use native.Mathlib.Nat.{zero-mul, add-assoc}
 use native.Mathlib.Omega.{arith}
 use lib.Dec.{ltb, eqb}
 use lib.ListN.{length, getD, drop, set, length-set}
@@ -12,28 +12,37 @@ use Rattle.binary.specs.Bounded.{sumTo, countTo, bitOf}
 use Rattle.binary.specs.Lists.{listTo, Holds}
 use Rattle.binary.specs.Word.{positivePart, negativePart}
 use Rattle.binary.proofs.Implies.{and-l, and-r}
+use Rattle.binary.proofs.ByteLaws.{value-drop}
 use Rattle.binary.proofs.BoundedLaws.{sum-same, count-same, any-same}
 use Rattle.binary.proofs.MaskLaws.{bit-mask, mask-any}
 use Rattle.binary.proofs.ListLaws.{fill-none, fill-more, holds-fill}
 use Rattle.tariff.specs.Sanctions.{cents, ladder, withheldPenalty}
 use Rattle.casefile.specs.Layout.{eventWidth, pastWidth, hours}
 use Rattle.casefile.specs.Case.{Case}
-use Rattle.casefile.specs.Decode.{recordAt, pastIn, eventsIn, amountsIn, caseIn}
+use Rattle.casefile.specs.Decode.{pastIn, eventsIn, caseIn}
 use Rattle.casefile.specs.Lookup.{groupOf}
+use Rattle.casefile.specs.Read.{cellOf}
 use Rattle.conduct.specs.Flags.{sumTogether, fuelFlag, flagged, flagMask}
 use Rattle.conduct.specs.Parties.{leaderOf}
+use Rattle.conduct.specs.Stages.{cellsIn}
 use Rattle.sanctions.specs.Penalties.{flaggedWithImpact, isInstance, countsHere, countsPast, instances, N3, N2, withheldMultiplier, withheldAmount, withheldPenaltyOf, dispatchMultiplier, dispatchRevenue, dispatchPenaltyOf, energyPart, gain, loss, tccChange, lowestUnit, pastFuel, fuelMultiplierAfter, fuelPenaltyUnder, fuelMultiplier, fuelPenaltyOf, multiplier, penalty, totalPenalty}
 use Rattle.sanctions.specs.Found.{Accepted, Found, Sound, SmallPenalties}
 use Rattle.sanctions.specs.Tables.{hourEnergy, hourRevenue, instanceOf, rowCounts, entryOf, entryCounts, instancesHere, instancesPast, instancesAt, withImpact, noSanction, instanceRow, withheldRow, dispatchRow, energyIn, ledBy, energyAt, tccAt, partyDay, fuelRowCounts, fuelEntryCounts, multiplierAt, partyPenalty, fuelRow, rowAt}
 use Rattle.sanctions.specs.declared.sanction.Sanction.{Sanction}
 use Rattle.sanctions.proofs.PenaltyBounds.{penalty-bound}
+use Rattle.conduct.proofs.SumLaws.{cell-amount}
 use Rattle.conduct.proofs.PartyLaws.{together-fields, leader-le, leader-together}
 use Rattle.sanctions.proofs.PartyLaws.{leads, lowest-leader}
 use Rattle.sanctions.proofs.PriorLaws.{hasPrior, prior-rows}
 use Rattle.sanctions.proofs.AcceptedLaws.{bare-component, ranges}
 
+-- b of event i and hour h, read in the part where its cells begin
+cell-price : (e : List ℕ) (i h : ℕ) → cellOf (cellsIn e i) h .b ≡ eventsIn e .b i h
+unfolding cellOf cellsIn eventsIn
+cell-price e i h = simp (value-drop, add-assoc)
+
 -- a row is an instance where its N3 is above 0
-pub instance-n3 : (c : Case) (j : ℕ) → ltb 0 (N3 c j) ≡ isInstance c j
+instance-n3 : (c : Case) (j : ℕ) → ltb 0 (N3 c j) ≡ isInstance c j
 unfolding N3 instances
 instance-n3 c j = go (isInstance c j) _ _
   where
@@ -105,9 +114,9 @@ module _ (u r p e groups leaders masks : List ℕ) (acc : Accepted u p e) (found
   unfolding instancesAt instancesHere instancesPast instances caseIn pastIn
   instances-two n3 i l held = rw (rows-here n3 i 1 l held, entries i 1 l)
 
-  amount-is : (i : ℕ) → i < n → sumTo hours (hourEnergy (positivePart 32) (recordAt eventWidth e i) (getD masks i 0)) ≡ withheldAmount c i
-  unfolding hourEnergy withheldAmount caseIn eventsIn amountsIn
-  amount-is i l = sum-same hours _ _ (λ h m. rw (mask-bit i h l m))
+  amount-is : (i : ℕ) → i < n → sumTo hours (hourEnergy (positivePart 32) (cellsIn e i) (getD masks i 0)) ≡ withheldAmount c i
+  unfolding hourEnergy withheldAmount caseIn eventsIn
+  amount-is i l = sum-same hours _ _ (λ h m. rw (mask-bit i h l m, cell-amount e i h, cell-price e i h))
 
   withheld-is : (n3 : List ℕ) (i : ℕ) → i < n → Holds i n3 (N3 c) → eventsIn e .kind i ≡ 1
       → withheldRow p e groups masks n3 i ≡ row (withheldMultiplier c i) (N3 c i) (N2 c i) (withheldPenaltyOf c i)
@@ -128,9 +137,9 @@ module _ (u r p e groups leaders masks : List ℕ) (acc : Accepted u p e) (found
 
   -- ---- Dispatch
 
-  revenue-is : (i : ℕ) → i < n → sumTo hours (hourRevenue (recordAt eventWidth e i) (getD masks i 0)) ≡ dispatchRevenue c i
+  revenue-is : (i : ℕ) → i < n → sumTo hours (hourRevenue (cellsIn e i) (getD masks i 0)) ≡ dispatchRevenue c i
   unfolding hourRevenue dispatchRevenue caseIn eventsIn
-  revenue-is i l = sum-same hours _ _ (λ h m. rw (mask-bit i h l m))
+  revenue-is i l = sum-same hours _ _ (λ h m. rw (mask-bit i h l m, cell-price e i h))
 
   dispatch-is : (i : ℕ) → i < n → dispatchRow e masks i ≡ row (dispatchMultiplier c i) 0 0 (dispatchPenaltyOf c i)
   unfolding dispatchRow noSanction dispatchMultiplier dispatchPenaltyOf
@@ -152,9 +161,9 @@ module _ (u r p e groups leaders masks : List ℕ) (acc : Accepted u p e) (found
 
   energy-is : (part : ℕ → ℕ) (i j : ℕ) → i < n → eventsIn e .kind i ≡ 3
       → energyAt part e (getD masks i 0) j ≡ energyPart part c i j
-  unfolding energyIn hourEnergy energyPart caseIn eventsIn amountsIn
+  unfolding energyIn hourEnergy energyPart caseIn eventsIn
   energy-is part i j l k =
-      ap (λ (x : ℕ). 10 * part (eventsIn e .Q j) + x) (sum-same hours _ _ (λ h m. rw (union-bit i h l m k)))
+      ap (λ (x : ℕ). 10 * part (eventsIn e .Q j) + x) (sum-same hours _ _ (λ h m. rw (union-bit i h l m k, cell-amount e j h, cell-price e j h)))
 
   multiplier-is : (penalties : List ℕ) (i : ℕ) → i < n → Holds i penalties (penalty c)
       → multiplierAt p e groups penalties i ≡ fuelMultiplier c i
@@ -218,11 +227,11 @@ module _ (u r p e groups leaders masks : List ℕ) (acc : Accepted u p e) (found
       )
 
   pub sound : Sound e leaders
-  unfolding caseIn eventsIn amountsIn
+  unfolding caseIn eventsIn
   sound =
       record {
-        withheld = λ j l k h m. ranges u p e acc r .withheld j h l m k .0;
-        fuel = λ j l k h m. ranges u p e acc r .fuel j h l m k .0;
+        withheld = λ j l k h m. rw (cell-amount e j h) (ranges u p e acc r .withheld j h l m k .0);
+        fuel = λ j l k h m. rw (cell-amount e j h) (ranges u p e acc r .fuel j h l m k .0);
         kinds = λ j l. rw (found .leader-held j l) (together-fields c j _ (leader-together c j) .kind);
         before = λ j l. rw (found .leader-held j l) (leader-le c j);
       }

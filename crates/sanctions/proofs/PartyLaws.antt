@@ -28,7 +28,7 @@ leads c i j e = subst (λ (k : ℕ). eqb (leaderOf c j) k ≡ together c i j) e 
 
 module _ (c : Case) (o : orderFine (c .events) ≡ true) (bare : (i : ℕ) → i < c .events .count → c .events .kind i ≡ 3 → c .events .component i ≡ 0) where
   -- of two events of a party-day the earlier has the lower unit
-  pub earlier-lower : (i j : ℕ) → c .events .kind i ≡ 3 → SameParty c i j → j < i → i < c .events .count → c .events .unit j < c .events .unit i
+  earlier-lower : (i j : ℕ) → c .events .kind i ≡ 3 → SameParty c i j → j < i → i < c .events .count → c .events .unit j < c .events .unit i
   earlier-lower i j k s l m =
       let r = units-in-order (c .events) o j i l m (s .day) (s .kind) (s .market) in
       let x = bare i m k in

@@ -14,7 +14,7 @@ by-kind : (k x y z : ℕ) → k ≡ 3 → cond (eqb k 1) x (cond (eqb k 2) y z) 
 by-kind k x y z e = rw e
 
 -- the penalty on a row of kind 3
-pub fuel-row : (c : Case) (n : ℕ) → c .events .kind n ≡ 3 → penalty c n ≡ cond (lowestUnit c n) (fuelPenaltyOf c n) 0
+fuel-row : (c : Case) (n : ℕ) → c .events .kind n ≡ 3 → penalty c n ≡ cond (lowestUnit c n) (fuelPenaltyOf c n) 0
 unfolding penalty
 fuel-row c n k =
     by-kind (c .events .kind n) (withheldPenaltyOf c n) (dispatchPenaltyOf c n) _ k

@@ -8,13 +8,14 @@ use native.Mathlib.Omega.{arith}
 use lib.Dec.{eqb, eqb→eq}
 use lib.ListN.{length, getD}
 use Rattle.binary.specs.Bounded.{sumTo, countTo, bitOf}
-use Rattle.binary.specs.Bytes.{u32At}
 use Rattle.binary.specs.Word.{positivePart, negativePart}
 use Rattle.binary.proofs.Implies.{cond-bound}
 use Rattle.binary.proofs.BoundedLaws.{count-more, count-bound, sum-more, sum-bound}
 use Rattle.binary.proofs.WordLaws.{positive-lt, negative-le}
 use Rattle.casefile.specs.Layout.{eventWidth, hours}
-use Rattle.casefile.specs.Decode.{cellAt, recordAt, eventsIn}
+use Rattle.casefile.specs.Decode.{eventsIn}
+use Rattle.casefile.specs.Read.{cellOf}
+use Rattle.conduct.specs.Stages.{cellsIn}
 use Rattle.sanctions.specs.Penalties.{fuelMultiplierAfter}
 use Rattle.sanctions.specs.Found.{SmallAmounts, Sound}
 use Rattle.sanctions.specs.Tables.{hourEnergy, energyIn, ledBy, energyAt, tccAt, partyShare, partyDay}
@@ -40,30 +41,30 @@ positive-part = record { small = λ w. let l = positive-lt 32 w in omega arith }
 pub negative-part : Part (negativePart 32)
 negative-part = record { small = λ w. negative-le 32 w (omega arith) }
 
-module _ (part : ℕ → ℕ) (q : Part part) (event : List ℕ) (mask : ℕ) (small : SmallAmounts event) where
-  pub hour-small : (h : ℕ) → h < hours → hourEnergy part event mask h ≤ 107374182400000
+module _ (part : ℕ → ℕ) (q : Part part) (cells : List ℕ) (mask : ℕ) (small : SmallAmounts cells) where
+  pub hour-small : (h : ℕ) → h < hours → hourEnergy part cells mask h ≤ 107374182400000
   unfolding hourEnergy
   hour-small h l =
       cond-bound (bitOf mask h)
-      (λ _. let p : u32At event (cellAt h) * part (u32At event (cellAt h + 4)) ≤ 50000 * 2147483648 = mul-le-mul (small h l) (q .small _) in omega arith)
+      (λ _. let p : cellOf cells h .a * part (cellOf cells h .b) ≤ 50000 * 2147483648 = mul-le-mul (small h l) (q .small _) in omega arith)
       (λ _. zero-le)
 
-  pub energy-small : energyIn part event mask ≤ 3000000000000000
+  energy-small : (Q : ℕ) → energyIn part Q cells mask ≤ 3000000000000000
   unfolding energyIn
-  energy-small =
-      let s = sum-bound hours (hourEnergy part event mask) 107374182400000 hour-small in
-      let t = q .small (u32At event 16) in
+  energy-small Q =
+      let s = sum-bound hours (hourEnergy part cells mask) 107374182400000 hour-small in
+      let t = q .small Q in
       omega arith
 
   -- one turn of the loop over the hours
-  pub energy-turn : (h x y s : ℕ) → h < hours → s ≤ 21474836480 → x ≡ s + sumTo h (hourEnergy part event mask)
-      → y ≡ hourEnergy part event mask h
-      → (x + y ≡ s + sumTo (h + 1) (hourEnergy part event mask)) × (x + y ≤ 3000000000000000)
+  pub energy-turn : (h x y s : ℕ) → h < hours → s ≤ 21474836480 → x ≡ s + sumTo h (hourEnergy part cells mask)
+      → y ≡ hourEnergy part cells mask h
+      → (x + y ≡ s + sumTo (h + 1) (hourEnergy part cells mask)) × (x + y ≤ 3000000000000000)
   energy-turn h x y s l t e f =
-      let n : x + y ≡ s + sumTo (h + 1) (hourEnergy part event mask) =
-      ap₂ _+_ e f ∙ add-assoc s _ _ ∙ ap (λ (z : ℕ). s + z) (sym (sum-more h (hourEnergy part event mask))) in
-      let b : sumTo (h + 1) (hourEnergy part event mask) ≤ (h + 1) * 107374182400000 =
-      sum-bound (h + 1) (hourEnergy part event mask) 107374182400000 (λ k q. hour-small k (omega arith)) in
+      let n : x + y ≡ s + sumTo (h + 1) (hourEnergy part cells mask) =
+      ap₂ _+_ e f ∙ add-assoc s _ _ ∙ ap (λ (z : ℕ). s + z) (sym (sum-more h (hourEnergy part cells mask))) in
+      let b : sumTo (h + 1) (hourEnergy part cells mask) ≤ (h + 1) * 107374182400000 =
+      sum-bound (h + 1) (hourEnergy part cells mask) 107374182400000 (λ k q. hour-small k (omega arith)) in
       (n, omega arith)
 
 -- ---- the sums of a party-day
@@ -85,18 +86,19 @@ unfolding partyShare
 shares d events leaders mask i j e =
     (ap (λ (x : PartyDay). x .gain) e, ap (λ (x : PartyDay). x .loss) e, ap (λ (x : PartyDay). x .rise) e, ap (λ (x : PartyDay). x .fall) e)
 
-module _ (part : ℕ → ℕ) (q : Part part) (events leaders : List ℕ) (mask i : ℕ) (k : eventsIn events .kind i ≡ 3) (s : Sound events leaders) where
-  -- an event that event i leads is of kind 3, and its amounts are small
-  pub led-amounts : (j : ℕ) → j < length events / eventWidth → getD leaders j 0 ≡ i → SmallAmounts (recordAt eventWidth events j)
-  led-amounts j l e =
-      let three : eventsIn events .kind j ≡ 3 = sym (s .kinds j l) ∙ ap (λ (x : ℕ). eventsIn events .kind x) e ∙ k in
-      s .fuel j l three
+-- an event that event i leads is of kind 3, and its amounts are small
+pub led-amounts : (events leaders : List ℕ) (i j : ℕ) → eventsIn events .kind i ≡ 3 → Sound events leaders → j < length events / eventWidth
+    → getD leaders j 0 ≡ i → SmallAmounts (cellsIn events j)
+led-amounts events leaders i j k s l e =
+    let three : eventsIn events .kind j ≡ 3 = sym (s .kinds j l) ∙ ap (λ (x : ℕ). eventsIn events .kind x) e ∙ k in
+    s .fuel j l three
 
+module _ (part : ℕ → ℕ) (q : Part part) (events leaders : List ℕ) (mask i : ℕ) (k : eventsIn events .kind i ≡ 3) (s : Sound events leaders) where
   pub energy-led : (j : ℕ) → j < length events / eventWidth → ledBy leaders i (energyAt part events mask) j ≤ 3000000000000000
   unfolding ledBy
   energy-led j l =
       cond-bound (eqb (getD leaders j 0) i)
-      (λ t. energy-small part q (recordAt eventWidth events j) mask (led-amounts j l (eqb→eq (getD leaders j 0) i t)))
+      (λ t. energy-small part q (cellsIn events j) mask (led-amounts events leaders i j k s l (eqb→eq (getD leaders j 0) i t)) _)
       (λ _. zero-le)
 
   pub tcc-led : (j : ℕ) → j < length events / eventWidth → ledBy leaders i (tccAt part events) j ≤ 2147483648

@@ -1,7 +1,7 @@
 -- A prior fuel penalty is looked for on the rows before the event. Where days rise, the rows from it on hold none that counts, so
 -- that the whole file is looked at.
 use Prim.Native.Nat.{ℕ, zero, suc, _+_, _-_, _≤_, _<_}
-use mathlib.Core.Bool.{Bool, false, _&&_, _||_, and-false, or-false}
+use mathlib.Core.Bool.{false, _&&_, and-false, or-false}
 use mathlib.Core.Path.{_≡_, refl, sym, _∙_, ap}
 use native.Mathlib.Nat.{add-zero, add-suc}
 use native.Mathlib.Omega.{arith}

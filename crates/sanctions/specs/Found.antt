@@ -4,15 +4,16 @@ use mathlib.Core.Bool.{true}
 use mathlib.Core.List.{List}
 use mathlib.Core.Path.{_≡_}
 use lib.ListN.{length, getD}
-use Rattle.binary.specs.Bytes.{u32At}
 use Rattle.binary.specs.Lists.{Holds}
 use Rattle.casefile.specs.Layout.{eventWidth, pastWidth, hours, mostPast, mostEvents}
 use Rattle.casefile.specs.Case.{Case}
-use Rattle.casefile.specs.Decode.{recordAt, cellAt, unitsIn, eventsIn}
+use Rattle.casefile.specs.Decode.{unitsIn, eventsIn}
 use Rattle.casefile.specs.Lookup.{groupOf}
 use Rattle.casefile.specs.Refusal.{unitsFine, eventsFine, orderFine, eventsListed, amountsFine}
+use Rattle.casefile.specs.Read.{cellOf}
 use Rattle.conduct.specs.Flags.{flagMask}
 use Rattle.conduct.specs.Parties.{leaderOf}
+use Rattle.conduct.specs.Stages.{cellsIn}
 
 -- the checks that penalties lean on: numbers 5, 6 and 10 to 13
 pub record Accepted (units past events : List ℕ) : Type 0 where
@@ -33,14 +34,14 @@ pub record Found (c : Case) (n : ℕ) (groups leaders masks : List ℕ) : Type 0
   pub leaders-long : n ≤ length leaders
   pub masks-long : n ≤ length masks
 
--- no a of an event's record is above 50,000
-abbrev pub SmallAmounts : List ℕ → Type 0
-SmallAmounts event = (h : ℕ) → h < hours → u32At event (cellAt h) ≤ 50000
+-- no a of an event's cells is above 50,000
+abbrev pub SmallAmounts : (cells : List ℕ) → Type 0
+SmallAmounts cells = (h : ℕ) → h < hours → cellOf cells h .a ≤ 50000
 
 -- the amounts of kinds 1 and 3 are small; a leader is of its party's kind, and not after it
 pub record Sound (events leaders : List ℕ) : Type 0 where
-  pub withheld : (j : ℕ) → j < length events / eventWidth → eventsIn events .kind j ≡ 1 → SmallAmounts (recordAt eventWidth events j)
-  pub fuel : (j : ℕ) → j < length events / eventWidth → eventsIn events .kind j ≡ 3 → SmallAmounts (recordAt eventWidth events j)
+  pub withheld : (j : ℕ) → j < length events / eventWidth → eventsIn events .kind j ≡ 1 → SmallAmounts (cellsIn events j)
+  pub fuel : (j : ℕ) → j < length events / eventWidth → eventsIn events .kind j ≡ 3 → SmallAmounts (cellsIn events j)
   pub kinds : (j : ℕ) → j < length events / eventWidth → eventsIn events .kind (getD leaders j 0) ≡ eventsIn events .kind j
   pub before : (j : ℕ) → j < length events / eventWidth → getD leaders j 0 ≤ j
 

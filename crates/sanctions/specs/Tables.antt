@@ -6,26 +6,27 @@ use mathlib.Core.List.{List}
 use lib.Dec.{ltb, eqb}
 use lib.ListN.{length, getD}
 use Rattle.binary.specs.Bounded.{sumTo, countTo, anyTo, bitOf}
-use Rattle.binary.specs.Bytes.{u32At}
 use Rattle.binary.specs.Word.{positivePart, negativePart}
 use Rattle.tariff.specs.Sanctions.{periodCounts, ladder, withheldPenalty, dispatchPenalty, fuelDayCounts, fuelPenalty}
 use Rattle.casefile.specs.Layout.{eventWidth, pastWidth, hours}
-use Rattle.casefile.specs.Decode.{recordAt, cellAt, pastIn, eventsIn}
+use Rattle.casefile.specs.Decode.{pastIn, eventsIn}
+use Rattle.casefile.specs.Read.{cellOf}
+use Rattle.conduct.specs.Stages.{cellsIn}
 use Rattle.sanctions.specs.Penalties.{countsFuel, fuelMultiplierAfter}
 use Rattle.sanctions.specs.declared.instances.Instances.{Instances}
 use Rattle.sanctions.specs.declared.fuel.Energy.{Energy}
 use Rattle.sanctions.specs.declared.fuel.PartyDay.{PartyDay}
 use Rattle.sanctions.specs.declared.sanction.Sanction.{Sanction}
 
--- ---- the hours of an event's record that a mask has
+-- ---- the hours of an event's cells that a mask has
 
 -- a × the given part of b
-unfoldable pub hourEnergy : (part : ℕ → ℕ) (event : List ℕ) (mask h : ℕ) → ℕ
-hourEnergy part event mask h = cond (bitOf mask h) (u32At event (cellAt h) * part (u32At event (cellAt h + 4))) 0
+unfoldable pub hourEnergy : (part : ℕ → ℕ) (cells : List ℕ) (mask h : ℕ) → ℕ
+hourEnergy part cells mask h = cond (bitOf mask h) (cellOf cells h .a * part (cellOf cells h .b)) 0
 
 -- b
-unfoldable pub hourRevenue : (event : List ℕ) (mask h : ℕ) → ℕ
-hourRevenue event mask h = cond (bitOf mask h) (u32At event (cellAt h + 4)) 0
+unfoldable pub hourRevenue : (cells : List ℕ) (mask h : ℕ) → ℕ
+hourRevenue cells mask h = cond (bitOf mask h) (cellOf cells h .b) 0
 
 -- ---- Withheld
 
@@ -94,7 +95,7 @@ unfoldable pub withheldRow : (past events groups masks n3 : List ℕ) (i : ℕ) 
 withheldRow past events groups masks n3 i =
     cond (withImpact events masks i)
     (instanceRow (instancesAt past events groups n3 i)
-    (sumTo hours (hourEnergy (positivePart 32) (recordAt eventWidth events i) (getD masks i 0))))
+    (sumTo hours (hourEnergy (positivePart 32) (cellsIn events i) (getD masks i 0))))
     noSanction
 
 -- ---- Dispatch
@@ -106,18 +107,18 @@ dispatchRow events masks i =
       multiplier = 3;
       n3 = 0;
       n2 = 0;
-      penalty = dispatchPenalty (sumTo hours (hourRevenue (recordAt eventWidth events i) (getD masks i 0)));
+      penalty = dispatchPenalty (sumTo hours (hourRevenue (cellsIn events i) (getD masks i 0)));
     })
     noSanction
 
 -- ---- Fuel
 
 -- an event's part of E, by the given part of signed words
-unfoldable pub energyIn : (part : ℕ → ℕ) (event : List ℕ) (mask : ℕ) → ℕ
-energyIn part event mask = 10 * part (u32At event 16) + sumTo hours (hourEnergy part event mask)
+unfoldable pub energyIn : (part : ℕ → ℕ) (Q : ℕ) (cells : List ℕ) (mask : ℕ) → ℕ
+energyIn part Q cells mask = 10 * part Q + sumTo hours (hourEnergy part cells mask)
 
-unfoldable pub energyOf : (event : List ℕ) (mask : ℕ) → Energy
-energyOf event mask = record { gain = energyIn (positivePart 32) event mask; loss = energyIn (negativePart 32) event mask }
+unfoldable pub energyOf : (Q : ℕ) (cells : List ℕ) (mask : ℕ) → Energy
+energyOf Q cells mask = record { gain = energyIn (positivePart 32) Q cells mask; loss = energyIn (negativePart 32) Q cells mask }
 
 -- a figure of event j, where event i is its leader
 unfoldable pub ledBy : (leaders : List ℕ) (i : ℕ) (figure : ℕ → ℕ) (j : ℕ) → ℕ
@@ -125,7 +126,7 @@ ledBy leaders i figure j = cond (eqb (getD leaders j 0) i) (figure j) 0
 
 -- the figures of event j that its party-day sums
 abbrev pub energyAt : (part : ℕ → ℕ) (events : List ℕ) (mask j : ℕ) → ℕ
-energyAt part events mask j = energyIn part (recordAt eventWidth events j) mask
+energyAt part events mask j = energyIn part (eventsIn events .Q j) (cellsIn events j) mask
 
 abbrev pub tccAt : (part : ℕ → ℕ) (events : List ℕ) (j : ℕ) → ℕ
 tccAt part events j = part (eventsIn events .R j)

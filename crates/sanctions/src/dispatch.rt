@@ -7,33 +7,33 @@ ghost use Rattle.casefile.specs.Layout.{hours};
 ghost use Rattle.sanctions.specs.Tables.{hourRevenue, dispatchRow};
 use crate::instances::with_impact;
 use crate::sanction::Sanction;
-use binary::bytes::load_u32;
 use binary::masks::bit_of;
 use binary::numbers::choose_u32;
+use casefile::cells::cell_at;
 use casefile::layout;
-use casefile::records::record_at;
+use conduct::sums::cells_of;
 use tariff::sanctions::dispatch_penalty;
 
 // The added revenue, where the mask has the hour.
-fn hour_revenue(event: &[u8], mask: u32, h: usize) -> u32
-    requires { ⌜ (length (now event) ≡ 312) × (h < 24) ⌝ }
-    ensures { λ r. ⌜ r ≡ hourRevenue (now (event .entry)) mask h ⌝ }
+fn hour_revenue(cells: &[u8], mask: u32, h: usize) -> u32
+    requires { ⌜ (h < 24) × (length (now cells) ≡ 288) ⌝ }
+    ensures { λ r. ⌜ r ≡ hourRevenue (now (cells .entry)) mask h ⌝ }
 {
-    let at = layout::CELLS_OFFSET + layout::CELL_WIDTH * h;
-    let b = load_u32(event, at + 4);
+    let cell = cell_at(cells, h);
+    let b = cell.b;
     let flagged = bit_of(mask, h);
     choose_u32(flagged, b, 0)
 }
 
 // The sum over flagged hours.
-fn revenue(event: &[u8], mask: u32) -> u64
-    requires { ⌜ length (now event) ≡ 312 ⌝ }
-    ensures { λ r. ⌜ (r ≡ sumTo hours (hourRevenue (now (event .entry)) mask)) × (r ≤ 1000000000000000000) ⌝ }
+fn revenue(cells: &[u8], mask: u32) -> u64
+    requires { ⌜ length (now cells) ≡ 288 ⌝ }
+    ensures { λ r. ⌜ (r ≡ sumTo hours (hourRevenue (now (cells .entry)) mask)) × (r ≤ 1000000000000000000) ⌝ }
 {
     let mut sum: u64 = 0;
     let mut h = 0;
     while h < layout::HOURS {
-        sum += hour_revenue(event, mask, h) as u64;
+        sum += hour_revenue(cells, mask, h) as u64;
         h += 1;
     }
     sum
@@ -52,8 +52,8 @@ pub fn dispatch(events: &[u8], masks: &[u32], i: usize) -> Sanction
             penalty: 0,
         };
     }
-    let event = record_at(events, i, layout::EVENT_WIDTH);
-    let penalty = dispatch_penalty(revenue(event, masks[i]));
+    let cells = cells_of(events, i);
+    let penalty = dispatch_penalty(revenue(cells, masks[i]));
     Sanction {
         multiplier: 3,
         n3: 0,

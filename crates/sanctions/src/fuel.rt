@@ -19,8 +19,10 @@ use binary::numbers::product;
 use binary::numbers::wide;
 use binary::words::negative_part;
 use binary::words::positive_part;
+use casefile::cells::cell_at;
 use casefile::layout;
 use casefile::records::record_at;
+use conduct::sums::cells_of;
 use tariff::sanctions::fuel_day_counts;
 use tariff::sanctions::fuel_penalty;
 
@@ -39,13 +41,13 @@ pub struct PartyDay {
 }
 
 // a × b where the mask has the hour: its gain or its loss.
-fn hour_energy(event: &[u8], mask: u32, h: usize) -> Energy
-    requires { ⌜ (length (now event) ≡ 312) × (h < 24) ⌝ }
-    ensures { λ r. ⌜ (r .gain ≡ hourEnergy (positivePart 32) (now (event .entry)) mask h) × (r .loss ≡ hourEnergy (negativePart 32) (now (event .entry)) mask h) ⌝ }
+fn hour_energy(cells: &[u8], mask: u32, h: usize) -> Energy
+    requires { ⌜ (h < 24) × (length (now cells) ≡ 288) ⌝ }
+    ensures { λ r. ⌜ (r .gain ≡ hourEnergy (positivePart 32) (now (cells .entry)) mask h) × (r .loss ≡ hourEnergy (negativePart 32) (now (cells .entry)) mask h) ⌝ }
 {
-    let at = layout::CELLS_OFFSET + layout::CELL_WIDTH * h;
-    let a = load_u32(event, at);
-    let b = load_u32(event, at + 4);
+    let cell = cell_at(cells, h);
+    let a = cell.a;
+    let b = cell.b;
     let flagged = bit_of(mask, h);
     let gain = choose_u64(flagged, product(a, positive_part(b)), 0);
     let loss = choose_u64(flagged, product(a, negative_part(b)), 0);
@@ -53,16 +55,15 @@ fn hour_energy(event: &[u8], mask: u32, h: usize) -> Energy
 }
 
 // An event's part of E: 10 × Q, and a × b over the hours of the mask.
-fn event_energy(event: &[u8], mask: u32) -> Energy
-    requires { ⌜ (length (now event) ≡ 312) × SmallAmounts (now event) ⌝ }
-    ensures { λ r. ⌜ r ≡ energyOf (now (event .entry)) mask ⌝ }
+fn event_energy(q: u32, cells: &[u8], mask: u32) -> Energy
+    requires { ⌜ (length (now cells) ≡ 288) × SmallAmounts (now cells) ⌝ }
+    ensures { λ r. ⌜ r ≡ energyOf q (now (cells .entry)) mask ⌝ }
 {
-    let q = load_u32(event, 16);
     let mut gain = 10 * wide(positive_part(q));
     let mut loss = 10 * wide(negative_part(q));
     let mut h = 0;
     while h < layout::HOURS {
-        let hour = hour_energy(event, mask, h);
+        let hour = hour_energy(cells, mask, h);
         gain += hour.gain;
         loss += hour.loss;
         h += 1;
@@ -84,8 +85,10 @@ fn party_share(events: &[u8], leaders: &[usize], mask: u32, i: usize, j: usize) 
         };
     }
     let event = record_at(events, j, layout::EVENT_WIDTH);
-    let e = event_energy(event, mask);
+    let q = load_u32(event, 16);
     let r = load_u32(event, 20);
+    let cells = cells_of(events, j);
+    let e = event_energy(q, cells, mask);
     let rise = wide(positive_part(r));
     let fall = wide(negative_part(r));
     PartyDay {

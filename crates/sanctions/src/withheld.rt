@@ -5,43 +5,43 @@ ghost use lib.ListN.{length};
 ghost use Rattle.binary.specs.Bounded.{sumTo};
 ghost use Rattle.binary.specs.Word.{positivePart};
 ghost use Rattle.casefile.specs.Layout.{hours};
-ghost use Rattle.casefile.specs.Decode.{recordAt};
+ghost use Rattle.conduct.specs.Stages.{cellsIn};
 ghost use Rattle.sanctions.specs.Found.{SmallAmounts};
 ghost use Rattle.sanctions.specs.Tables.{hourEnergy, withheldRow};
 use crate::instances::instances_at;
 use crate::instances::with_impact;
 use crate::sanction::Sanction;
-use binary::bytes::load_u32;
 use binary::masks::bit_of;
 use binary::numbers::choose_u64;
 use binary::numbers::product;
 use binary::words::positive_part;
+use casefile::cells::cell_at;
 use casefile::layout;
-use casefile::records::record_at;
+use conduct::sums::cells_of;
 use tariff::sanctions::ladder;
 use tariff::sanctions::withheld_penalty;
 
 // a × (b, or 0 if negative), where the mask has the hour.
-fn hour_amount(event: &[u8], mask: u32, h: usize) -> u64
-    requires { ⌜ (length (now event) ≡ 312) × (h < 24) ⌝ }
-    ensures { λ r. ⌜ r ≡ hourEnergy (positivePart 32) (now (event .entry)) mask h ⌝ }
+fn hour_amount(cells: &[u8], mask: u32, h: usize) -> u64
+    requires { ⌜ (h < 24) × (length (now cells) ≡ 288) ⌝ }
+    ensures { λ r. ⌜ r ≡ hourEnergy (positivePart 32) (now (cells .entry)) mask h ⌝ }
 {
-    let at = layout::CELLS_OFFSET + layout::CELL_WIDTH * h;
-    let a = load_u32(event, at);
-    let b = load_u32(event, at + 4);
+    let cell = cell_at(cells, h);
+    let a = cell.a;
+    let b = cell.b;
     let flagged = bit_of(mask, h);
     choose_u64(flagged, product(a, positive_part(b)), 0)
 }
 
 // The sum over flagged hours.
-fn amount(event: &[u8], mask: u32) -> u64
-    requires { ⌜ (length (now event) ≡ 312) × SmallAmounts (now event) ⌝ }
-    ensures { λ r. ⌜ (r ≡ sumTo hours (hourEnergy (positivePart 32) (now (event .entry)) mask)) × (r ≤ 10000000000000000) ⌝ }
+fn amount(cells: &[u8], mask: u32) -> u64
+    requires { ⌜ (length (now cells) ≡ 288) × SmallAmounts (now cells) ⌝ }
+    ensures { λ r. ⌜ (r ≡ sumTo hours (hourEnergy (positivePart 32) (now (cells .entry)) mask)) × (r ≤ 10000000000000000) ⌝ }
 {
     let mut sum: u64 = 0;
     let mut h = 0;
     while h < layout::HOURS {
-        sum += hour_amount(event, mask, h);
+        sum += hour_amount(cells, mask, h);
         h += 1;
     }
     sum
@@ -56,7 +56,7 @@ pub fn withheld(
     n3: &[u16],
     i: usize,
 ) -> Sanction
-    requires { ⌜ (i < length (now events) / 312) × (i < length (now groups)) × (i < length (now masks)) × (i ≤ length (now n3)) × (i ≤ 200) × (length (now past) / 12 ≤ 256) × SmallAmounts (recordAt 312 (now events) i) ⌝ }
+    requires { ⌜ (i < length (now events) / 312) × (i < length (now groups)) × (i < length (now masks)) × (i ≤ length (now n3)) × (i ≤ 200) × (length (now past) / 12 ≤ 256) × SmallAmounts (cellsIn (now events) i) ⌝ }
     ensures { λ r. ⌜ r ≡ withheldRow (now (past .entry)) (now (events .entry)) (now (groups .entry)) (now (masks .entry)) (now (n3 .entry)) i ⌝ }
 {
     if !with_impact(events, masks, i) {
@@ -69,8 +69,8 @@ pub fn withheld(
     }
     let counts = instances_at(past, events, groups, n3, i);
     let multiplier = ladder(counts.n3 as u32, counts.n2 as u32);
-    let event = record_at(events, i, layout::EVENT_WIDTH);
-    let penalty = withheld_penalty(multiplier, amount(event, masks[i]));
+    let cells = cells_of(events, i);
+    let penalty = withheld_penalty(multiplier, amount(cells, masks[i]));
     Sanction {
         multiplier,
         n3: counts.n3,

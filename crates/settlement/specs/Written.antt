@@ -6,9 +6,9 @@ use Rattle.binary.specs.Bytes.{bytesOf}
 use Rattle.binary.specs.Lists.{listTo, joinTo}
 use Rattle.casefile.specs.Layout.{hours}
 use Rattle.casefile.specs.Case.{Units, Events}
+use Rattle.sanctions.specs.declared.sanction.Sanction.{Sanction}
 use Rattle.default_bids.specs.Figures.{bidBy}
 use Rattle.settlement.specs.declared.rows.Row.{Row}
-use Rattle.settlement.specs.declared.rows.Sanction.{Sanction}
 
 -- the bid of hour h
 unfoldable pub wordOf : (bids : List ℕ) → ℕ → List ℕ

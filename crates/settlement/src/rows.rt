@@ -21,6 +21,7 @@ use binary::bytes::store_u32;
 use binary::bytes::store_u64;
 use casefile::layout;
 use default_bids::bids::bids_in_force;
+use sanctions::sanction::Sanction;
 
 pub struct Row {
     pub flags: u32,
@@ -31,14 +32,6 @@ pub struct Row {
     pub n3: u16,
     pub n2: u16,
     pub bids: [u32; 24],
-}
-
-// What a row says of penalties.
-pub struct Sanction {
-    pub penalty: u64,
-    pub multiplier: u8,
-    pub n3: u16,
-    pub n2: u16,
 }
 
 // The bids in force, from byte 32 on.

@@ -8,10 +8,7 @@ unfolding hourRevenue
 hour-revenue-spec =
     tie.close
     (tie.spec
-    (λ c. search needs)
-    (λ c. search needs)
-    (λ c. search needs)
     (λ c κs. search needs)
     (λ c κs. search needs)
     (λ c κs. search needs)
-    (λ c. rw (c .choose-u32 .ensures, c .before .bit-of .ensures, c .before .before .load-u32 .ensures)))
+    (λ c. rw (c .choose-u32 .ensures, c .before .bit-of .ensures, c .before .before .cell-at .ensures)))

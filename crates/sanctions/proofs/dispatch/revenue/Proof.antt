@@ -9,10 +9,10 @@ use Rattle.sanctions.proofs.dispatch.revenue.Statement.{statement}
 use Rattle.sanctions.proofs.dispatch.revenue.Tie as tie
 
 abbrev Inv-loop : tie.InvT-loop
-Inv-loop event mask sum₀ h₀ sum h = (h ≤ 24) × (sum ≤ 4294967295 * h) × (sum ≡ sumTo h (hourRevenue event mask))
+Inv-loop cells mask sum₀ h₀ sum h = (h ≤ 24) × (sum ≤ 4294967295 * h) × (sum ≡ sumTo h (hourRevenue cells mask))
 
 abbrev μ-loop : tie.MeasureT-loop
-μ-loop event mask sum₀ h₀ sum h = 24 - h
+μ-loop cells mask sum₀ h₀ sum h = 24 - h
 
 pub revenue-spec : {M : Type 1} → statement M
 revenue-spec =

@@ -11,42 +11,38 @@ use Rattle.sanctions.proofs.fuel.event_energy.Statement.{statement}
 use Rattle.sanctions.proofs.fuel.event_energy.Tie as tie
 
 abbrev Inv-loop : tie.InvT-loop
-Inv-loop event mask q gain₀ loss₀ h₀ gain loss h =
-    (h ≤ 24) × (gain ≡ 10 * positivePart 32 q + sumTo h (hourEnergy (positivePart 32) event mask))
-    × (loss ≡ 10 * negativePart 32 q + sumTo h (hourEnergy (negativePart 32) event mask))
+Inv-loop q cells mask gain₀ loss₀ h₀ gain loss h =
+    (h ≤ 24) × (gain ≡ 10 * positivePart 32 q + sumTo h (hourEnergy (positivePart 32) cells mask))
+    × (loss ≡ 10 * negativePart 32 q + sumTo h (hourEnergy (negativePart 32) cells mask))
 
 abbrev μ-loop : tie.MeasureT-loop
-μ-loop event mask q gain₀ loss₀ h₀ gain loss h = 24 - h
+μ-loop q cells mask gain₀ loss₀ h₀ gain loss h = 24 - h
 
 none : (x y : ℕ) (f : ℕ → ℕ) → x ≡ y → 10 * x ≡ 10 * y + sumTo 0 f
 none x y f e = let z = sum-none f in omega arith
 
 gained : (c : tie.After-hour-energy Inv-loop μ-loop)
     → let l = c .before .before .loop in
-    let b = c .before .before .before .before .before .before .before in
-    let a = b .before .before .args in
-    (l .gain + c .hour-energy .result .gain ≡ 10 * positivePart 32 (b .load-u32 .result) + sumTo (l .h + 1) (hourEnergy (positivePart 32) (a .event .now) (a .mask)))
+    let a = c .before .before .before .before .before .before .before .before .args in
+    (l .gain + c .hour-energy .result .gain ≡ 10 * positivePart 32 (a .q) + sumTo (l .h + 1) (hourEnergy (positivePart 32) (a .cells .now) (a .mask)))
     × (l .gain + c .hour-energy .result .gain ≤ 3000000000000000)
 gained c =
     let l = c .before .before .loop in
-    let b = c .before .before .before .before .before .before .before in
-    let s = b .before .before in
-    let p = positive-part .small (b .load-u32 .result) in
-    energy-turn (positivePart 32) positive-part (s .args .event .now) (s .args .mask) (s .pre .1) _ _ _ _ (c .before .loop-test .taken) (omega arith)
+    let s = c .before .before .before .before .before .before .before .before in
+    let p = positive-part .small (s .args .q) in
+    energy-turn (positivePart 32) positive-part (s .args .cells .now) (s .args .mask) (s .pre .1) _ _ _ _ (c .before .loop-test .taken) (omega arith)
     (l .inv .1) (c .hour-energy .ensures .0)
 
 lost : (c : tie.After-hour-energy Inv-loop μ-loop)
     → let l = c .before .before .loop in
-    let b = c .before .before .before .before .before .before .before in
-    let a = b .before .before .args in
-    (l .loss + c .hour-energy .result .loss ≡ 10 * negativePart 32 (b .load-u32 .result) + sumTo (l .h + 1) (hourEnergy (negativePart 32) (a .event .now) (a .mask)))
+    let a = c .before .before .before .before .before .before .before .before .args in
+    (l .loss + c .hour-energy .result .loss ≡ 10 * negativePart 32 (a .q) + sumTo (l .h + 1) (hourEnergy (negativePart 32) (a .cells .now) (a .mask)))
     × (l .loss + c .hour-energy .result .loss ≤ 3000000000000000)
 lost c =
     let l = c .before .before .loop in
-    let b = c .before .before .before .before .before .before .before in
-    let s = b .before .before in
-    let p = negative-part .small (b .load-u32 .result) in
-    energy-turn (negativePart 32) negative-part (s .args .event .now) (s .args .mask) (s .pre .1) _ _ _ _ (c .before .loop-test .taken) (omega arith)
+    let s = c .before .before .before .before .before .before .before .before in
+    let p = negative-part .small (s .args .q) in
+    energy-turn (negativePart 32) negative-part (s .args .cells .now) (s .args .mask) (s .pre .1) _ _ _ _ (c .before .loop-test .taken) (omega arith)
     (l .inv .2) (c .hour-energy .ensures .1)
 
 pub event-energy-spec : {M : Type 1} → statement M
@@ -56,7 +52,6 @@ event-energy-spec =
     (tie.spec
     Inv-loop
     μ-loop
-    (λ c κs. search needs)
     (λ c κs. tt)
     (λ c κs. tt)
     (λ c. omega (arith, c .wide .ensures .1))
@@ -77,4 +72,4 @@ event-energy-spec =
     (λ c.
     let l = c .before .loop in
     let e : l .h ≡ 24 = omega arith in
-    rw (l .inv .1, l .inv .2, e, c .before .before .before .before .before .before .load-u32 .ensures)))
+    rw (l .inv .1, l .inv .2, e)))

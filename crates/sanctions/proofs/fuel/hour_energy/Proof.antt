@@ -8,10 +8,6 @@ unfolding hourEnergy
 hour-energy-spec =
     tie.close
     (tie.spec
-    (λ c. search needs)
-    (λ c. search needs)
-    (λ c κs. search needs)
-    (λ c. search needs)
     (λ c κs. search needs)
     (λ c κs. search needs)
     (λ c κs. search needs)
@@ -28,15 +24,13 @@ hour-energy-spec =
         p .before .product .ensures .0,
         p .before .before .positive-part .ensures,
         b .bit-of .ensures,
-        b .before .load-u322 .ensures,
-        b .before .before .load-u32 .ensures,
+        b .before .cell-at .ensures,
       ),
       rw (
         c .choose-u642 .ensures,
         c .before .product2 .ensures .0,
         c .before .before .negative-part .ensures,
         b .bit-of .ensures,
-        b .before .load-u322 .ensures,
-        b .before .before .load-u32 .ensures,
+        b .before .cell-at .ensures,
       ),
     )))

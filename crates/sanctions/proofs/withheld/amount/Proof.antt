@@ -11,17 +11,17 @@ use Rattle.sanctions.proofs.withheld.amount.Statement.{statement}
 use Rattle.sanctions.proofs.withheld.amount.Tie as tie
 
 abbrev Inv-loop : tie.InvT-loop
-Inv-loop event mask sum₀ h₀ sum h =
-    (h ≤ 24) × (sum ≤ 107374182400000 * h) × (sum ≡ sumTo h (hourEnergy (positivePart 32) event mask))
+Inv-loop cells mask sum₀ h₀ sum h =
+    (h ≤ 24) × (sum ≤ 107374182400000 * h) × (sum ≡ sumTo h (hourEnergy (positivePart 32) cells mask))
 
 abbrev μ-loop : tie.MeasureT-loop
-μ-loop event mask sum₀ h₀ sum h = 24 - h
+μ-loop cells mask sum₀ h₀ sum h = 24 - h
 
 small : (c : tie.After-hour-amount Inv-loop μ-loop) → c .hour-amount .result ≤ 107374182400000
 small c =
     let s = c .before .before .before .before in
     rw (c .hour-amount .ensures)
-    (hour-small (positivePart 32) positive-part (s .args .event .now) (s .args .mask) (s .pre .1) _ (c .before .loop-test .taken))
+    (hour-small (positivePart 32) positive-part (s .args .cells .now) (s .args .mask) (s .pre .1) _ (c .before .loop-test .taken))
 
 pub amount-spec : {M : Type 1} → statement M
 amount-spec =

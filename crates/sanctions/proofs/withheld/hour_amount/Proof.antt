@@ -8,13 +8,9 @@ unfolding hourEnergy
 hour-amount-spec =
     tie.close
     (tie.spec
-    (λ c. search needs)
-    (λ c. search needs)
-    (λ c κs. search needs)
-    (λ c. search needs)
     (λ c κs. search needs)
     (λ c κs. search needs)
     (λ c κs. search needs)
     (λ c κs. search needs)
     (λ c κs. search needs)
-    (λ c. rw (c .choose-u64 .ensures, c .before .product .ensures .0, c .before .before .positive-part .ensures, c .before .before .before .bit-of .ensures, c .before .before .before .before .load-u322 .ensures, c .before .before .before .before .before .load-u32 .ensures)))
+    (λ c. rw (c .choose-u64 .ensures, c .before .product .ensures .0, c .before .before .positive-part .ensures, c .before .before .before .bit-of .ensures, c .before .before .before .before .cell-at .ensures)))

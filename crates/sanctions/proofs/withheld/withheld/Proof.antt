@@ -21,7 +21,7 @@ withheld-spec =
     (λ c. search needs)
     (λ c κs.
     let s = c .before .before .before .before .before .before .before .before .before .before .before .before .before in
-    (c .before .record-at .ensures .1, rw (c .before .record-at .ensures .0) (s .pre .6)))
+    (c .before .cells-of .ensures .1, rw (c .before .cells-of .ensures .0) (s .pre .6)))
     (λ c κs. c .amount .ensures .1)
     (λ c.
     let i = c .before .before .before .before .before .before .before in
@@ -29,7 +29,7 @@ withheld-spec =
       sym (i .before .before .with-impact .ensures) ∙ not-false _ (i .before .if1 .left),
       c .withheld-penalty .ensures,
       c .before .amount .ensures .0,
-      c .before .before .before .record-at .ensures .0,
+      c .before .before .before .cells-of .ensures .0,
       c .before .before .before .before .ladder .ensures,
       i .instances-at .ensures,
     )))
