@@ -169,8 +169,9 @@ pub fn list_into(file: &[u8], rows: &mut [u8], out: &mut [u8]) -> usize {
 /// The listing of a case with no correction: a line for each event and one for the totals, or the
 /// refusal, each ending in a line feed.
 pub fn listing(file: &[u8]) -> String {
+    let mut rows = vec![0; ROWS_LENGTH];
     let mut out = vec![0; LISTING_LENGTH];
-    let length = list_into(file, &mut [0; ROWS_LENGTH], &mut out);
+    let length = list_into(file, &mut rows, &mut out);
     out.truncate(length);
     String::from_utf8(out).expect("digits, spaces, letters and line feeds")
 }
