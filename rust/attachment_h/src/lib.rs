@@ -113,8 +113,11 @@ pub struct Working {
     pub a: u32,
     /// r of kind 4, else 0.
     pub reference: u32,
-    /// d = a − r of kind 4, else 0.
-    pub d: i64,
+    /// d = a − r of kind 4 where that is not negative, else 0: d is `increase`, or minus `decrease`, and one
+    /// of them is 0.
+    pub increase: u32,
+    /// −d of kind 4 where d is negative, else 0.
+    pub decrease: u64,
     /// S of kinds 1 and 2, else 0.
     pub s: u64,
     /// G of kind 1, else 0.

@@ -31,15 +31,13 @@ fn work(input: &Input, failed: &mut [usize; 5]) {
             assert_eq!(worked.failed > 0, worked.flagged, "{what}");
             assert_eq!((worked.n3, worked.n2), (row.n3, row.n2), "{what}");
             assert_eq!(worked.a, u32_at(event, 24 + 12 * hour), "{what}");
+            let parts = (i64::from(worked.increase), worked.decrease);
             if event[0] == 4 {
                 let d = i64::from(worked.a.cast_signed()) - i64::from(worked.reference);
-                assert_eq!(worked.d, d, "{what}");
+                assert_eq!(parts, (d.max(0), d.min(0).unsigned_abs()), "{what}");
             } else {
-                assert_eq!(
-                    (worked.reference, worked.d, worked.total),
-                    (0, 0, 0),
-                    "{what}"
-                );
+                assert_eq!((worked.reference, worked.total), (0, 0), "{what}");
+                assert_eq!(parts, (0, 0), "{what}");
             }
             failed[usize::from(worked.failed)] += 1;
         }

@@ -35,11 +35,11 @@ impl Form {
         }
     }
 
-    /// The value of the file for people.
-    pub fn spoken(self, value: i64) -> String {
+    /// What an amount is counted in; other forms are plain numbers.
+    pub fn measure(self) -> Measure {
         match self {
-            Form::Amount(measure) | Form::Signed(measure) => measure.spoken(value),
-            other => other.text(value),
+            Form::Amount(measure) | Form::Signed(measure) => measure,
+            Form::Name(_) | Form::Hours | Form::Day => Measure::Plain,
         }
     }
 
@@ -70,10 +70,7 @@ impl Form {
 
     /// The word that may stand after the value.
     pub fn measure_word(self) -> Option<&'static str> {
-        match self {
-            Form::Amount(measure) | Form::Signed(measure) => measure.word(),
-            Form::Name(_) | Form::Hours | Form::Day => None,
-        }
+        self.measure().word()
     }
 }
 

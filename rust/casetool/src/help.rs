@@ -142,7 +142,8 @@ casetool working [CASE] --event N --hour H [--correction FILE] [-o FILE]
 
 The pencil working of one hour of one event: each comparison of its conduct test with both
 sides, the step that failed, and the figures behind it (a, r, d, S, G, N3, N2), all from the
-proved library. Events are counted from 0, as casetool settle and casetool show number them.
+proved library. A negative d stands as 0 in a comparison. Events are counted from 0, as casetool
+settle and casetool show number them.
 
   --event N          the event, from 0
   --hour H           the hour, 0 to 23
