@@ -105,7 +105,8 @@ impl Measure {
             return None;
         }
         let zeros = "0".repeat(self.decimals() - part.len());
-        let value: i64 = format!("{whole}{part}{zeros}").parse().ok()?;
+        // Digits alone fail to parse only where they are too many: then no field has room for them.
+        let value = format!("{whole}{part}{zeros}").parse().unwrap_or(i64::MAX);
         Some(if negative { -value } else { value })
     }
 }
@@ -150,6 +151,12 @@ fn grouped(digits: &str) -> String {
 /// A number with a comma before every three digits.
 pub fn number(value: u64) -> String {
     grouped(&value.to_string())
+}
+
+/// So many bytes, in words.
+pub fn bytes(count: usize) -> String {
+    let word = if count == 1 { "byte" } else { "bytes" };
+    format!("{} {word}", number(count as u64))
 }
 
 /// Cents as dollars, such as `$2,004.00`.

@@ -109,7 +109,7 @@ fn bids_in_force(component: u8, row: &Row) -> String {
     let parts: Vec<String> = runs
         .into_iter()
         .map(|(mask, value)| {
-            let value = bid.form.measure().spoken(i64::from(value));
+            let value = bid.form.spoken(i64::from(value));
             let hours_word = if mask.count_ones() == 1 {
                 "hour"
             } else {

@@ -225,7 +225,7 @@ fn figures_in_words() {
             (hours::spoken(mask), hours::text(mask)),
             (spoken.into(), text.into())
         );
-        assert_eq!(hours::read(text, 31), Ok(mask));
+        assert_eq!(hours::read_mask(text), Ok(mask));
     }
 }
 
