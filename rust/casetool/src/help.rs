@@ -81,9 +81,11 @@ const WRITE: &str = "\
 casetool write [TEXT] [-o CASE]
 casetool write --correction [TEXT] [-o CORRECTION]
 
-Makes a case file of a text, or a correction, which has references alone. Limits are not
-checked, only that every value has room in its field: casetool check does that. A line of the
-text is a record, or hours of the event above it; # begins a comment:
+Makes a case file of a text, or a correction, which has references alone. Of the limits only
+these are held: every value has room in its field, a case has at most 64 units, 256 references,
+256 past entries, 200 events and 65,000 bytes, a correction 256 references. casetool check holds
+it to the others. A line of the text is a record, or hours of the event above it; # begins a
+comment:
 
   unit 12 group 7 capability 500.0 MW
   reference unit 12 component energy value $20.00
