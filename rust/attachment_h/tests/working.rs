@@ -3,7 +3,7 @@
 use attachment_h::{Refused, Working, settle, working};
 use cases::case::{sections_of, u16_at, u32_at};
 use cases::faults::FAULTS;
-use cases::generator::{any_case, case};
+use cases::generator::case;
 use cases::{Input, Random, Row, Size, Wanted};
 
 /// What a taken comparison that fails first says, from the comparisons alone.
@@ -104,12 +104,24 @@ fn sums() {
 #[test]
 fn refused_cases() {
     let mut random = Random::new(703);
-    let input = any_case(&mut random).input();
+    let wanted = Wanted {
+        every_kind: true,
+        ..Wanted::of(Size::Small)
+    };
+    let inputs: Vec<Input> = (0..20).map(|_| case(&mut random, wanted).input()).collect();
+    let (mut faults, mut refused) = (0, 0);
     for fault in FAULTS.iter().filter(|fault| fault.number != 15) {
-        let mut faulty = input.clone();
-        if (fault.apply)(&mut faulty, &mut random).is_some() {
-            let worked = working(&faulty.file, &faulty.correction, 0, 0);
-            assert_eq!(worked, Err(Refused(fault.number)), "{}", fault.name);
+        let before = refused;
+        for input in &inputs {
+            let mut faulty = input.clone();
+            if (fault.apply)(&mut faulty, &mut random).is_some() {
+                let worked = working(&faulty.file, &faulty.correction, 0, 0);
+                assert_eq!(worked, Err(Refused(fault.number)), "{}", fault.name);
+                refused += 1;
+            }
         }
+        assert!(refused > before, "no case for {}", fault.name);
+        faults += 1;
     }
+    println!("{faults} faults, {refused} refused");
 }
