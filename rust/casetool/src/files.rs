@@ -38,8 +38,9 @@ fn all(from: &mut dyn Read) -> io::Result<Vec<u8>> {
 
 /// Whether a source is this very file, by whatever path. Terminals and the like are no files.
 pub fn is(source: &Source, path: &Path) -> bool {
-    let Source::File(source) = source else {
-        return false;
+    let source = match source {
+        Source::Input => Path::new("/dev/stdin"),
+        Source::File(source) => source,
     };
     match (fs::canonicalize(source), fs::canonicalize(path)) {
         (Ok(source), Ok(path)) => source == path && source.is_file(),

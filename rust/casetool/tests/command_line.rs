@@ -2,6 +2,7 @@
 
 mod support;
 
+use std::fs::File;
 use std::io::{self, ErrorKind, Read, Write};
 use std::process::{Command, Stdio};
 
@@ -320,6 +321,13 @@ fn an_output_that_would_overwrite_what_is_read() {
     let case = file_with("command-line.same-case", &written(text));
     let ran = casetool(&["settle", &case, "--correction", &path, "-o", &path], b"");
     assert_eq!(ran.status, 2);
+    assert_eq!(std::fs::read(&path).expect("the text"), text.as_bytes());
+    let ran = Command::new(env!("CARGO_BIN_EXE_casetool"))
+        .args(["write", "-o", &path])
+        .stdin(File::open(&path).expect("the text"))
+        .output()
+        .expect("the program casetool");
+    assert_eq!(ran.status.code(), Some(2));
     assert_eq!(std::fs::read(&path).expect("the text"), text.as_bytes());
     // What is no file can be both.
     let ran = casetool(&["write", "/dev/null", "-o", "/dev/null"], b"");
