@@ -1,7 +1,10 @@
-/* Calls the archive from C, on the listing's case and the pencil sheet. Exit status 0 where every answer is right. */
+/* Calls the archive from C: settles and lists the shipped case, refuses changes of it, and works the pencil sheet. The argument is the
+   repository's root, the current folder where it is left out. Every buffer that is lent comes from malloc with exactly its length, so
+   that a checker of memory sees the first byte beyond it. Exit status 0 where every answer is right. */
 #include "attachment_h.h"
 
 #include <stdio.h>
+#include <stdlib.h>
 #include <string.h>
 
 static int failures;
@@ -28,103 +31,131 @@ static void put32(uint8_t *at, uint32_t value) {
     put16(at + 2, (uint16_t)(value >> 16));
 }
 
-/* Units 12 (5,000) and 13 (15,000), one group; one Day-Ahead withheld event: the case of the listing. */
-enum { HEADER = 36, UNIT = 24, EVENT = 312, CASE = HEADER + 2 * UNIT + EVENT };
-
-static void write_case(uint8_t file[CASE]) {
-    memset(file, 0, CASE);
-    put16(file, 1);
-    put16(file + 2, 4);
-    const uint32_t lengths[4] = {2 * UNIT, 0, 0, EVENT};
-    uint32_t offset = HEADER;
-    for (int section = 0; section < 4; section++) {
-        put32(file + 4 + 8 * section, offset);
-        put32(file + 8 + 8 * section, lengths[section]);
-        offset += lengths[section];
+static void *block(size_t length) {
+    void *made = malloc(length);
+    if (made == NULL) {
+        puts("C: no memory");
+        exit(2);
     }
-    for (int unit = 0; unit < 2; unit++) {
-        uint8_t *record = file + HEADER + UNIT * unit;
-        put16(record, (uint16_t)(12 + unit));
-        put16(record + 2, 7);
-        put32(record + 8, unit == 0 ? 5000 : 15000);
-    }
-    uint8_t *event = file + HEADER + 2 * UNIT;
-    event[0] = 1;
-    put16(event + 2, 12);
-    put16(event + 4, 44);
-    event[7] = 1;
-    put32(event + 8, 8000);
-    put32(event + 24, 501);
-    put32(event + 28, 4000);
+    return made;
 }
 
-static void check_cases(void) {
-    uint8_t file[CASE];
-    write_case(file);
+/* A block of exactly these bytes. */
+static void *copy(const void *bytes, size_t length) {
+    return memcpy(block(length), bytes, length);
+}
+
+/* A block of one byte many times. */
+static uint8_t *filled(size_t length, uint8_t byte) {
+    return memset(block(length), byte, length);
+}
+
+/* A case of two units and one event, which the shipped one is. */
+enum { HEADER = 36, UNIT = 24, EVENT = 312, CASE = HEADER + 2 * UNIT + EVENT, LISTED = 44 };
+
+/* The bytes of a file below the repository's root, which has to have exactly this length. */
+static uint8_t *read_file(const char *root, const char *name, size_t length) {
+    char path[4096];
+    int written = snprintf(path, sizeof path, "%s/%s", root, name);
+    FILE *file = written > 0 && (size_t)written < sizeof path ? fopen(path, "rb") : NULL;
+    if (file == NULL) {
+        printf("C: can't read %s/%s; the argument is the repository's root\n", root, name);
+        exit(2);
+    }
+    uint8_t *bytes = block(length + 1);
+    size_t got = fread(bytes, 1, length + 1, file);
+    fclose(file);
+    if (got != length) {
+        printf("C: %s has not %zu bytes\n", path, length);
+        exit(2);
+    }
+    uint8_t *exact = copy(bytes, length);
+    free(bytes);
+    return exact;
+}
+
+/* The check of the first bytes of a case, lent as a block of their own. */
+static uint8_t check(const uint8_t *file, size_t length, size_t rows_length) {
+    uint8_t *lent = copy(file, length);
+    uint8_t number = attachment_h_check(lent, length, NULL, 0, rows_length);
+    free(lent);
+    return number;
+}
+
+static void check_cases(const uint8_t *shipped) {
+    uint8_t *file = copy(shipped, CASE);
     uint8_t *event = file + HEADER + 2 * UNIT;
-    expect("the listing's case", attachment_h_check(file, CASE, NULL, 0, 128), 0);
-    expect("127 bytes, one event", attachment_h_check(file, CASE, NULL, 0, 127), 15);
-    expect("35 bytes", attachment_h_check(file, 35, NULL, 0, 128), 1);
+    expect("the shipped case", check(file, CASE, 128), 0);
+    expect("127 bytes, one event", check(file, CASE, 127), 15);
+    expect("35 bytes", check(file, 35, 128), 1);
     expect("no bytes", attachment_h_check(NULL, 0, NULL, 0, 128), 1);
-    const uint8_t correction[7] = {0};
+    uint8_t *correction = filled(7, 0);
     expect("a correction of 7 bytes", attachment_h_check(file, CASE, correction, 7, 128), 8);
+    free(correction);
     put32(event + 24, 5001);
-    expect("5,001 of 5,000", attachment_h_check(file, CASE, NULL, 0, 128), 13);
+    expect("5,001 of 5,000", check(file, CASE, 128), 13);
     put16(event + 2, 99);
-    expect("unit 99", attachment_h_check(file, CASE, NULL, 0, 128), 12);
+    expect("unit 99", check(file, CASE, 128), 12);
     event[1] = 2;
-    expect("market 2", attachment_h_check(file, CASE, NULL, 0, 128), 10);
+    expect("market 2", check(file, CASE, 128), 10);
     file[HEADER + 4] = 2;
-    expect("area 2", attachment_h_check(file, CASE, NULL, 0, 128), 6);
+    expect("area 2", check(file, CASE, 128), 6);
     file[4] = 40;
-    expect("first offset 40", attachment_h_check(file, CASE, NULL, 0, 128), 4);
+    expect("first offset 40", check(file, CASE, 128), 4);
     file[0] = 9;
-    expect("version 9", attachment_h_check(file, CASE, NULL, 0, 128), 2);
+    expect("version 9", check(file, CASE, 128), 2);
+    free(file);
 }
 
-static void settle_cases(void) {
-    uint8_t file[CASE], rows[130];
-    write_case(file);
-    memset(rows, 0xA5, sizeof rows);
-    attachment_h_outcome outcome = attachment_h_settle(file, CASE, NULL, 0, rows, 127);
+static void settle_cases(const uint8_t *shipped) {
+    uint8_t *rows = filled(127, 0xA5);
+    attachment_h_outcome outcome = attachment_h_settle(shipped, CASE, NULL, 0, rows, 127);
     expect("refused", outcome.number, 15);
     expect("refused, rows", outcome.rows, 0);
     expect("refused, penalties", outcome.penalties, 0);
-    for (size_t at = 0; at < sizeof rows; at++) expect("rows as they were", rows[at], 0xA5);
-    outcome = attachment_h_settle(file, CASE, NULL, 0, rows, sizeof rows);
-    expect("settled", outcome.number, 0);
-    expect("settled, rows", outcome.rows, 1);
-    expect("settled, penalties", outcome.penalties, 200400);
-    expect("settled, make-ups", outcome.make_ups, 0);
+    expect("refused, make-ups", outcome.make_ups, 0);
+    for (size_t at = 0; at < 127; at++) expect("rows as they were", rows[at], 0xA5);
+    free(rows);
     uint8_t expected[128] = {0};
     put32(expected, 1);
     put32(expected + 8, 200400);
     expected[24] = 2;
     expected[26] = 1;
     expected[28] = 1;
-    expect("the row", (uint64_t)memcmp(rows, expected, sizeof expected), 0);
-    expect("beyond the row", rows[128] == 0xA5 && rows[129] == 0xA5, 1);
+    for (size_t length = 128; length <= 130; length++) {
+        rows = filled(length, 0xA5);
+        outcome = attachment_h_settle(shipped, CASE, NULL, 0, rows, length);
+        expect("settled", outcome.number, 0);
+        expect("settled, rows", outcome.rows, 1);
+        expect("settled, penalties", outcome.penalties, 200400);
+        expect("settled, make-ups", outcome.make_ups, 0);
+        expect("the row", memcmp(rows, expected, sizeof expected) == 0, 1);
+        for (size_t at = 128; at < length; at++) expect("beyond the row", rows[at], 0xA5);
+        free(rows);
+    }
 }
 
-static void list_cases(void) {
-    static uint8_t rows[ATTACHMENT_H_ROWS_LENGTH], out[ATTACHMENT_H_LISTING_LENGTH];
-    static const char listed[] = "8000 1 12 0 0 1 0 2 200400 0\ntotal 200400 0\n";
-    uint8_t file[CASE];
-    write_case(file);
-    size_t length = attachment_h_listing(file, CASE, rows, sizeof rows, out, sizeof out - 1);
+static void list_cases(const uint8_t *shipped, const uint8_t *listed) {
+    uint8_t *rows = filled(ATTACHMENT_H_ROWS_LENGTH, 0);
+    uint8_t *out = filled(ATTACHMENT_H_LISTING_LENGTH - 1, 0);
+    size_t length = attachment_h_listing(shipped, CASE, rows, ATTACHMENT_H_ROWS_LENGTH, out, ATTACHMENT_H_LISTING_LENGTH - 1);
     expect("too short for a listing", length + out[0], 0);
-    length = attachment_h_listing(file, CASE, rows, sizeof rows, out, sizeof out);
-    expect("length of the listing", length, sizeof listed - 1);
-    expect("the listing", (uint64_t)memcmp(out, listed, sizeof listed - 1), 0);
-    length = attachment_h_listing(file, 35, rows, sizeof rows, out, sizeof out);
+    free(out);
+    out = filled(ATTACHMENT_H_LISTING_LENGTH, 0);
+    length = attachment_h_listing(shipped, CASE, rows, ATTACHMENT_H_ROWS_LENGTH, out, ATTACHMENT_H_LISTING_LENGTH);
+    expect("length of the listing", length, LISTED);
+    expect("the shipped listing", memcmp(out, listed, LISTED) == 0, 1);
+    uint8_t *start = copy(shipped, 35);
+    length = attachment_h_listing(start, 35, rows, ATTACHMENT_H_ROWS_LENGTH, out, ATTACHMENT_H_LISTING_LENGTH);
     expect("length of a refusal", length, 10);
-    expect("a refusal", (uint64_t)memcmp(out, "refused 1\n", 10), 0);
+    expect("a refusal", memcmp(out, "refused 1\n", 10) == 0, 1);
+    free(start);
+    free(out);
+    free(rows);
 }
 
-static void work_hours(void) {
-    uint8_t file[CASE];
-    write_case(file);
-    attachment_h_hour hour = attachment_h_working(file, CASE, NULL, 0, 0, 0);
+static void work_hours(const uint8_t *shipped) {
+    attachment_h_hour hour = attachment_h_working(shipped, CASE, NULL, 0, 0, 0);
     expect("working", hour.number, 0);
     expect("working, flagged", hour.flagged, 1);
     expect("working, failed", hour.failed, 1);
@@ -135,9 +166,11 @@ static void work_hours(void) {
     expect("working, G", hour.right[2], 20000);
     expect("working, S", hour.s, 501);
     expect("working, N3 and N2", hour.n3 * 256 + hour.n2, 257);
-    expect("working, no such hour", attachment_h_working(file, CASE, NULL, 0, 0, 24).number, 10);
-    expect("working, no such event", attachment_h_working(file, CASE, NULL, 0, 1, 0).number, 10);
-    expect("working of 35 bytes", attachment_h_working(file, 35, NULL, 0, 0, 0).number, 1);
+    expect("working, no such hour", attachment_h_working(shipped, CASE, NULL, 0, 0, 24).number, 10);
+    expect("working, no such event", attachment_h_working(shipped, CASE, NULL, 0, 1, 0).number, 10);
+    uint8_t *start = copy(shipped, 35);
+    expect("working of 35 bytes", attachment_h_working(start, 35, NULL, 0, 0, 0).number, 1);
+    free(start);
 }
 
 static void call_rules(void) {
@@ -157,12 +190,16 @@ static void call_rules(void) {
     expect("times, minimum down", times.minimum_down, 0);
     expect("times out of range", attachment_h_times_fail(0, 0, INT32_MIN).number, 10);
     expect_answer("N3 4, N2 4", attachment_h_multiplier(4, 4), 0, 6);
-    const uint32_t a[2] = {501, 100};
-    const int32_t b[2] = {4005, -100};
+    uint32_t *a = copy((const uint32_t[2]){501, 100}, 2 * sizeof *a);
+    int32_t *b = copy((const int32_t[2]){4005, -100}, 2 * sizeof *b);
+    int32_t *first = copy(b, sizeof *first);
     expect_answer("withheld penalty", attachment_h_withheld_penalty(2, a, 2, b, 2), 0, 200651);
     expect_answer("no flagged hour", attachment_h_withheld_penalty(2, NULL, 0, NULL, 0), 0, 0);
-    expect_answer("one price too few", attachment_h_withheld_penalty(2, a, 2, b, 1), 10, 0);
+    expect_answer("one price too few", attachment_h_withheld_penalty(2, a, 2, first, 1), 10, 0);
     expect_answer("dispatch penalty", attachment_h_dispatch_penalty(a, 2), 0, 902);
+    free(first);
+    free(b);
+    free(a);
     expect_answer("fuel penalty", attachment_h_fuel_penalty(-10000000, 2000000, 2), 0, 1000000);
     expect_answer("183 days", attachment_h_fuel_day_counts(8000, 8000 - 183), 0, 1);
     expect_answer("184 days", attachment_h_fuel_day_counts(8000, 8000 - 184), 0, 0);
@@ -175,16 +212,21 @@ static void call_rules(void) {
     expect_answer("make-up", attachment_h_make_up(9000, 5000, 1000, 2000, 6000), 0, 100000);
 }
 
-int main(void) {
+int main(int count, char **arguments) {
     _Static_assert(sizeof(attachment_h_answer) == 16, "layout of an answer");
     _Static_assert(sizeof(attachment_h_times) == 4, "layout of the time answer");
     _Static_assert(sizeof(attachment_h_outcome) == 32, "layout of an outcome");
     _Static_assert(sizeof(attachment_h_hour) == 128, "layout of a working");
-    check_cases();
-    settle_cases();
-    list_cases();
-    work_hours();
+    const char *root = count > 1 ? arguments[1] : ".";
+    uint8_t *shipped = read_file(root, "crates/listing/stdin", CASE);
+    uint8_t *listed = read_file(root, "crates/listing/stdout", LISTED);
+    check_cases(shipped);
+    settle_cases(shipped);
+    list_cases(shipped, listed);
+    work_hours(shipped);
     call_rules();
+    free(listed);
+    free(shipped);
     puts(failures == 0 ? "C: every answer is right" : "C: wrong answers");
     return failures != 0;
 }

@@ -1,6 +1,11 @@
-"""Checks the listing's case and works some of the pencil sheet. Fails where an answer is wrong."""
+"""Settles and lists the shipped case, checks changes of it and works some of the pencil sheet. Fails where an answer is wrong.
+
+The argument is the repository's root; where it is left out, the one that this file stands in.
+"""
 
 import struct
+import sys
+from pathlib import Path
 
 import attachment_h
 from attachment_h import Refused
@@ -15,19 +20,18 @@ def refusal(call, *arguments):
     return 0
 
 
+ROOT = Path(sys.argv[1]) if len(sys.argv) > 1 else Path(__file__).resolve().parent.parent
+SHIPPED = (ROOT / "crates/listing/stdin").read_bytes()
+LISTED = (ROOT / "crates/listing/stdout").read_text()
+EVENT = 36 + 2 * 24  # after the header and two units
+
+
 def case(withheld=501, price=4_000, unit=12):
-    """Units 12 (5,000) and 13 (15,000), one group; one Day-Ahead withheld event of day 8000, period 44."""
-    units = b"".join(
-        struct.pack("<HHB3xIIIH2x", number, 7, 0, capability, 0, 0, 0) for number, capability in [(12, 5_000), (13, 15_000)]
-    )
-    head = struct.pack("<BBHHBBIIII", 1, 0, unit, 44, 0, 1, 8_000, 0, 0, 0)
-    cells = struct.pack("<IiI", withheld, price, 0) + bytes(23 * 12)
-    sections = [units, b"", b"", head + cells]
-    header, offset = struct.pack("<HH", 1, 4), 36
-    for section in sections:
-        header += struct.pack("<II", offset, len(section))
-        offset += len(section)
-    return header + b"".join(sections)
+    """The shipped case with another unit, or another a or b in hour 0, of its event."""
+    changed = bytearray(SHIPPED)
+    struct.pack_into("<H", changed, EVENT + 2, unit)
+    struct.pack_into("<Ii", changed, EVENT + 24, withheld, price)
+    return bytes(changed)
 
 
 def expect(what, got, expected):
@@ -35,22 +39,24 @@ def expect(what, got, expected):
     print(f"{what}: {got}")
 
 
-expect("the listing's case", refusal(attachment_h.check, case()), 0)
+expect("the shipped case has 501 at 4,000 of unit 12", case() == SHIPPED, True)
+expect("the shipped case", refusal(attachment_h.check, SHIPPED), 0)
 expect("35 bytes", refusal(attachment_h.check, bytes(35)), 1)
 expect("unit 99", refusal(attachment_h.check, case(unit=99)), 12)
 expect("5,001 of 5,000", refusal(attachment_h.check, case(withheld=5_001)), 13)
 expect("a price of 1,000,001", refusal(attachment_h.check, case(price=1_000_001)), 10)
 expect("a correction of 7 bytes", refusal(attachment_h.check, case(), bytes(7)), 8)
 expect("127 bytes, one event", refusal(attachment_h.check, case(), b"", 127), 15)
-rows, penalties, make_ups = attachment_h.settle(case())
+rows, penalties, make_ups = attachment_h.settle(SHIPPED)
 expect("rows", len(rows) // 128, 1)
-expect("flags, mitigated, penalty, make-up, multiplier", struct.unpack_from("<IIQQB", rows), (1, 0, 200_400, 0, 2))
+expect("flags, mitigated, penalty, make-up", struct.unpack_from("<IIQQ", rows), (1, 0, 200_400, 0))
+expect("multiplier, 0, N3, N2, 0, no bids in force", struct.unpack_from("<BBHHH24i", rows, 24), (2, 0, 1, 1, 0) + 24 * (0,))
 expect("total", (penalties, make_ups), (200_400, 0))
 expect("settled into 127 bytes", refusal(attachment_h.settle, case(), b"", 127), 15)
-hour = attachment_h.working(case(), 0, 0)
+hour = attachment_h.working(SHIPPED, 0, 0)
 expect("hour 0 fails comparison 1", (hour["failed"], hour["left"][0], hour["right"][0]), (1, 5_010, 5_000))
 expect("no hour 24", refusal(attachment_h.working, case(), 0, 24), 10)
-expect("listing", attachment_h.listing(case()), "8000 1 12 0 0 1 0 2 200400 0\ntotal 200400 0\n")
+expect("the shipped listing", attachment_h.listing(SHIPPED), LISTED)
 expect("listing of 35 bytes", attachment_h.listing(bytes(35)), "refused 1\n")
 expect("501 of 5,000 fails", attachment_h.withheld_fails(501, 5_000, 501, 20_000), True)
 expect("501 at 4,005", attachment_h.withheld_penalty(2, [501], [4_005]), 200_651)

@@ -90,7 +90,6 @@ impl Hour {
         }
     }
 
-    /// d from its two parts, one of which is 0; `decrease` is at most 2^32 + 2^31.
     fn working(self) -> Result<Working, Refused> {
         refused(self.number)?;
         Ok(Working {
@@ -100,7 +99,8 @@ impl Hour {
             comparisons: std::array::from_fn(|place| self.comparison(place)),
             a: self.a,
             reference: self.reference,
-            d: i64::from(self.increase) - self.decrease as i64,
+            increase: self.increase,
+            decrease: self.decrease,
             s: self.s,
             g: self.g,
             total: self.total,

@@ -113,8 +113,11 @@ pub struct Working {
     pub a: u32,
     /// r of kind 4, else 0.
     pub reference: u32,
-    /// d = a − r of kind 4, else 0.
-    pub d: i64,
+    /// d = a − r of kind 4 where that is not negative, else 0: d is `increase`, or minus `decrease`, and one
+    /// of them is 0.
+    pub increase: u32,
+    /// −d of kind 4 where d is negative, else 0.
+    pub decrease: u64,
     /// S of kinds 1 and 2, else 0.
     pub s: u64,
     /// G of kind 1, else 0.
@@ -169,8 +172,9 @@ pub fn list_into(file: &[u8], rows: &mut [u8], out: &mut [u8]) -> usize {
 /// The listing of a case with no correction: a line for each event and one for the totals, or the
 /// refusal, each ending in a line feed.
 pub fn listing(file: &[u8]) -> String {
+    let mut rows = vec![0; ROWS_LENGTH];
     let mut out = vec![0; LISTING_LENGTH];
-    let length = list_into(file, &mut [0; ROWS_LENGTH], &mut out);
+    let length = list_into(file, &mut rows, &mut out);
     out.truncate(length);
     String::from_utf8(out).expect("digits, spaces, letters and line feeds")
 }

@@ -3,7 +3,7 @@
 use attachment_h::{Refused, Working, settle, working};
 use cases::case::{sections_of, u16_at, u32_at};
 use cases::faults::FAULTS;
-use cases::generator::{any_case, case};
+use cases::generator::case;
 use cases::{Input, Random, Row, Size, Wanted};
 
 /// What a taken comparison that fails first says, from the comparisons alone.
@@ -31,15 +31,13 @@ fn work(input: &Input, failed: &mut [usize; 5]) {
             assert_eq!(worked.failed > 0, worked.flagged, "{what}");
             assert_eq!((worked.n3, worked.n2), (row.n3, row.n2), "{what}");
             assert_eq!(worked.a, u32_at(event, 24 + 12 * hour), "{what}");
+            let parts = (i64::from(worked.increase), worked.decrease);
             if event[0] == 4 {
                 let d = i64::from(worked.a.cast_signed()) - i64::from(worked.reference);
-                assert_eq!(worked.d, d, "{what}");
+                assert_eq!(parts, (d.max(0), d.min(0).unsigned_abs()), "{what}");
             } else {
-                assert_eq!(
-                    (worked.reference, worked.d, worked.total),
-                    (0, 0, 0),
-                    "{what}"
-                );
+                assert_eq!((worked.reference, worked.total), (0, 0), "{what}");
+                assert_eq!(parts, (0, 0), "{what}");
             }
             failed[usize::from(worked.failed)] += 1;
         }
@@ -106,12 +104,24 @@ fn sums() {
 #[test]
 fn refused_cases() {
     let mut random = Random::new(703);
-    let input = any_case(&mut random).input();
+    let wanted = Wanted {
+        every_kind: true,
+        ..Wanted::of(Size::Small)
+    };
+    let inputs: Vec<Input> = (0..20).map(|_| case(&mut random, wanted).input()).collect();
+    let (mut faults, mut refused) = (0, 0);
     for fault in FAULTS.iter().filter(|fault| fault.number != 15) {
-        let mut faulty = input.clone();
-        if (fault.apply)(&mut faulty, &mut random).is_some() {
-            let worked = working(&faulty.file, &faulty.correction, 0, 0);
-            assert_eq!(worked, Err(Refused(fault.number)), "{}", fault.name);
+        let before = refused;
+        for input in &inputs {
+            let mut faulty = input.clone();
+            if (fault.apply)(&mut faulty, &mut random).is_some() {
+                let worked = working(&faulty.file, &faulty.correction, 0, 0);
+                assert_eq!(worked, Err(Refused(fault.number)), "{}", fault.name);
+                refused += 1;
+            }
         }
+        assert!(refused > before, "no case for {}", fault.name);
+        faults += 1;
     }
+    println!("{faults} faults, {refused} refused");
 }

@@ -8,8 +8,8 @@ use std::env;
 use std::hint::black_box;
 use std::time::{Duration, Instant};
 
-use cases::case::{DAY_AHEAD, EVERY_HOUR};
-use cases::{Case, Event, Input, Random, Reference, Size, Unit, Wanted};
+use cases::case::{DAY_AHEAD, EVERY_HOUR, LARGEST_FILE};
+use cases::{Case, Event, Input, Past, Random, Reference, Size, Unit, Wanted};
 
 const SEED: u64 = 1;
 const CASES: usize = 5;
@@ -23,10 +23,20 @@ fn main() {
         Some(rounds) => rounds.parse().expect("a number of rounds"),
     };
     let mut random = Random::new(SEED);
-    println!("seed {SEED}, best of {rounds}, in microseconds");
+    println!("seed {SEED}, best of {rounds}, in microseconds; second is the second implementation");
     println!(
-        "{:>12} {:>6} {:>6} {:>7} {:>7} {:>6} {:>8} {:>8} {:>6}",
-        "case", "bytes", "copy", "check", "second", "ratio", "settle", "second", "ratio"
+        "{:>12} {:>6} {:>6} {:>7} {:>12} {:>10} {:>12} {:>8} {:>13} {:>11} {:>13}",
+        "case",
+        "bytes",
+        "copy",
+        "check",
+        "second check",
+        "check/copy",
+        "check/second",
+        "settle",
+        "second settle",
+        "settle/copy",
+        "settle/second"
     );
     for place in 0..CASES {
         let input = cases::generator::case(&mut random, Wanted::of(Size::Full)).input();
@@ -87,9 +97,10 @@ fn event(kind: u8, day: u32, unit: u16, component: u8) -> Event {
 }
 
 /// One group's events of one kind: 64 units to a day, the largest party-days there can be; of kind 4 all
-/// nine components of 23 units.
+/// nine components of up to 23 units, beside more units and references and a past entry, so that 200 of
+/// them are a file of exactly 65,000 bytes.
 fn one_kind(kind: u8, count: u16) -> Input {
-    let units = if kind == 4 { 23 } else { 64 };
+    let (units, references, past) = if kind == 4 { (27, 238, 1) } else { (64, 0, 0) };
     let place = |i: u16| {
         if kind == 4 {
             (0, i / 9, (i % 9) as u8)
@@ -99,8 +110,8 @@ fn one_kind(kind: u8, count: u16) -> Input {
     };
     let mut case = Case {
         units: units_of(units, 1),
-        references: references_of(if kind == 4 { units } else { 0 }),
-        past: Vec::new(),
+        references: references_of(references),
+        past: past_of(past),
         events: (0..count)
             .map(|i| {
                 let (day, unit, component) = place(i);
@@ -109,14 +120,16 @@ fn one_kind(kind: u8, count: u16) -> Input {
             .collect(),
     };
     case.sort_events();
-    Input::new(&case, &[])
+    let input = Input::new(&case, &[]);
+    assert!(kind != 4 || count != 200 || input.file.len() == LARGEST_FILE);
+    input
 }
 
-/// 200 events of all kinds over 10 days and 4 groups.
+/// 200 events over 10 days and 4 groups of 5 units, with every kind in every group on every day.
 fn mixed() -> Input {
     let mut case = Case {
         units: units_of(20, 4),
-        references: references_of(20),
+        references: references_of(20 * 9),
         past: Vec::new(),
         events: (0..200u16)
             .map(|i| event((i % 4 + 1) as u8, u32::from(i / 20), i % 20, (i % 9) as u8))
@@ -126,20 +139,33 @@ fn mixed() -> Input {
     Input::new(&case, &[])
 }
 
+/// Units in groups of neighbours.
 fn units_of(count: u16, groups: u16) -> Vec<Unit> {
     (0..count)
         .map(|unit| Unit {
             unit,
-            group: unit % groups,
+            group: unit * groups / count,
             capability: 5_000,
             ..Unit::default()
         })
         .collect()
 }
 
-/// References of all nine components of each unit.
-fn references_of(units: u16) -> Vec<Reference> {
-    (0..units * 9)
+/// Withheld past entries of the first group.
+fn past_of(count: usize) -> Vec<Past> {
+    let entry = Past {
+        group: 0,
+        kind: 1,
+        market: DAY_AHEAD,
+        period: 0,
+        day: 0,
+    };
+    vec![entry; count]
+}
+
+/// References of all nine components of one unit after the other.
+fn references_of(count: u16) -> Vec<Reference> {
+    (0..count)
         .map(|place| Reference {
             unit: place / 9,
             component: (place % 9) as u8,
@@ -148,8 +174,8 @@ fn references_of(units: u16) -> Vec<Reference> {
         .collect()
 }
 
-/// 200 bids of the last of 64 units, with 128 references and 256 corrections: the longest way to every
-/// unit and reference.
+/// 200 bids of the last of 64 units on all nine components, with 127 references and 256 corrections: the
+/// longest way to every unit and reference. A past entry fills the 65,000 bytes.
 fn bids_of_the_last_unit() -> Input {
     let references = |count: u16| -> Vec<Reference> {
         let reference = |unit, component| Reference {
@@ -171,13 +197,15 @@ fn bids_of_the_last_unit() -> Input {
                 ..Unit::default()
             })
             .collect(),
-        references: references(128),
-        past: Vec::new(),
+        references: references(127),
+        past: past_of(1),
         events: (0..200)
             .map(|place| Event::bids(place / 9, DAY_AHEAD, 63, (place % 9) as u8, 1_000, &[]))
             .collect(),
     };
-    Input::new(&case, &references(256))
+    let input = Input::new(&case, &references(256));
+    assert_eq!(input.file.len(), LARGEST_FILE);
+    input
 }
 
 /// Prints one line: the times of one accepted case.
@@ -210,15 +238,17 @@ fn measure(name: &str, rounds: usize, input: &Input) {
     });
     assert_eq!(rows, second_rows);
     println!(
-        "{name:>12} {:>6} {:>6.2} {:>7.2} {:>7.2} {:>6.1} {:>8.2} {:>8.2} {:>6.1}",
+        "{name:>12} {:>6} {:>6.2} {:>7.2} {:>12.2} {:>10.1} {:>12.2} {:>8.2} {:>13.2} {:>11.1} {:>13.2}",
         input.file.len(),
         micros(copied),
         micros(checked),
         micros(checked_second),
-        checked.as_secs_f64() / copied.as_secs_f64(),
+        ratio(checked, copied),
+        ratio(checked, checked_second),
         micros(settled),
         micros(settled_second),
-        settled.as_secs_f64() / copied.as_secs_f64(),
+        ratio(settled, copied),
+        ratio(settled, settled_second),
     );
 }
 
@@ -236,6 +266,10 @@ fn best(rounds: usize, mut round: impl FnMut()) -> Duration {
         })
         .min()
         .expect("at least one round")
+}
+
+fn ratio(time: Duration, other: Duration) -> f64 {
+    time.as_secs_f64() / other.as_secs_f64()
 }
 
 fn micros(time: Duration) -> f64 {

@@ -55,19 +55,19 @@ impl Measure {
 
     /// The value of the file in the text form: `$40.00`, `50.1 MW`.
     pub fn text(self, value: i64) -> String {
-        self.with_digits(value, |digits| digits)
+        self.with_digits(Signed::from(value), |digits| digits)
     }
 
     /// The value of the file for people, with a comma before every three digits: `$2,004.00`.
-    pub fn spoken(self, value: i64) -> String {
-        self.with_digits(value, |digits| grouped(&digits))
+    pub fn spoken(self, value: impl Into<Signed>) -> String {
+        self.with_digits(value.into(), |digits| grouped(&digits))
     }
 
-    fn with_digits(self, value: i64, shape: impl Fn(String) -> String) -> String {
+    fn with_digits(self, value: Signed, shape: impl Fn(String) -> String) -> String {
         let decimals = self.decimals();
-        let digits = format!("{:0width$}", value.unsigned_abs(), width = decimals + 1);
+        let digits = format!("{:0width$}", value.size, width = decimals + 1);
         let (whole, part) = digits.split_at(digits.len() - decimals);
-        let sign = if value < 0 { "-" } else { "" };
+        let sign = if value.negative { "-" } else { "" };
         let dollar = if self == Measure::Dollars { "$" } else { "" };
         let point = if decimals == 0 { "" } else { "." };
         let word = self.word().map_or(String::new(), |word| format!(" {word}"));
@@ -105,8 +105,34 @@ impl Measure {
             return None;
         }
         let zeros = "0".repeat(self.decimals() - part.len());
-        let value: i64 = format!("{whole}{part}{zeros}").parse().ok()?;
+        // Digits alone fail to parse only where they are too many: then no field has room for them.
+        let value = format!("{whole}{part}{zeros}").parse().unwrap_or(i64::MAX);
         Some(if negative { -value } else { value })
+    }
+}
+
+/// A value as its sign and its size.
+#[derive(Clone, Copy, Debug, PartialEq, Eq)]
+pub struct Signed {
+    /// It stands below 0.
+    pub negative: bool,
+    /// The value without its sign.
+    pub size: u64,
+}
+
+impl From<i64> for Signed {
+    fn from(value: i64) -> Signed {
+        Signed {
+            negative: value < 0,
+            size: value.unsigned_abs(),
+        }
+    }
+}
+
+impl From<u64> for Signed {
+    fn from(size: u64) -> Signed {
+        let negative = false;
+        Signed { negative, size }
     }
 }
 
@@ -125,6 +151,12 @@ fn grouped(digits: &str) -> String {
 /// A number with a comma before every three digits.
 pub fn number(value: u64) -> String {
     grouped(&value.to_string())
+}
+
+/// So many bytes, in words.
+pub fn bytes(count: usize) -> String {
+    let word = if count == 1 { "byte" } else { "bytes" };
+    format!("{} {word}", number(count as u64))
 }
 
 /// Cents as dollars, such as `$2,004.00`.

@@ -72,12 +72,16 @@ pub fn read(arguments: &[OsString]) -> Result<Request, Misuse> {
         return Err(misuse("a command is missing".to_string()));
     };
     let rest = &arguments[1..];
+    let alone = |request, rest: &[OsString]| match rest.first() {
+        None => Ok(request),
+        Some(extra) => Err(misuse(format!("one argument too many, {}", shown(extra)))),
+    };
     match first.to_str() {
-        Some("-h" | "--help") => Ok(Request::Help(Topic::Casetool)),
-        Some("-V" | "--version") => Ok(Request::Version),
-        Some("help") => match rest.first() {
+        Some("-h" | "--help") => alone(Request::Help(Topic::Casetool), rest),
+        Some("-V" | "--version") => alone(Request::Version, rest),
+        Some("help") => match rest.split_first() {
             None => Ok(Request::Help(Topic::Casetool)),
-            Some(name) => topic(name).map(Request::Help).map_err(misuse),
+            Some((name, rest)) => alone(Request::Help(topic(name).map_err(misuse)?), rest),
         },
         _ => command(topic(first).map_err(misuse)?, rest),
     }

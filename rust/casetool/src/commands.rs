@@ -4,12 +4,14 @@ use std::io::{Read, Write};
 
 use attachment_h::{ROWS_LENGTH, check, settle, working};
 
+use crate::amounts;
 use crate::arguments::{Given, Source};
 use crate::blocks;
 use crate::event::Event;
 use crate::files;
 use crate::help::Topic;
 use crate::layout::{Section, Sections};
+use crate::place;
 use crate::refusal::describe;
 use crate::text_show;
 use crate::text_write;
@@ -51,6 +53,20 @@ pub fn run(
     input: &mut dyn Read,
     output: &mut dyn Write,
 ) -> Result<bool, Failure> {
+    if let Some(path) = &given.output {
+        let sources = [Some(&given.source), given.correction.as_ref()];
+        if sources
+            .into_iter()
+            .flatten()
+            .any(|source| files::is(source, path))
+        {
+            let problem = format!(
+                "-o {}: that file is read, and would be overwritten",
+                path.display()
+            );
+            return Err(Failure::Misuse(problem));
+        }
+    }
     let file = files::read(&given.source, input)?;
     let correction = match &given.correction {
         Some(source) => files::read(source, input)?,
@@ -94,10 +110,12 @@ fn show(file: &[u8], given: &Given) -> Result<Answer, String> {
             Section::References.most(),
         );
         if !file.len().is_multiple_of(bytes) || file.len() / bytes > most {
+            let hint = place::text_hint(place::Given::Correction, file);
             return Err(format!(
-                "{name}: no correction: it has {} bytes; expected a multiple of {bytes}, at most {}",
-                file.len(),
-                bytes * most
+                "{name}: no correction: it has {}; expected a multiple of {bytes}, at most {}\n{}",
+                amounts::bytes(file.len()),
+                amounts::number((bytes * most) as u64),
+                hint.unwrap_or_default()
             ));
         }
         return Ok(Answer::done(text_show::correction_text(file)));
@@ -145,8 +163,12 @@ fn worked(file: &[u8], correction: &[u8], given: &Given) -> Result<Answer, Failu
         .map_err(|refused| describe(refused, file, correction, ROWS_LENGTH))?;
     let sections = Sections::of(file).ok_or_else(|| mistake.to_string())?;
     let Some(record) = sections.records(Section::Events).nth(given.event) else {
-        let count = Section::Events.count(sections.count(Section::Events));
-        let problem = format!("--event {}: this case has {count}, from 0", given.event);
+        let events = match sections.count(Section::Events) {
+            0 => "no events".to_string(),
+            1 => "one event, 0".to_string(),
+            count => format!("{count} events, 0 to {}", count - 1),
+        };
+        let problem = format!("--event {}: this case has {events}", given.event);
         return Err(Failure::Misuse(problem));
     };
     let hour = Hour {

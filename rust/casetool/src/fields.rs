@@ -38,8 +38,17 @@ impl Form {
     /// The value of the file for people.
     pub fn spoken(self, value: i64) -> String {
         match self {
-            Form::Amount(measure) | Form::Signed(measure) => measure.spoken(value),
-            other => other.text(value),
+            Form::Name(names) if names.word(value).is_some() => self.text(value),
+            Form::Hours => hours::spoken(value as u32),
+            form => form.measure().spoken(value),
+        }
+    }
+
+    /// What an amount is counted in; other forms are plain numbers.
+    pub fn measure(self) -> Measure {
+        match self {
+            Form::Amount(measure) | Form::Signed(measure) => measure,
+            Form::Name(_) | Form::Hours | Form::Day => Measure::Plain,
         }
     }
 
@@ -47,15 +56,11 @@ impl Form {
     fn read(self, word: &str) -> Result<i64, String> {
         match self {
             Form::Amount(measure) | Form::Signed(measure) => measure.read(word),
-            Form::Name(names) => names.number(word).map_or_else(
-                || {
-                    Measure::Plain
-                        .read(word)
-                        .map_err(|_| format!("expected one of {}, or a number", names.all()))
-                },
-                Ok,
-            ),
-            Form::Hours => hours::read(word, 31).map(i64::from),
+            Form::Name(names) => match names.number(word) {
+                Some(number) => Ok(number),
+                None => Measure::Plain.read(word).map_err(|_| names.expected()),
+            },
+            Form::Hours => hours::read_mask(word).map(i64::from),
             Form::Day => calendar::day_of(word).map_or_else(
                 || {
                     Measure::Plain.read(word).map_err(|_| {
@@ -70,10 +75,7 @@ impl Form {
 
     /// The word that may stand after the value.
     pub fn measure_word(self) -> Option<&'static str> {
-        match self {
-            Form::Amount(measure) | Form::Signed(measure) => measure.word(),
-            Form::Name(_) | Form::Hours | Form::Day => None,
-        }
+        self.measure().word()
     }
 }
 
@@ -177,13 +179,16 @@ impl Field {
     pub fn read(&self, word: &str) -> Result<i64, String> {
         let value = self.form.read(word)?;
         let (low, high) = self.range();
-        if (low..=high).contains(&value) {
-            return Ok(value);
-        }
-        let (low, high) = (self.form.text(low), self.form.text(high));
-        Err(format!(
-            "expected {low} to {high}: the field has no room for more"
-        ))
+        let too = match value {
+            value if value < low => "small",
+            value if value > high => "large",
+            value => return Ok(value),
+        };
+        let expected = match self.form {
+            Form::Name(names) => names.expected(),
+            form => format!("expected {} to {}", form.text(low), form.text(high)),
+        };
+        Err(format!("too {too} for its field: {expected}"))
     }
 
     /// The least and the greatest value that its bytes can hold.

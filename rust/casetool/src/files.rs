@@ -36,6 +36,18 @@ fn all(from: &mut dyn Read) -> io::Result<Vec<u8>> {
     Ok(bytes)
 }
 
+/// Whether a source is this very file, by whatever path. Terminals and the like are no files.
+pub fn is(source: &Source, path: &Path) -> bool {
+    let source = match source {
+        Source::Input => Path::new("/dev/stdin"),
+        Source::File(source) => source,
+    };
+    match (fs::canonicalize(source), fs::canonicalize(path)) {
+        (Ok(source), Ok(path)) => source == path && source.is_file(),
+        _ => false,
+    }
+}
+
 /// Writes an answer to a file or to standard output. A reader of the output that has gone away is
 /// no mistake.
 pub fn write(answer: &[u8], path: Option<&Path>, output: &mut dyn Write) -> Result<(), String> {

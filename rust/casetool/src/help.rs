@@ -81,9 +81,11 @@ const WRITE: &str = "\
 casetool write [TEXT] [-o CASE]
 casetool write --correction [TEXT] [-o CORRECTION]
 
-Makes a case file of a text, or a correction, which has references alone. Limits are not
-checked, only that every value has room in its field: casetool check does that. A line of the
-text is a record, or hours of the event above it; # begins a comment:
+Makes a case file of a text, or a correction, which has references alone. Of the limits only
+these are held: every value has room in its field, a case has at most 64 units, 256 references,
+256 past entries, 200 events and 65,000 bytes, a correction 256 references. casetool check holds
+it to the others. A line of the text is a record, or hours of the event above it; # begins a
+comment:
 
   unit 12 group 7 capability 500.0 MW
   reference unit 12 component energy value $20.00
@@ -142,7 +144,8 @@ casetool working [CASE] --event N --hour H [--correction FILE] [-o FILE]
 
 The pencil working of one hour of one event: each comparison of its conduct test with both
 sides, the step that failed, and the figures behind it (a, r, d, S, G, N3, N2), all from the
-proved library. Events are counted from 0, as casetool settle and casetool show number them.
+proved library. A negative d stands as 0 in a comparison. Events are counted from 0, as casetool
+settle and casetool show number them.
 
   --event N          the event, from 0
   --hour H           the hour, 0 to 23

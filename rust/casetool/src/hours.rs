@@ -42,11 +42,16 @@ pub fn spoken(mask: u32) -> String {
     }
 }
 
-/// Reads the text form: hours and stretches that rise, each hour at most `highest`.
-pub fn read(word: &str, highest: u32) -> Result<u32, String> {
-    if word == "none" {
-        return Ok(0);
+/// Reads a mask in the text form, `none` for no hours.
+pub fn read_mask(word: &str) -> Result<u32, String> {
+    match word {
+        "none" => Ok(0),
+        _ => read(word, 31).map_err(|problem| format!("{problem}, or none for no hours")),
     }
+}
+
+/// Reads hours and stretches that rise, each hour at most `highest`.
+pub fn read(word: &str, highest: u32) -> Result<u32, String> {
     let mut mask = 0;
     let mut next = 0;
     for part in word.split(',') {
@@ -69,7 +74,5 @@ fn hour(digits: &str, highest: u32) -> Result<u32, String> {
         .parse()
         .ok()
         .filter(|&hour| all_digits && hour <= highest)
-        .ok_or_else(|| {
-            format!("expected hours from 0 to {highest} as in 0,5-7, or none for no hours")
-        })
+        .ok_or_else(|| format!("expected hours from 0 to {highest}, as in 0,5-7"))
 }

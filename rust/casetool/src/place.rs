@@ -6,6 +6,7 @@ mod events;
 mod header;
 mod records;
 
+use crate::amounts::Measure;
 use crate::fields::{Field, Form, Limit};
 use crate::layout::{Section, Sections};
 
@@ -37,6 +38,44 @@ pub struct Place {
 
 /// The place where a case breaks the limit of a number; none is a mistake of this search.
 pub fn find(number: u8, file: &[u8], correction: &[u8], rows_length: usize) -> Option<Place> {
+    let mut place = search(number, file, correction, rows_length)?;
+    let hint = match number {
+        1 | 2 => text_hint(Given::Case, file),
+        8 => text_hint(Given::Correction, correction),
+        _ => None,
+    };
+    if let Some(hint) = hint {
+        place.sentence.push('\n');
+        place.sentence.push_str(hint);
+    }
+    Some(place)
+}
+
+/// What bytes were given as.
+#[derive(Clone, Copy, Debug, PartialEq, Eq)]
+pub enum Given {
+    /// A case.
+    Case,
+    /// A correction.
+    Correction,
+}
+
+/// What to do with a text that was given as a file; nothing of bytes that are no text.
+pub fn text_hint(given: Given, bytes: &[u8]) -> Option<&'static str> {
+    let text = std::str::from_utf8(bytes).ok()?;
+    let control = |letter: char| letter.is_control() && !letter.is_whitespace();
+    if text.is_empty() || text.contains(control) {
+        return None;
+    }
+    Some(match given {
+        Given::Case => "this file looks like text: casetool write makes a case file of it",
+        Given::Correction => {
+            "the correction looks like text: casetool write --correction makes a correction of it"
+        }
+    })
+}
+
+fn search(number: u8, file: &[u8], correction: &[u8], rows_length: usize) -> Option<Place> {
     match number {
         1 => Some(header::length(file)),
         2 | 3 => header::fixed(file, number),
@@ -91,11 +130,11 @@ fn field_name(field: &Field) -> String {
     }
 }
 
-/// A value as it stands in the file, and in the text form where that is another.
+/// A value as it stands in the file, and as people write it where that is another.
 fn value_words(form: Form, value: i64) -> String {
-    match (form.text(value), value.to_string()) {
-        (text, number) if text == number => number,
-        (text, number) => format!("{number} ({text})"),
+    match (form.spoken(value), Measure::Plain.spoken(value)) {
+        (spoken, number) if spoken == number => number,
+        (spoken, number) => format!("{number} ({spoken})"),
     }
 }
 

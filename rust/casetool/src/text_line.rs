@@ -1,5 +1,6 @@
 //! Lines of the text form as words, and what is wrong in one.
 
+use std::collections::HashSet;
 use std::fmt;
 
 use crate::amounts::MEASURE_WORDS;
@@ -108,9 +109,10 @@ pub struct Pair<'a> {
 /// Words as keys with their values, each key once.
 pub fn pairs<'a>(words: &[Word<'a>]) -> Result<Vec<Pair<'a>>, TextError> {
     let mut found: Vec<Pair<'a>> = Vec::new();
+    let mut keys = HashSet::new();
     let mut words = words.iter().copied().peekable();
     while let Some(key) = words.next() {
-        if found.iter().any(|pair| pair.key.text == key.text) {
+        if !keys.insert(key.text) {
             return Err(key.wrong("this key is there twice"));
         }
         let Some(value) = words.next() else {

@@ -117,9 +117,6 @@ impl Writer {
             return Err(first.missing("expected hours, such as 0,5-7"));
         };
         let mask = hours::read(which.text, 23).map_err(|problem| which.wrong(problem))?;
-        if mask == 0 {
-            return Err(which.wrong("expected hours, such as 0,5-7"));
-        }
         if mask & event.written != 0 {
             let twice = hours::text(mask & event.written);
             return Err(which.wrong(format!("this event has hour {twice} already")));

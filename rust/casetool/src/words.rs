@@ -48,9 +48,10 @@ impl Names {
         Some(place as i64 + i64::from(self.first))
     }
 
-    /// All the words, for a message.
-    pub fn all(&self) -> String {
-        self.words.join(", ")
+    /// What may stand for a number of one byte, for a message.
+    pub fn expected(&self) -> String {
+        let words = self.words.join(", ");
+        format!("expected one of {words}, or a number 0 to 255")
     }
 }
 

@@ -3,10 +3,10 @@
 
 use attachment_h::{Comparison, Working};
 
-use crate::amounts::number;
+use crate::amounts::{Measure, Signed, number};
 use crate::calendar;
 use crate::event::Event;
-use crate::fields::{self, Form};
+use crate::fields;
 use crate::words;
 
 /// An hour of an event.
@@ -23,20 +23,30 @@ pub struct Hour<'a> {
 /// A comparison of a conduct test: what document 01 says of it, and when it counts.
 struct Step {
     words: String,
+    /// d is on its left.
+    of_d: bool,
+    /// Why it is not taken where it is not.
     condition: &'static str,
 }
 
 fn step(words: impl Into<String>) -> Step {
     Step {
         words: words.into(),
+        of_d: false,
         condition: "",
     }
 }
 
-fn step_with(words: &str, condition: &'static str) -> Step {
+fn step_of_d(words: &str) -> Step {
     Step {
-        words: words.to_string(),
-        condition,
+        of_d: true,
+        ..step(words)
+    }
+}
+
+impl Step {
+    fn unless(self, condition: &'static str) -> Step {
+        Step { condition, ..self }
     }
 }
 
@@ -48,7 +58,8 @@ impl Hour<'_> {
             text += &format!("    {name:7}{figure}\n");
         }
         for (place, step) in self.steps(working).iter().enumerate() {
-            text += &line(place + 1, step, &working.comparisons[place]);
+            let comparison = &working.comparisons[place];
+            text += &line(place + 1, step, comparison, working.decrease > 0);
         }
         text + &self.verdict(working)
     }
@@ -73,25 +84,29 @@ impl Hour<'_> {
     /// The figures behind the comparisons, as the kind has them, each with what it is.
     fn figures(&self, working: &Working) -> Vec<(&'static str, String)> {
         let [a, _, _] = fields::cell(self.event.kind, self.event.component);
-        let amount = |value: i64, what: &str| format!("{}, {what}", both(a.form, value));
-        let sum = |value: u64, what: &str| amount(value.try_into().unwrap_or(i64::MAX), what);
+        let measure = a.form.measure();
+        let amount = |value: Signed, what: &str| format!("{}, {what}", both(measure, value));
+        let sum = |value: u64, what: &str| amount(value.into(), what);
+        let own = ("a", sum(u64::from(working.a), a.key));
         let s = ("S", sum(working.s, "the group's a of this hour, added"));
-        let bid = i64::from(working.a.cast_signed());
         let mut found = match self.event.kind {
             1 => vec![
-                ("a", amount(i64::from(working.a), a.key)),
+                own,
                 s,
                 ("G", sum(working.g, "the group's listed capability")),
                 ("N3", working.n3.to_string()),
                 ("N2", working.n2.to_string()),
             ],
-            4 => vec![
-                ("a", amount(bid, a.key)),
-                ("r", amount(i64::from(working.reference), "reference")),
-                ("d", amount(working.d, "a − r")),
-            ],
-            2 => vec![("a", amount(i64::from(working.a), a.key)), s],
-            _ => vec![("a", amount(i64::from(working.a), a.key))],
+            4 => {
+                let bid = i64::from(working.a.cast_signed());
+                vec![
+                    ("a", amount(bid.into(), a.key)),
+                    ("r", sum(u64::from(working.reference), "reference")),
+                    ("d", amount(increase(working), "a − r")),
+                ]
+            }
+            2 => vec![own, s],
+            _ => vec![own],
         };
         if self.event.kind == 4 && (4..=6).contains(&self.event.component) {
             let added = sum(working.total, "the positive d of the three times, added");
@@ -137,54 +152,60 @@ impl Hour<'_> {
     }
 }
 
+/// d: the one of the library's two parts that is not 0, with its sign.
+fn increase(working: &Working) -> Signed {
+    match working.decrease {
+        0 => u64::from(working.increase).into(),
+        size => Signed {
+            negative: true,
+            size,
+        },
+    }
+}
+
 /// The comparisons of a bid.
 fn bid_steps(component: u8) -> Vec<Step> {
     match component {
         0 | 1 => vec![
-            step_with("d > the lower of 3 × r and 10,000", "a is below 2,500"),
-            step_with(
-                "10 × d × H > 1,752 × Average Price",
-                "it needs Real-Time, a tight hour and H of at least 1",
-            ),
+            step_of_d("d > the lower of 3 × r and 10,000").unless("a is below 2,500"),
+            step_of_d("10 × d × H > 1,752 × Average Price")
+                .unless("it needs Real-Time, a tight hour and H of at least 1"),
         ],
-        2 => vec![step_with(
-            "d > the lower of 3 × r and 5,000",
-            "a is below 500",
-        )],
-        3 => vec![step("d > 2 × r")],
+        2 => vec![step_of_d("d > the lower of 3 × r and 5,000").unless("a is below 500")],
+        3 => vec![step_of_d("d > 2 × r")],
         4..=6 => vec![
-            step("d > 180"),
-            step_with(
-                "the positive d of the three times, added > 360",
-                "d is not above 0",
-            ),
+            step_of_d("d > 180"),
+            step("the positive d of the three times, added > 360").unless("d is not above 0"),
         ],
         7 => vec![step("a > 2 × r")],
         _ => vec![step("2 × a < r, that is r > 2 × a")],
     }
 }
 
-/// A comparison with both sides, or why it is not taken.
-fn line(place: usize, step: &Step, comparison: &Comparison) -> String {
+/// A comparison with both sides, or why it is not taken. Whether the left side exceeds the right one is
+/// all that is decided here.
+fn line(place: usize, step: &Step, comparison: &Comparison, negative: bool) -> String {
+    let words = &step.words;
+    if !comparison.taken {
+        return format!("  {place}. {words}: not taken, {}\n", step.condition);
+    }
     let (left, right) = (number(comparison.left), number(comparison.right));
     let exceeded = if comparison.left > comparison.right {
         "exceeded"
     } else {
         "not exceeded"
     };
-    let words = &step.words;
-    if comparison.taken {
-        format!("  {place}. {words}: {left} > {right}, {exceeded}\n")
+    let note = if step.of_d && negative {
+        " (a negative d stands as 0)"
     } else {
-        format!("  {place}. {words}: not taken, {}\n", step.condition)
-    }
+        ""
+    };
+    format!("  {place}. {words}: {left} > {right}, {exceeded}{note}\n")
 }
 
 /// A figure as it stands in the file and as people write it.
-fn both(form: Form, value: i64) -> String {
-    let sign = if value < 0 { "-" } else { "" };
-    let plain = format!("{sign}{}", number(value.unsigned_abs()));
-    let spoken = form.spoken(value);
+fn both(measure: Measure, value: Signed) -> String {
+    let (plain, spoken) = (Measure::Plain.spoken(value), measure.spoken(value));
     if spoken == plain {
         plain
     } else {

@@ -2,6 +2,7 @@
 
 mod support;
 
+use std::fs::File;
 use std::io::{self, ErrorKind, Read, Write};
 use std::process::{Command, Stdio};
 
@@ -41,6 +42,18 @@ fn misuse() {
         (
             &["help", "x"],
             "there is no command 'x'; see casetool --help",
+        ),
+        (
+            &["--version", "junk"],
+            "one argument too many, 'junk'; see casetool --help",
+        ),
+        (
+            &["--help", "write"],
+            "one argument too many, 'write'; see casetool --help",
+        ),
+        (
+            &["help", "write", "extra"],
+            "one argument too many, 'extra'; see casetool --help",
         ),
         (
             &["--color"],
@@ -117,7 +130,7 @@ fn misuse_of_working() {
         (&["--event", "0", "--event", "0"], "--event is there twice"),
         (
             &["--event", "1", "--hour", "0"],
-            "--event 1: this case has 1 event, from 0",
+            "--event 1: this case has one event, 0",
         ),
     ] {
         let ran = casetool(&[&["working"], arguments].concat(), &case);
@@ -126,6 +139,20 @@ fn misuse_of_working() {
             ran.errors,
             format!("casetool: {message}; see casetool working --help\n")
         );
+    }
+    let unit = "unit 12 group 7 capability 1 MW\n";
+    let event = |day| format!("event day {day} kind fuel market day-ahead unit 12 period 0\n");
+    for (text, events) in [
+        (unit.to_string(), "no events"),
+        (
+            [unit.to_string(), event(1), event(2), event(3)].concat(),
+            "3 events, 0 to 2",
+        ),
+    ] {
+        let ran = casetool(&["working", "--event", "3", "--hour", "0"], &written(&text));
+        assert_eq!((ran.status, ran.output.len()), (2, 0));
+        let message = format!("--event 3: this case has {events}; see casetool working --help");
+        assert_eq!(ran.errors, format!("casetool: {message}\n"));
     }
     let refused = casetool(&["working", "--event", "0", "--hour", "0"], &case[..40]);
     assert_eq!((refused.status, refused.output.len()), (1, 0));
@@ -194,7 +221,7 @@ fn a_correction_from_standard_input() {
     let ran = casetool(&["check", &path, "--correction", "-"], &correction.output);
     assert_eq!((ran.status, ran.text()), (0, "accepted, 0 events\n"));
     let ran = casetool(&["show", "--correction"], &[0; 9]);
-    let message = "casetool: standard input: no correction: it has 9 bytes; expected a multiple of 8, at most 2048\n";
+    let message = "casetool: standard input: no correction: it has 9 bytes; expected a multiple of 8, at most 2,048\n";
     assert_eq!((ran.status, ran.errors.as_str()), (1, message));
 }
 
@@ -212,9 +239,99 @@ fn a_refused_case_is_described_by_every_command() {
         shown.errors,
         "casetool: standard input: this file has no sections to show\n\
          refused 2: the version is not 1\n\
-         the header: version is 28277; expected 1\n\
+         the header: version is 28,277; expected 1\n\
          this file looks like text: casetool write makes a case file of it\n"
     );
+}
+
+const CASE_HINT: &str = "this file looks like text: casetool write makes a case file of it\n";
+const CORRECTION_HINT: &str =
+    "the correction looks like text: casetool write --correction makes a correction of it\n";
+
+#[test]
+fn a_text_given_as_a_case_or_a_correction() {
+    let example = std::fs::read(repository("examples/two-plants.txt")).expect("the example");
+    for text in [
+        b"unit 12".to_vec(),
+        b"# caf\xC3\xA9\n".repeat(9),
+        "\u{feff}unit 12 group 7 capability 500.0 MW\r\n"
+            .as_bytes()
+            .to_vec(),
+        example.repeat(40),
+        example,
+    ] {
+        for name in ["check", "settle", "show"] {
+            let ran = casetool(&[name], &text);
+            let said = [ran.text(), ran.errors.as_str()].concat();
+            assert_eq!((ran.status, said.ends_with(CASE_HINT)), (1, true), "{said}");
+        }
+    }
+    let case = written("unit 12 group 7 capability 1 MW");
+    let reference = "reference unit 12 component energy value $1.00\n";
+    assert_eq!(reference.len(), 47);
+    for text in [
+        reference.to_string(),
+        format!("{reference}\n"),
+        format!("# é\n{}", reference.repeat(50)),
+    ] {
+        let path = file_with("command-line.text-correction", text.as_bytes());
+        let ran = casetool(&["check", "--correction", &path], &case);
+        assert_eq!(ran.status, 1);
+        assert!(ran.text().starts_with("refused 8: "));
+        assert!(ran.text().ends_with(CORRECTION_HINT), "{}", ran.text());
+    }
+    let ran = casetool(&["show", "--correction"], reference.as_bytes());
+    assert_eq!(
+        (ran.status, ran.errors),
+        (
+            1,
+            format!(
+                "casetool: standard input: no correction: it has 47 bytes; expected a multiple of 8, at most 2,048\n{CORRECTION_HINT}"
+            )
+        )
+    );
+    // Bytes that are no text get no hint.
+    for (file, correction) in [
+        (&[][..], &[][..]),
+        (&[1; 35], &[]),
+        (&[0xC3; 40], &[]),
+        (&case, &[0; 7]),
+    ] {
+        let path = file_with("command-line.no-text", correction);
+        let ran = casetool(&["check", "--correction", &path], file);
+        assert_eq!((ran.status, ran.text().contains("looks like")), (1, false));
+    }
+}
+
+#[test]
+fn an_output_that_would_overwrite_what_is_read() {
+    let text = "unit 12 group 7 capability 1 MW\n";
+    let folder = env!("CARGO_TARGET_TMPDIR");
+    let path = file_with("command-line.same", text.as_bytes());
+    let around = format!("{folder}/../tmp/./command-line.same");
+    for (source, output) in [(&path, &path), (&path, &around), (&around, &path)] {
+        let ran = casetool(&["write", source, "-o", output], b"");
+        assert_eq!((ran.status, ran.output.len()), (2, 0));
+        let problem = format!("-o {output}: that file is read, and would be overwritten");
+        assert_eq!(
+            ran.errors,
+            format!("casetool: {problem}; see casetool write --help\n")
+        );
+    }
+    let case = file_with("command-line.same-case", &written(text));
+    let ran = casetool(&["settle", &case, "--correction", &path, "-o", &path], b"");
+    assert_eq!(ran.status, 2);
+    assert_eq!(std::fs::read(&path).expect("the text"), text.as_bytes());
+    let ran = Command::new(env!("CARGO_BIN_EXE_casetool"))
+        .args(["write", "-o", &path])
+        .stdin(File::open(&path).expect("the text"))
+        .output()
+        .expect("the program casetool");
+    assert_eq!(ran.status.code(), Some(2));
+    assert_eq!(std::fs::read(&path).expect("the text"), text.as_bytes());
+    // What is no file can be both.
+    let ran = casetool(&["write", "/dev/null", "-o", "/dev/null"], b"");
+    assert_eq!((ran.status, ran.errors.as_str()), (0, ""));
 }
 
 /// An output that takes some bytes and then fails.

@@ -57,6 +57,11 @@ fn numbers_1_to_5() {
          the file: its length is 35 bytes; expected 36 to 65,000\n",
     );
     refused_bytes(
+        &good[..1],
+        "refused 1: the file's length is outside 36 to 65,000 bytes\n\
+         the file: its length is 1 byte; expected 36 to 65,000\n",
+    );
+    refused_bytes(
         &vec![0; 70_000],
         "refused 1: the file's length is outside 36 to 65,000 bytes\n\
          the file: its length is 70,000 bytes; expected 36 to 65,000\n",
@@ -101,7 +106,7 @@ fn numbers_1_to_5() {
     refused_bytes(
         &many,
         "refused 5: a section's length is no multiple of its record, or it has too many records\n\
-         the header: the length of units is 1560, 65 records; expected at most 64\n",
+         the header: the length of units is 1,560, 65 records; expected at most 64\n",
     );
 }
 
@@ -118,23 +123,23 @@ fn number_6() {
         ),
         (
             "unit 14 group 7 capability 0 MW",
-            "units, record 2 (unit 14): capability is 0 (0.0 MW); expected 1 (0.1 MW) to 50000 (5000.0 MW)",
+            "units, record 2 (unit 14): capability is 0 (0.0 MW); expected 1 (0.1 MW) to 50,000 (5,000.0 MW)",
         ),
         (
             "unit 14 group 7 capability 5000.1 MW",
-            "units, record 2 (unit 14): capability is 50001 (5000.1 MW); expected 1 (0.1 MW) to 50000 (5000.0 MW)",
+            "units, record 2 (unit 14): capability is 50,001 (5,000.1 MW); expected 1 (0.1 MW) to 50,000 (5,000.0 MW)",
         ),
         (
             "unit 14 group 7 capability 1 MW response-rate 5000.1 MW/min",
-            "units, record 2 (unit 14): response rate is 50001 (5000.1 MW/min); expected 0 (0.0 MW/min) to 50000 (5000.0 MW/min)",
+            "units, record 2 (unit 14): response rate is 50,001 (5,000.1 MW/min); expected 0 (0.0 MW/min) to 50,000 (5,000.0 MW/min)",
         ),
         (
             "unit 14 group 7 capability 1 MW average-price $10000.01",
-            "units, record 2 (unit 14): Average Price is 1000001 ($10000.01); expected 0 ($0.00) to 1000000 ($10000.00)",
+            "units, record 2 (unit 14): Average Price is 1,000,001 ($10,000.01); expected 0 ($0.00) to 1,000,000 ($10,000.00)",
         ),
         (
             "unit 14 group 7 capability 1 MW constrained-hours 8785",
-            "units, record 2 (unit 14): Constrained Hours is 8785; expected 0 to 8784",
+            "units, record 2 (unit 14): Constrained Hours is 8,785; expected 0 to 8,784",
         ),
         (
             "unit 13 group 8 capability 1 MW",
@@ -162,11 +167,11 @@ fn number_7_and_8() {
         ),
         (
             "reference unit 12 component reserve-or-regulation value $10000.01",
-            "record 0 (unit 12, reserve or regulation): value is 1000001 ($10000.01); expected 0 ($0.00) to 1000000 ($10000.00)",
+            "record 0 (unit 12, reserve or regulation): value is 1,000,001 ($10,000.01); expected 0 ($0.00) to 1,000,000 ($10,000.00)",
         ),
         (
             "reference unit 12 component minimum-run-time value 1000000001 minutes",
-            "record 0 (unit 12, minimum run time): value is 1000000001 (1000000001 minutes); expected 0 (0 minutes) to 1000000000 (1000000000 minutes)",
+            "record 0 (unit 12, minimum run time): value is 1,000,000,001 (1,000,000,001 minutes); expected 0 (0 minutes) to 1,000,000,000 (1,000,000,000 minutes)",
         ),
         (
             "reference unit 12 component start-up-cost value $1.00\nreference unit 12 component energy value $1.00",
@@ -212,7 +217,7 @@ fn number_9() {
         ),
         (
             "kind fuel market day-ahead period 1 day 1000001",
-            "past, record 1 (group 7, fuel, Day-Ahead): day is 1000001; expected 0 to 1000000",
+            "past, record 1 (group 7, fuel, Day-Ahead): day is 1,000,001; expected 0 to 1,000,000",
         ),
     ] {
         let good = "past group 7 kind fuel market day-ahead period 1 day 1000000";
@@ -253,7 +258,7 @@ fn number_10_before_the_hours() {
         ),
         (
             "kind withheld market day-ahead shadow-price-hours 0,24",
-            "withheld, Day-Ahead, unit 12): P (shadow-price-hours) is 16777217 (0,24); bits 24 to 31 of the mask have to be 0",
+            "withheld, Day-Ahead, unit 12): P (shadow-price-hours) is 16,777,217 (0, 24); bits 24 to 31 of the mask have to be 0",
         ),
         (
             "kind withheld market day-ahead Q 5 R 6",
@@ -261,7 +266,7 @@ fn number_10_before_the_hours() {
         ),
         (
             "kind fuel market day-ahead guarantee-change -$10000000.01",
-            "fuel, Day-Ahead, unit 12): Q (guarantee-change) is -1000000001 (-$10000000.01); expected -1000000000 (-$10000000.00) to 1000000000 ($10000000.00)",
+            "fuel, Day-Ahead, unit 12): Q (guarantee-change) is -1,000,000,001 (-$10,000,000.01); expected -1,000,000,000 (-$10,000,000.00) to 1,000,000,000 ($10,000,000.00)",
         ),
         (
             "kind fuel market real-time tcc-change $0.01",
@@ -269,7 +274,7 @@ fn number_10_before_the_hours() {
         ),
         (
             "kind bids market day-ahead component energy impact-hours 31",
-            "bids, Day-Ahead, unit 12, energy): Q (impact-hours) is 2147483648 (31); bits 24 to 31 of the mask have to be 0",
+            "bids, Day-Ahead, unit 12, energy): Q (impact-hours) is 2,147,483,648 (31); bits 24 to 31 of the mask have to be 0",
         ),
         (
             "kind bids market day-ahead component energy minimum-run-hours 25",
@@ -285,7 +290,7 @@ fn number_10_before_the_hours() {
     refused(
         10,
         "event day 1000001 kind fuel market day-ahead unit 12 period 44",
-        "event 0 (day 1000001, fuel, Day-Ahead, unit 12): day is 1000001; expected 0 to 1000000",
+        "event 0 (day 1000001, fuel, Day-Ahead, unit 12): day is 1,000,001; expected 0 to 1,000,000",
     );
 }
 
@@ -295,7 +300,7 @@ fn number_10_in_an_hour() {
         (
             "kind withheld market day-ahead",
             "price $10000.01",
-            "withheld, Day-Ahead, unit 12), hour 7: b (price) is 1000001 ($10000.01); expected -1000000 (-$10000.00) to 1000000 ($10000.00)",
+            "withheld, Day-Ahead, unit 12), hour 7: b (price) is 1,000,001 ($10,000.01); expected -1,000,000 (-$10,000.00) to 1,000,000 ($10,000.00)",
         ),
         (
             "kind withheld market day-ahead",
@@ -305,32 +310,32 @@ fn number_10_in_an_hour() {
         (
             "kind dispatch market real-time",
             "added-revenue $1000000.01",
-            "dispatch, Real-Time, unit 12), hour 7: b (added-revenue) is 100000001 ($1000000.01); expected 0 ($0.00) to 100000000 ($1000000.00)",
+            "dispatch, Real-Time, unit 12), hour 7: b (added-revenue) is 100,000,001 ($1,000,000.01); expected 0 ($0.00) to 100,000,000 ($1,000,000.00)",
         ),
         (
             "kind fuel market day-ahead",
             "energy 5000.1 MWh",
-            "fuel, Day-Ahead, unit 12), hour 7: a (energy) is 50001 (5000.1 MWh); expected 0 (0.0 MWh) to 50000 (5000.0 MWh)",
+            "fuel, Day-Ahead, unit 12), hour 7: a (energy) is 50,001 (5,000.1 MWh); expected 0 (0.0 MWh) to 50,000 (5,000.0 MWh)",
         ),
         (
             "kind bids market day-ahead component energy",
             "bid -$10000.01",
-            "bids, Day-Ahead, unit 12, energy), hour 7: a (bid) is -1000001 (-$10000.01); expected -1000000 (-$10000.00) to 1000000 ($10000.00)",
+            "bids, Day-Ahead, unit 12, energy), hour 7: a (bid) is -1,000,001 (-$10,000.01); expected -1,000,000 (-$10,000.00) to 1,000,000 ($10,000.00)",
         ),
         (
             "kind bids market day-ahead component reserve-or-regulation",
             "bid -$0.01",
-            "bids, Day-Ahead, unit 12, reserve or regulation), hour 7: a (bid) is -1 (-$0.01); expected 0 ($0.00) to 1000000 ($10000.00)",
+            "bids, Day-Ahead, unit 12, reserve or regulation), hour 7: a (bid) is -1 (-$0.01); expected 0 ($0.00) to 1,000,000 ($10,000.00)",
         ),
         (
             "kind bids market day-ahead component minimum-parameter",
             "bid 1000000001",
-            "bids, Day-Ahead, unit 12, minimum parameter), hour 7: a (bid) is 1000000001; expected 0 to 1000000000",
+            "bids, Day-Ahead, unit 12, minimum parameter), hour 7: a (bid) is 1,000,000,001; expected 0 to 1,000,000,000",
         ),
         (
             "kind bids market day-ahead component energy",
             "quantity 5000.1 MW",
-            "bids, Day-Ahead, unit 12, energy), hour 7: m (quantity) is 50001 (5000.1 MW); expected 0 (0.0 MW) to 50000 (5000.0 MW)",
+            "bids, Day-Ahead, unit 12, energy), hour 7: m (quantity) is 50,001 (5,000.1 MW); expected 0 (0.0 MW) to 50,000 (5,000.0 MW)",
         ),
     ] {
         refused(
@@ -367,7 +372,7 @@ fn numbers_11_to_14() {
     refused(
         13,
         &(event(12, "hour 7 withheld 500.0 MW") + &event(13, "hour 8 withheld 1500.1")),
-        "event 1 (day 8000, withheld, Day-Ahead, unit 13), hour 8: a (withheld) is 15001 (1500.1 MW); expected at most the capability, 15000 (1500.0 MW)",
+        "event 1 (day 8000, withheld, Day-Ahead, unit 13), hour 8: a (withheld) is 15,001 (1,500.1 MW); expected at most the capability, 15,000 (1,500.0 MW)",
     );
     refused(
         14,

@@ -15,8 +15,8 @@ struct Shown {
     output: String,
 }
 
-/// The commands of a section, each after a `$` in an indented block.
-fn shown(readme: &str) -> Vec<Shown> {
+/// The section that has the commands.
+fn section(readme: &str) -> &str {
     let start = readme
         .find("## A case from text to listing")
         .expect("the section");
@@ -24,9 +24,25 @@ fn shown(readme: &str) -> Vec<Shown> {
     let end = section[3..]
         .find("\n## ")
         .map_or(section.len(), |end| end + 3);
+    &section[..end]
+}
+
+/// The text that the reader is asked to put into target/first.txt.
+fn first_case(section: &str) -> String {
+    let (_, rest) = section
+        .split_once("into target/first.txt:\n\n")
+        .expect("the first case");
+    rest.lines()
+        .map_while(|line| line.strip_prefix("    "))
+        .map(|line| format!("{line}\n"))
+        .collect()
+}
+
+/// The commands of a section, each after a `$` in an indented block.
+fn shown(section: &str) -> Vec<Shown> {
     let mut found: Vec<Shown> = Vec::new();
     let mut open = false;
-    for line in section[..end].lines() {
+    for line in section.lines() {
         if let Some(command) = line.strip_prefix("    $ ") {
             let command = command.to_string();
             let output = String::new();
@@ -64,8 +80,12 @@ fn folder() -> PathBuf {
 #[test]
 fn commands_print_what_the_readme_shows() {
     let readme = fs::read_to_string(repository("README.md")).expect("the README");
+    let section = section(&readme);
     let folder = folder();
-    let shown = shown(&readme);
+    let first = first_case(section);
+    assert_eq!(first.lines().count(), 3);
+    fs::write(folder.join("target/first.txt"), first).expect("a file of the test");
+    let shown = shown(section);
     for Shown { command, output } in &shown {
         if command.contains("target/bin/listing") && !folder.join("target/bin/listing").exists() {
             println!("target/bin/listing is not built: not run");
@@ -82,5 +102,5 @@ fn commands_print_what_the_readme_shows() {
         assert_eq!(printed.trim_end(), output.trim_end(), "{command}");
     }
     println!("{} commands of README.md", shown.len());
-    assert!(shown.len() >= 6);
+    assert!(shown.len() >= 10);
 }

@@ -5,7 +5,7 @@ mod support;
 
 use attachment_h::{ROWS_LENGTH, Refused, check};
 use cases::Random;
-use cases::case::{Input, section_place, sections_of};
+use cases::case::{Input, file_of, section_place, sections_of};
 use cases::faults::{FAULTS, Fault};
 use cases::generator::{Generated, Size, Wanted, case, random_bytes};
 use casetool::layout::Section;
@@ -277,22 +277,112 @@ fn two_faults_and_noise_always_have_a_place() {
     );
 }
 
+/// The first place of a case that is broken everywhere: its number, its record and its field.
+fn first_of_many(input: &Input) -> (u8, usize, usize) {
+    let (number, place) = found(input).expect("a refusal");
+    names_its_record(&place);
+    (number, place.record, place.at)
+}
+
 #[test]
 fn the_first_of_many_is_named() {
-    // Every unit, every past entry or every event broken: the first record is named.
+    // Every unit, reference, past entry or event broken, or every record of the correction.
     let mut random = Random::new(714);
     for _ in 0..100 {
         let input = every_kind(&mut random, Size::Small).input();
-        for (section, byte, record_bytes) in [(0, 4, 24), (1, 3, 8), (2, 2, 12), (3, 1, 312)] {
+        for (number, section, byte) in [(6, 0, 4), (7, 1, 3), (9, 2, 2), (10, 3, 1)] {
             let mut bad = input.clone();
             let (offset, length) = section_place(&bad.file, section);
-            for record in (offset..offset + length).step_by(record_bytes) {
+            for record in (offset..offset + length).step_by(RECORD_BYTES[section]) {
                 bad.file[record + byte] = 2;
             }
-            let (_, place) = found(&bad).expect("a refusal");
-            assert_eq!((place.record, place.at), (0, byte));
+            assert_eq!(first_of_many(&bad), (number, 0, byte));
+        }
+        let mut bad = input.clone();
+        bad.correction = sections_of(&input.file)[1].clone();
+        for record in bad.correction.chunks_exact_mut(8) {
+            record[3] = 2;
+        }
+        assert_eq!(first_of_many(&bad), (8, 0, 3));
+    }
+}
+
+/// A case with other sections.
+fn with_sections(sections: [Vec<u8>; 4], correction: &[u8]) -> Input {
+    Input {
+        file: file_of(&sections),
+        correction: correction.to_vec(),
+        rows_len: ROWS_LENGTH,
+    }
+}
+
+#[test]
+fn the_first_of_many_events_is_named() {
+    let mut random = Random::new(715);
+    let mut without_correct = 0;
+    for _ in 0..100 {
+        let input = every_kind(&mut random, Size::Small).input();
+        let [units, references, past, events] = sections_of(&input.file);
+        let records: Vec<&[u8]> = events.chunks_exact(312).collect();
+
+        // 11: all in falling order, so that the second is the first after a later one.
+        let falling: Vec<u8> = records.iter().rev().copied().flatten().copied().collect();
+        let bad = with_sections(
+            [units.clone(), references.clone(), past.clone(), falling],
+            &[],
+        );
+        let [one, other] = [records.len() - 1, records.len() - 2].map(|place| records[place]);
+        let parts = [8..12, 0..1, 1..2, 2..4, 6..7];
+        let part = parts
+            .into_iter()
+            .find(|part| one[part.clone()] != other[part.clone()]);
+        assert_eq!(
+            first_of_many(&bad),
+            (11, 1, part.expect("a difference").start)
+        );
+
+        // 12: no units, and so no references that would need them.
+        let bad = with_sections([Vec::new(), Vec::new(), past.clone(), events.clone()], &[]);
+        assert_eq!(first_of_many(&bad), (12, 0, 2));
+
+        // 13: every a above its capability from some hour on, in all events of kinds 1 and 2.
+        let hour = random.below(24);
+        let mut above = events.clone();
+        for event in above.chunks_exact_mut(312).filter(|event| event[0] <= 2) {
+            for cell in event[24..].chunks_exact_mut(12).skip(hour) {
+                cell[..4].copy_from_slice(&50_001_u32.to_le_bytes());
+            }
+        }
+        let bad = with_sections(
+            [units.clone(), references.clone(), past.clone(), above],
+            &[],
+        );
+        let first = records.iter().position(|event| event[0] <= 2);
+        let first = first.expect("an event of kind 1 or 2");
+        assert_eq!(first_of_many(&bad), (13, first, 24 + 12 * hour));
+
+        // 14: no references; then a correction of one reference that no event reads.
+        let bad = with_sections(
+            [units.clone(), Vec::new(), past.clone(), events.clone()],
+            &[],
+        );
+        let first = records.iter().position(|event| event[0] == 4);
+        assert_eq!(first_of_many(&bad), (14, first.expect("a bid"), 6));
+        let unread = [units[0], units[1], 8, 0, 0, 0, 0, 0];
+        let bad = with_sections(
+            [units.clone(), references.clone(), past, events.clone()],
+            &unread,
+        );
+        let first = records
+            .iter()
+            .position(|event| event[0] == 4 && matches!(event[6], 0 | 1 | 3));
+        if let Some(first) = first {
+            assert_eq!(first_of_many(&bad), (14, first, 6));
+            without_correct += 1;
         }
     }
+    println!("{without_correct} cases without correct references");
+    assert!(without_correct > 20);
 }
 
 #[test]

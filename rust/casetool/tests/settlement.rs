@@ -211,8 +211,8 @@ fn figures_in_words() {
     ] {
         assert_eq!(dollars(cents), text);
     }
-    assert_eq!(Measure::Dollars.spoken(-123_456_789), "-$1,234,567.89");
-    assert_eq!(Measure::Minutes.spoken(1_000), "1,000 minutes");
+    assert_eq!(Measure::Dollars.spoken(-123_456_789_i64), "-$1,234,567.89");
+    assert_eq!(Measure::Minutes.spoken(1_000_i64), "1,000 minutes");
     assert_eq!(Measure::Power.text(-1), "-0.1 MW");
     for (mask, spoken, text) in [
         (0, "none", "none"),
@@ -225,7 +225,7 @@ fn figures_in_words() {
             (hours::spoken(mask), hours::text(mask)),
             (spoken.into(), text.into())
         );
-        assert_eq!(hours::read(text, 31), Ok(mask));
+        assert_eq!(hours::read_mask(text), Ok(mask));
     }
 }
 

@@ -79,11 +79,11 @@ fn values() {
     for (text, message) in [
         (
             "unit 65536",
-            "line 1, column 6, '65536': expected 0 to 65535: the field has no room for more",
+            "line 1, column 6, '65536': too large for its field: expected 0 to 65535",
         ),
         (
             "unit -1",
-            "line 1, column 6, '-1': expected 0 to 65535: the field has no room for more",
+            "line 1, column 6, '-1': too small for its field: expected 0 to 65535",
         ),
         (
             "unit 1.0",
@@ -92,7 +92,7 @@ fn values() {
         ("unit $1", "line 1, column 6, '$1': expected a whole number"),
         (
             "unit 99999999999999999999",
-            "line 1, column 6, '99999999999999999999': expected a whole number",
+            "line 1, column 6, '99999999999999999999': too large for its field: expected 0 to 65535",
         ),
         (
             "unit 1 MW",
@@ -112,7 +112,15 @@ fn values() {
         ),
         (
             "unit 1 capability 429496729.6",
-            "line 1, column 19, '429496729.6': expected 0.0 MW to 429496729.5 MW: the field has no room for more",
+            "line 1, column 19, '429496729.6': too large for its field: expected 0.0 MW to 429496729.5 MW",
+        ),
+        (
+            "unit 1 capability 99999999999999999999.9 MW",
+            "line 1, column 19, '99999999999999999999.9': too large for its field: expected 0.0 MW to 429496729.5 MW",
+        ),
+        (
+            "unit 1 average-price -$99999999999999999999",
+            "line 1, column 22, '-$99999999999999999999': too small for its field: expected $0.00 to $42949672.95",
         ),
         (
             "unit 1 average-price 1,000.00",
@@ -124,11 +132,19 @@ fn values() {
         ),
         (
             "reference unit 1 component power value 1",
-            "line 1, column 28, 'power': expected one of energy, minimum-generation, reserve-or-regulation, start-up-cost, start-up-time, minimum-run-time, minimum-down-time, minimum-parameter, maximum-parameter, or a number",
+            "line 1, column 28, 'power': expected one of energy, minimum-generation, reserve-or-regulation, start-up-cost, start-up-time, minimum-run-time, minimum-down-time, minimum-parameter, maximum-parameter, or a number 0 to 255",
         ),
         (
             "reference unit 1 component 256 value 1",
-            "line 1, column 28, '256': expected energy to 255: the field has no room for more",
+            "line 1, column 28, '256': too large for its field: expected one of energy, minimum-generation, reserve-or-regulation, start-up-cost, start-up-time, minimum-run-time, minimum-down-time, minimum-parameter, maximum-parameter, or a number 0 to 255",
+        ),
+        (
+            "event day 3 kind -1",
+            "line 1, column 18, '-1': too small for its field: expected one of withheld, dispatch, fuel, bids, or a number 0 to 255",
+        ),
+        (
+            "past group 1 kind fuel market 300",
+            "line 1, column 31, '300': too large for its field: expected one of day-ahead, real-time, or a number 0 to 255",
         ),
         (
             "past group 1 kind fuel market 0 period 0 day 2021-02-29",
@@ -136,7 +152,7 @@ fn values() {
         ),
         (
             "past group 1 kind fuel market dayahead",
-            "line 1, column 31, 'dayahead': expected one of day-ahead, real-time, or a number",
+            "line 1, column 31, 'dayahead': expected one of day-ahead, real-time, or a number 0 to 255",
         ),
         (
             "reference unit 1 component start-up-time value 1.5 minutes",
@@ -149,7 +165,7 @@ fn values() {
 
 #[test]
 fn hours() {
-    let hours = "expected hours from 0 to 23 as in 0,5-7, or none for no hours";
+    let hours = "expected hours from 0 to 23, as in 0,5-7";
     for (text, message) in [
         ("hour", "column 5: expected hours, such as 0,5-7".to_string()),
         ("hour 24 bid 1", format!("column 6, '24': {hours}")),
@@ -159,9 +175,10 @@ fn hours() {
         ("hour +3 bid 1", format!("column 6, '+3': {hours}")),
         ("hours 7-5 bid 1", "column 7, '7-5': expected hours that rise, such as 0,5-7".to_string()),
         ("hours 5,5 bid 1", "column 7, '5,5': expected hours that rise, such as 0,5-7".to_string()),
-        ("hours none bid 1", "column 7, 'none': expected hours, such as 0,5-7".to_string()),
+        ("hours none bid 1", format!("column 7, 'none': {hours}")),
         ("hour 3 withheld 1", "column 8, 'withheld': unknown key; expected bid, price, quantity".to_string()),
-        ("hour 3 bid 21474836.48", "column 12, '21474836.48': expected -$21474836.48 to $21474836.47: the field has no room for more".to_string()),
+        ("hour 3 bid 21474836.48", "column 12, '21474836.48': too large for its field: expected -$21474836.48 to $21474836.47".to_string()),
+        ("hour 3 bid -21474836.49", "column 12, '-21474836.49': too small for its field: expected -$21474836.48 to $21474836.47".to_string()),
     ] {
         wrong(&format!("{UNIT}\n{EVENT}\n{text}"), &format!("line 3, {message}"));
     }
@@ -173,7 +190,7 @@ fn hours() {
         &format!("{EVENT}\n{UNIT}\nhour 5 bid 1"),
         "line 3, column 1, 'hour': hours follow the line of their event",
     );
-    let masks = "expected hours from 0 to 31 as in 0,5-7, or none for no hours";
+    let masks = "expected hours from 0 to 31, as in 0,5-7, or none for no hours";
     let event = format!("{EVENT} impact-hours 32");
     wrong(
         &event,
@@ -235,6 +252,20 @@ fn no_text() {
     let long = "x".repeat(100_000);
     let error = case_file(long.as_bytes()).expect_err("no record");
     assert_eq!(error.word.map(|word| word.chars().count()), Some(41));
+}
+
+#[test]
+fn a_line_of_many_keys() {
+    // Keys that are compared each with each would take minutes here.
+    let keys: Vec<String> = (0..400_000)
+        .map(|place| format!(" key-{place} 1"))
+        .collect();
+    let text = format!("unit 12{}", keys.concat());
+    let error = case_file(text.as_bytes()).expect_err("no such key");
+    assert_eq!((error.column, error.word.as_deref()), (9, Some("key-0")));
+    let twice = format!("{text} key-7 2");
+    let error = case_file(twice.as_bytes()).expect_err("a key twice");
+    assert_eq!(error.problem, "this key is there twice");
 }
 
 /// A good text with bytes, words or lines changed.

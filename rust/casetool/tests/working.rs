@@ -171,6 +171,17 @@ No step is exceeded: hour 7 is not flagged"
         ),
     );
     works(
+        &bids("energy", "$50.00", "real-time", "$25.00"),
+        7,
+        "    a      2,500 ($25.00), bid
+    r      5,000 ($50.00), reference
+    d      -2,500 (-$25.00), a − r
+    tight  yes
+  1. d > the lower of 3 × r and 10,000: 0 > 10,000, not exceeded (a negative d stands as 0)
+  2. 10 × d × H > 1,752 × Average Price: 0 > 8,760,000, not exceeded (a negative d stands as 0)
+No step is exceeded: hour 7 is not flagged",
+    );
+    works(
         &bids("reserve-or-regulation", "$1.00", "day-ahead", "$5.01"),
         7,
         "    a      501 ($5.01), bid
@@ -188,6 +199,16 @@ Step 1 failed: hour 7 is flagged",
     d      200,000 ($2,000.00), a − r
     tight  yes
   1. d > 2 × r: 200,000 > 200,000, not exceeded
+No step is exceeded: hour 7 is not flagged",
+    );
+    works(
+        &bids("start-up-cost", "$10000000.00", "day-ahead", "$0.00"),
+        7,
+        "    a      0 ($0.00), bid
+    r      1,000,000,000 ($10,000,000.00), reference
+    d      -1,000,000,000 (-$10,000,000.00), a − r
+    tight  yes
+  1. d > 2 × r: 0 > 2,000,000,000, not exceeded (a negative d stands as 0)
 No step is exceeded: hour 7 is not flagged",
     );
 }
@@ -227,7 +248,7 @@ Step 2 failed: hour 7 is flagged",
     d      -60 (-60 minutes), a − r
     sum    0 (0 minutes), the positive d of the three times, added
     tight  no
-  1. d > 180: 0 > 180, not exceeded
+  1. d > 180: 0 > 180, not exceeded (a negative d stands as 0)
   2. the positive d of the three times, added > 360: not taken, d is not above 0
 No step is exceeded: hour 8 is not flagged",
     );

@@ -128,8 +128,8 @@ pub fn rows(sections: &Sections<'_>, rows_length: usize) -> Option<Place> {
     let count = sections.count(Section::Events);
     let needed = 128 * count;
     let sentence = format!(
-        "the rows buffer: its length is {} bytes; expected at least {} for {}",
-        amounts::number(rows_length as u64),
+        "the rows buffer: its length is {}; expected at least {} for {}",
+        amounts::bytes(rows_length),
         amounts::number(needed as u64),
         Section::Events.count(count)
     );

@@ -1,7 +1,7 @@
 //! Numbers 1 to 5: the length, the header and its pairs.
 
 use super::{Part, Place};
-use crate::amounts;
+use crate::amounts::{bytes, number as number_of};
 use crate::layout::{HEADER_BYTES, Section, pair, u16_at};
 
 fn place(at: usize, sentence: String) -> Place {
@@ -15,10 +15,10 @@ fn place(at: usize, sentence: String) -> Place {
 
 /// Number 1: the length of the file.
 pub fn length(file: &[u8]) -> Place {
-    let length = amounts::number(file.len() as u64);
+    let length = bytes(file.len());
     place(
         0,
-        format!("the file: its length is {length} bytes; expected 36 to 65,000"),
+        format!("the file: its length is {length}; expected 36 to 65,000"),
     )
 }
 
@@ -29,18 +29,9 @@ pub fn fixed(file: &[u8], number: u8) -> Option<Place> {
         _ => ("section count", 2, 4),
     };
     let value = u16_at(file.get(..HEADER_BYTES)?, at);
-    let mut sentence = format!("the header: {name} is {value}; expected {right}");
-    if number == 2 && looks_like_text(file) {
-        sentence.push_str("\nthis file looks like text: casetool write makes a case file of it");
-    }
+    let shown = number_of(u64::from(value));
+    let sentence = format!("the header: {name} is {shown}; expected {right}");
     (value != right).then(|| place(at, sentence))
-}
-
-fn looks_like_text(file: &[u8]) -> bool {
-    let start = &file[..file.len().min(HEADER_BYTES)];
-    start
-        .iter()
-        .all(|byte| byte.is_ascii_graphic() || byte.is_ascii_whitespace())
 }
 
 /// Number 4: the first pair that doesn't follow on, or the end of the last.
@@ -52,6 +43,7 @@ pub fn pairs(file: &[u8]) -> Option<Place> {
         let (offset, length) = pair(file, section);
         let name = section.name();
         if offset != end {
+            let (offset, end) = (number_of(offset), number_of(end));
             let sentence =
                 format!("the header: the offset of {name} is {offset}; {before} at {end}");
             return Some(place(4 + 8 * section as usize, sentence));
@@ -60,8 +52,11 @@ pub fn pairs(file: &[u8]) -> Option<Place> {
         before = format!("the section before it, {name}, ends");
     }
     let length = file.len() as u64;
-    let sentence =
-        format!("the header: the last section, events, ends at {end}; the file at {length}");
+    let sentence = format!(
+        "the header: the last section, events, ends at {}; the file at {}",
+        number_of(end),
+        number_of(length)
+    );
     (end != length).then(|| place(32, sentence))
 }
 
@@ -72,16 +67,18 @@ pub fn sections(file: &[u8]) -> Option<Place> {
         let length = pair(file, section).1;
         let (name, bytes) = (section.name(), section.record_bytes() as u64);
         let at = 8 + 8 * section as usize;
+        let shown = number_of(length);
         if !length.is_multiple_of(bytes) {
             let sentence = format!(
-                "the header: the length of {name} is {length}; expected a multiple of {bytes}"
+                "the header: the length of {name} is {shown}; expected a multiple of {bytes}"
             );
             return Some(place(at, sentence));
         }
         let (count, most) = (length / bytes, section.most());
         if count > most as u64 {
             let sentence = format!(
-                "the header: the length of {name} is {length}, {count} records; expected at most {most}"
+                "the header: the length of {name} is {shown}, {} records; expected at most {most}",
+                number_of(count)
             );
             return Some(place(at, sentence));
         }

@@ -60,16 +60,17 @@ pub fn correction(sections: &Sections<'_>, correction: &[u8]) -> Option<Place> {
             sentence,
         })
     };
-    let length = amounts::number(correction.len() as u64);
+    let length = amounts::bytes(correction.len());
     if !correction.len().is_multiple_of(bytes) {
         return whole(format!(
-            "the correction: its length is {length} bytes; expected a multiple of {bytes}"
+            "the correction: its length is {length}; expected a multiple of {bytes}"
         ));
     }
     let count = correction.len() / bytes;
     if count > most {
         return whole(format!(
-            "the correction: its length is {length} bytes, {count} records; expected at most {most}"
+            "the correction: its length is {length}, {} records; expected at most {most}",
+            amounts::number(count as u64)
         ));
     }
     in_references(Part::Correction, "correction", correction, sections)
