@@ -5,10 +5,10 @@ use mathlib.Core.List.{List, []}
 use mathlib.Core.Path.{_≡_, refl, sym, ap, ap₂, _∙_}
 use native.Mathlib.Nat.{add-sub-cancel-left}
 use native.Mathlib.Omega.{arith}
-use borrow.Author.Tests.{eqb-true, ne-eqb}
+use borrow.Author.Tests.{ltb-true, eqb-true, ne-eqb}
 use lib.Dec.{ltb, leb, eqb}
 use lib.ListN.{length, getD, take, drop, replicate}
-use Rattle.binary.specs.Bounded.{sumTo, maskTo}
+use Rattle.binary.specs.Bounded.{sumTo, maskTo, bitOf}
 use Rattle.binary.specs.Bytes.{byteAt, u16At, u32At}
 use Rattle.binary.specs.Lists.{Bytes, Holds}
 use Rattle.binary.proofs.Implies.{and-l, and-r}
@@ -23,9 +23,9 @@ use Rattle.casefile.specs.Lookup.{unitOf, groupOf, referenceOf}
 use Rattle.casefile.specs.Read.{cellOf}
 use Rattle.conduct.specs.declared.flags.Bid.{Bid}
 use Rattle.conduct.specs.Flags.{tight, together, sumTogether, timeBid, timeTotal, bidFlag, groupCapability, groupSum, withheldFlag, dispatchFlag, fuelFlag, flagged, flagMask}
-use Rattle.conduct.specs.Parties.{bidLevel}
-use Rattle.conduct.specs.Stages.{cellsIn, partyFigure, partySum, HasSums, HasRow, SmallRow, Below, capabilityOf, timeKey, keyedIncrease, cell, HasIncreases, SmallTable, withheldIn, dispatchIn, fuelIn, bidIn, timeTotalIn, totalRead, totalBefore, sameTotals, bidFlagIn, flaggedIn, flagMaskIn, Found}
-use Rattle.conduct.proofs.PartyLaws.{leader-le}
+use Rattle.conduct.specs.Parties.{leaderOf, bidLevel}
+use Rattle.conduct.specs.Stages.{cellsIn, partyFigure, partySum, HasSums, HasRow, SmallRow, Below, capabilityOf, listedCapability, timeKey, keyedIncrease, cell, HasIncreases, SmallTable, withheldIn, dispatchIn, fuelIn, fuelMaskIn, bidIn, timeTotalIn, totalRead, totalBefore, sameTotals, bidFlagIn, flaggedIn, flagMaskIn, Led}
+use Rattle.conduct.proofs.PartyLaws.{together-fields, any-together, leader-le, leader-together}
 use Rattle.conduct.proofs.StageLaws.{place-in}
 use Rattle.conduct.proofs.SumLaws.{cond-given, cell-amount, party-sum, party-sum-le, sum-amounts, sum-union, capability-is, zeros-at, increases-le, time-total}
 
@@ -42,7 +42,7 @@ party-sum-is : (u r p e : List ℕ) (i h : ℕ)
 unfolding partySum sumTogether caseIn eventsIn
 party-sum-is u r p e i h = refl
 
-module _ (u e places groups leaders levels : List ℕ) (f : Found u e places groups leaders levels) where
+module _ (u e places leaders levels : List ℕ) (f : Led u e places leaders levels) where
   pub leaders-below : Below (length e / 312) leaders
   leaders-below j l = let q = leader-le (caseIn u [] [] e) j in let t = f .led j l in omega arith
 
@@ -142,17 +142,17 @@ module _ (u e event unit cells : List ℕ) (i place : ℕ) (ee : event ≡ recor
   area-is : (x : ℕ) → x ≡ byteAt unit 4 → eqb x 1 ≡ eqb (caseIn u [] [] e .units .area (unitOf (caseIn u [] [] e) i)) 1
   area-is x q = ap (λ (k : ℕ). eqb k 1) (q ∙ ap (λ (r : List ℕ). byteAt r 4) unit-is ∙ area-of u e (unitOf (caseIn u [] [] e) i))
 
-  pub withheld-mask-is : (sums : List ℕ) (group p area capability G x : ℕ) → x ≡ maskTo 24 (withheldIn cells sums capability G (eqb area 1) p)
-      → p ≡ u32At event 12 → area ≡ byteAt unit 4 → capability ≡ u32At unit 8 → G ≡ capabilityOf (unitsIn u) group
-      → group ≡ groupOf (caseIn u [] [] e) i → HasRow (groupSum (caseIn u [] [] e) i) sums
+  pub withheld-mask-is : (sums : List ℕ) (p area capability G x : ℕ) → x ≡ maskTo 24 (withheldIn cells sums capability G (eqb area 1) p)
+      → p ≡ u32At event 12 → area ≡ byteAt unit 4 → capability ≡ u32At unit 8
+      → G ≡ groupCapability (caseIn u [] [] e) i → HasRow (groupSum (caseIn u [] [] e) i) sums
       → x ≡ maskTo 24 (withheldFlag (caseIn u [] [] e) i)
-  withheld-mask-is sums group p area capability G x ex ep ea ek eG eg row =
+  withheld-mask-is sums p area capability G x ex ep ea ek eG row =
       ex
       ∙ mask-same 24 _ _
       (λ h l.
       withheld-at (caseIn u [] [] e) cells sums i h capability G p (eqb area 1) (amount-is h)
       (ek ∙ ap (λ (r : List ℕ). u32At r 8) unit-is ∙ capability-of u e (unitOf (caseIn u [] [] e) i)) (row .each h l)
-      (eG ∙ ap (capabilityOf (unitsIn u)) eg ∙ group-capability-of u e i) (area-is area ea) (p-is p ep))
+      eG (area-is area ea) (p-is p ep))
 
   pub dispatch-mask-is : (sums : List ℕ) (p area rate x : ℕ) → x ≡ maskTo 24 (dispatchIn cells sums rate (eqb area 1) p)
       → p ≡ u32At event 12 → area ≡ byteAt unit 4 → rate ≡ u32At unit 12 → HasRow (groupSum (caseIn u [] [] e) i) sums
@@ -166,7 +166,7 @@ module _ (u e event unit cells : List ℕ) (i place : ℕ) (ee : event ≡ recor
 
 -- ---- fuel
 
-pub fuel-mask-is : (c : Case) (i x : ℕ) (row : List ℕ) → c .events .kind i ≡ 3 → HasRow (partySum c i) row → x ≡ maskTo 24 (fuelIn row)
+fuel-mask-is : (c : Case) (i x : ℕ) (row : List ℕ) → c .events .kind i ≡ 3 → HasRow (partySum c i) row → x ≡ maskTo 24 (fuelIn row)
     → x ≡ maskTo 24 (fuelFlag c i)
 unfolding fuelIn partySum sumTogether
 fuel-mask-is c i x row k r e = e ∙ mask-same 24 _ _ (λ h l. ap (ltb 0) (r .each h l) ∙ sum-union c i h k)
@@ -351,37 +351,87 @@ unfolding maskTo
 mask-zero zero p h = refl
 mask-zero (suc n) p h = rw (h n, mask-zero n p h)
 
+hours-are : (u e levels : List ℕ) (i : ℕ) → maskTo 24 (flaggedIn (caseIn u [] [] e) levels i) ≡ flagMaskIn (caseIn u [] [] e) levels i
+unfolding flagMaskIn caseIn eventsIn
+hours-are u e levels i = refl
+
+fuel-flags : (u e levels : List ℕ) (i : ℕ) → caseIn u [] [] e .events .kind i ≡ 3
+    → maskTo 24 (fuelFlag (caseIn u [] [] e) i) ≡ flagMaskIn (caseIn u [] [] e) levels i
+unfolding flaggedIn
+fuel-flags u e levels i q = sym (mask-same 24 _ _ (λ h l. rw q)) ∙ hours-are u e levels i
+
+-- the union of P is one for a party-day
+fuel-together : (c : Case) (i l : ℕ) → together c i l ≡ true → maskTo 24 (fuelFlag c l) ≡ maskTo 24 (fuelFlag c i)
+unfolding fuelFlag
+fuel-together c i l t = mask-same 24 _ _ (λ h b. any-together c i l (λ j. bitOf (c .events .P j) h) t)
+
+module _ (u e levels row masks : List ℕ) (i leader : ℕ) (k : caseIn u [] [] e .events .kind i ≡ 3) (el : leader ≡ leaderOf (caseIn u [] [] e) i)
+    (r : HasRow (partySum (caseIn u [] [] e) i) row) (held : Holds i masks (flagMaskIn (caseIn u [] [] e) levels)) where
+  leader-flags : flagMaskIn (caseIn u [] [] e) levels (leaderOf (caseIn u [] [] e) i) ≡ flagMaskIn (caseIn u [] [] e) levels i
+  leader-flags =
+      let t = leader-together (caseIn u [] [] e) i in
+      sym (fuel-flags u e levels (leaderOf (caseIn u [] [] e) i) (together-fields (caseIn u [] [] e) i (leaderOf (caseIn u [] [] e) i) t .kind ∙ k))
+      ∙ fuel-together (caseIn u [] [] e) i (leaderOf (caseIn u [] [] e) i) t
+      ∙ fuel-flags u e levels i k
+
+  pub fuel-event-is : (x : ℕ) → x ≡ fuelMaskIn row masks leader i → x ≡ flagMaskIn (caseIn u [] [] e) levels i
+  unfolding fuelMaskIn
+  fuel-event-is x q = q ∙ pick (ltb leader i) refl
+    where
+      pick : (b : Bool) → ltb leader i ≡ b → cond b (getD masks leader 0) (maskTo 24 (fuelIn row)) ≡ flagMaskIn (caseIn u [] [] e) levels i
+      pick true t = held leader (ltb-true leader i t) ∙ ap (flagMaskIn (caseIn u [] [] e) levels) el ∙ leader-flags
+      pick false t = fuel-mask-is (caseIn u [] [] e) i (maskTo 24 (fuelIn row)) row k r refl ∙ fuel-flags u e levels i k
+
 module _ (u e event levels : List ℕ) (i kind : ℕ) (ee : event ≡ recordAt 312 e i) (ek : kind ≡ byteAt event 0) where
   pub kind-is : caseIn u [] [] e .events .kind i ≡ kind
   unfolding caseIn eventsIn
   kind-is = sym (ek ∙ ap (λ (r : List ℕ). byteAt r 0) ee)
 
-  hours-are : maskTo 24 (flaggedIn (caseIn u [] [] e) levels i) ≡ flagMaskIn (caseIn u [] [] e) levels i
-  unfolding flagMaskIn caseIn eventsIn
-  hours-are = refl
-
   pub mask-1 : (x : ℕ) → kind ≡ 1 → x ≡ maskTo 24 (withheldFlag (caseIn u [] [] e) i) → x ≡ flagMaskIn (caseIn u [] [] e) levels i
   unfolding flaggedIn
-  mask-1 x q r = r ∙ sym (mask-same 24 _ _ (λ h l. rw (kind-is ∙ q))) ∙ hours-are
+  mask-1 x q r = r ∙ sym (mask-same 24 _ _ (λ h l. rw (kind-is ∙ q))) ∙ hours-are u e levels i
 
   pub mask-2 : (x : ℕ) → kind ≡ 2 → x ≡ maskTo 24 (dispatchFlag (caseIn u [] [] e) i) → x ≡ flagMaskIn (caseIn u [] [] e) levels i
   unfolding flaggedIn
-  mask-2 x q r = r ∙ sym (mask-same 24 _ _ (λ h l. rw (kind-is ∙ q))) ∙ hours-are
-
-  pub mask-3 : (x : ℕ) → kind ≡ 3 → x ≡ maskTo 24 (fuelFlag (caseIn u [] [] e) i) → x ≡ flagMaskIn (caseIn u [] [] e) levels i
-  unfolding flaggedIn
-  mask-3 x q r = r ∙ sym (mask-same 24 _ _ (λ h l. rw (kind-is ∙ q))) ∙ hours-are
+  mask-2 x q r = r ∙ sym (mask-same 24 _ _ (λ h l. rw (kind-is ∙ q))) ∙ hours-are u e levels i
 
   pub mask-4 : (x : ℕ) → kind ≡ 4 → x ≡ maskTo 24 (bidFlagIn (caseIn u [] [] e) levels i) → x ≡ flagMaskIn (caseIn u [] [] e) levels i
   unfolding flaggedIn
-  mask-4 x q r = r ∙ sym (mask-same 24 _ _ (λ h l. rw (kind-is ∙ q))) ∙ hours-are
+  mask-4 x q r = r ∙ sym (mask-same 24 _ _ (λ h l. rw (kind-is ∙ q))) ∙ hours-are u e levels i
 
   none : (kind ≡ 1 → ⊥) → (kind ≡ 2 → ⊥) → (kind ≡ 3 → ⊥) → (kind ≡ 4 → ⊥) → (h : ℕ) → flaggedIn (caseIn u [] [] e) levels i h ≡ false
   unfolding flaggedIn
   none n1 n2 n3 n4 h = rw (kind-is, ne-eqb kind 1 n1, ne-eqb kind 2 n2, ne-eqb kind 3 n3, ne-eqb kind 4 n4)
 
   pub mask-0 : (kind ≡ 1 → ⊥) → (kind ≡ 2 → ⊥) → (kind ≡ 3 → ⊥) → (kind ≡ 4 → ⊥) → 0 ≡ flagMaskIn (caseIn u [] [] e) levels i
-  mask-0 n1 n2 n3 n4 = sym (mask-zero 24 (flaggedIn (caseIn u [] [] e) levels i) (none n1 n2 n3 n4)) ∙ hours-are
+  mask-0 n1 n2 n3 n4 = sym (mask-zero 24 (flaggedIn (caseIn u [] [] e) levels i) (none n1 n2 n3 n4)) ∙ hours-are u e levels i
+
+-- ---- G of each withheld event
+
+capability-together : (c : Case) (i l : ℕ) → together c i l ≡ true → listedCapability c l ≡ listedCapability c i
+unfolding listedCapability
+capability-together c i l t =
+    let s = together-fields c i l t in
+    ap₂ (λ (k g : ℕ). cond (eqb k 1) g 0) (s .kind)
+    (sym (capability-is c l) ∙ ap (capabilityOf (c .units)) (s .group) ∙ capability-is c i)
+
+pub capability-read : (c : Case) (capabilities : List ℕ) (i leader : ℕ) → Holds i capabilities (listedCapability c) → leader ≡ leaderOf c i
+    → leader < i → getD capabilities leader 0 ≡ listedCapability c i
+capability-read c capabilities i leader held el l =
+    held leader l ∙ ap (listedCapability c) el ∙ capability-together c i (leaderOf c i) (leader-together c i)
+
+module _ (u e event : List ℕ) (i kind : ℕ) (ee : event ≡ recordAt 312 e i) (ek : kind ≡ byteAt event 0) where
+  pub capability-none : (kind ≡ 1 → ⊥) → 0 ≡ listedCapability (caseIn u [] [] e) i
+  unfolding listedCapability
+  capability-none n = rw (kind-is u e event [] i kind ee ek, ne-eqb kind 1 n)
+
+  pub capability-withheld : kind ≡ 1 → listedCapability (caseIn u [] [] e) i ≡ groupCapability (caseIn u [] [] e) i
+  unfolding listedCapability
+  capability-withheld q = rw (kind-is u e event [] i kind ee ek ∙ q)
+
+  pub capability-found : (group x : ℕ) → kind ≡ 1 → group ≡ groupOf (caseIn u [] [] e) i → x ≡ capabilityOf (unitsIn u) group
+      → x ≡ listedCapability (caseIn u [] [] e) i
+  capability-found group x q eg ex = ex ∙ ap (capabilityOf (unitsIn u)) eg ∙ group-capability-of u e i ∙ sym (capability-withheld q)
 
 -- ---- with the references in place of the levels
 

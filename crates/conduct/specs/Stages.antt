@@ -15,7 +15,7 @@ use Rattle.casefile.specs.Lookup.{unitOf, groupOf}
 use Rattle.casefile.specs.Refusal.{eventsListed}
 use Rattle.casefile.specs.Read.{cellOf}
 use Rattle.conduct.specs.declared.flags.Bid.{Bid}
-use Rattle.conduct.specs.Flags.{tight, sumTogether, timeBid, withheldFlag, dispatchFlag, fuelFlag}
+use Rattle.conduct.specs.Flags.{tight, sumTogether, timeBid, groupCapability, withheldFlag, dispatchFlag, fuelFlag}
 use Rattle.conduct.specs.Parties.{leaderOf}
 
 -- ---- keys and leaders
@@ -85,6 +85,10 @@ capabilityShare units group u = cond (eqb (units .group u) group) (units .capabi
 unfoldable pub capabilityOf : Units → (group : ℕ) → ℕ
 capabilityOf units group = sumTo (units .count) (capabilityShare units group)
 
+-- G of a withheld event; the other kinds read none
+unfoldable pub listedCapability : Case → ℕ → ℕ
+listedCapability c i = cond (eqb (c .events .kind i) 1) (groupCapability c i) 0
+
 -- ---- time increases
 
 -- the component of a bid on a time component, else 0
@@ -124,6 +128,10 @@ dispatchIn cells sums rate constrained P h = dispatchTest (cellOf cells h .a) ra
 
 unfoldable pub fuelIn : (sums : List ℕ) → ℕ → Bool
 fuelIn sums h = ltb 0 (getD sums h 0)
+
+-- the leader's flagged hours where the leader is an earlier event, else those of the sums
+unfoldable pub fuelMaskIn : (sums masks : List ℕ) → (leader i : ℕ) → ℕ
+fuelMaskIn sums masks leader i = cond (ltb leader i) (getD masks leader 0) (maskTo 24 (fuelIn sums))
 
 unfoldable pub bidIn : (cells totals : List ℕ) → Bid → (h : ℕ) → Bool
 bidIn cells totals bid h =
@@ -167,14 +175,19 @@ flagMaskIn c levels i = maskTo (c .events .hours i) (flaggedIn c levels i)
 
 -- ---- what the flags are found from
 
-pub record Found (units events places groups leaders levels : List ℕ) : Type 0 where
-  pub short : length units ≤ 65000
+-- the place of each event's unit and the leader of its party, and room for its level
+pub record Led (units events places leaders levels : List ℕ) : Type 0 where
   pub few : length events / 312 ≤ 200
   pub listed : eventsListed (unitsIn units) (eventsIn events) ≡ true
   pub places-reach : length events / 312 ≤ length places
-  pub groups-reach : length events / 312 ≤ length groups
   pub leaders-reach : length events / 312 ≤ length leaders
   pub levels-reach : length events / 312 ≤ length levels
   pub placed : Holds (length events / 312) places (unitOf (caseIn units [] [] events))
-  pub grouped : Holds (length events / 312) groups (groupOf (caseIn units [] [] events))
   pub led : Holds (length events / 312) leaders (leaderOf (caseIn units [] [] events))
+
+-- the same with the groups, from which G is found
+pub record Found (units events places groups leaders levels : List ℕ) : Type 0 where
+  pub base : Led units events places leaders levels
+  pub short : length units ≤ 65000
+  pub groups-reach : length events / 312 ≤ length groups
+  pub grouped : Holds (length events / 312) groups (groupOf (caseIn units [] [] events))

@@ -9,14 +9,14 @@ ghost use Rattle.binary.specs.Lists.{listTo, Holds};
 ghost use Rattle.casefile.specs.Decode.{unitsIn, referencesIn, eventsIn, caseIn};
 ghost use Rattle.casefile.specs.Lookup.{unitOf, groupOf, UnitsInOrder, InOrder};
 ghost use Rattle.casefile.specs.Refusal.{eventsListed};
-ghost use Rattle.conduct.specs.Flags.{groupSum, withheldFlag, dispatchFlag, flagMask};
+ghost use Rattle.conduct.specs.Flags.{groupCapability, groupSum, withheldFlag, dispatchFlag, flagMask};
 ghost use Rattle.conduct.specs.Parties.{partyKey, leaderOf, bidLevel, levelsFound};
-ghost use Rattle.conduct.specs.Stages.{Zeros, HasSums, HasRow, SmallRow, timeKey, withheldIn, dispatchIn, fuelIn, bidIn, sameTotals, totalRead, totalBefore, bidFlagIn, flagMaskIn, Found};
+ghost use Rattle.conduct.specs.Stages.{Zeros, HasSums, HasRow, SmallRow, timeKey, listedCapability, withheldIn, dispatchIn, fuelIn, fuelMaskIn, bidIn, sameTotals, totalRead, totalBefore, bidFlagIn, flagMaskIn, Led, Found};
 use crate::parties::find_parties;
 use crate::parties::reference_levels;
 use crate::sums::cells_of;
-use crate::sums::group_capability;
 use crate::sums::hour_totals;
+use crate::sums::listed_capabilities;
 use crate::sums::party_sums;
 use crate::sums::time_increases;
 use crate::sums::time_keys;
@@ -85,17 +85,10 @@ fn withheld_mask(
     mask
 }
 
-// The flagged hours of a withheld event; sums are S of its party.
-fn withheld_event(
-    units: &[u8],
-    events: &[u8],
-    place: usize,
-    group: u16,
-    sums: &[u64],
-    i: usize,
-) -> u32
-    requires { ⌜ (i < length (now events) / 312) × (place < length (now units) / 24) × (length (now units) ≤ 65000) × (length (now sums) ≡ 24) ⌝ }
-    requires { ⌜ (place ≡ unitOf (caseIn (now units) [] [] (now events)) i) × (group ≡ groupOf (caseIn (now units) [] [] (now events)) i) ⌝ }
+// The flagged hours of a withheld event; g is the listed capability of its group and sums are S of its party.
+fn withheld_event(units: &[u8], events: &[u8], place: usize, g: u64, sums: &[u64], i: usize) -> u32
+    requires { ⌜ (i < length (now events) / 312) × (place < length (now units) / 24) × (length (now sums) ≡ 24) ⌝ }
+    requires { ⌜ (place ≡ unitOf (caseIn (now units) [] [] (now events)) i) × (g ≡ groupCapability (caseIn (now units) [] [] (now events)) i) ⌝ }
     requires { ⌜ SmallRow (now sums) ⌝ }
     requires { ⌜ HasRow (groupSum (caseIn (now units) [] [] (now events)) i) (now sums) ⌝ }
     ensures { λ r. ⌜ r ≡ maskTo 24 (withheldFlag (caseIn (now (units .entry)) [] [] (now (events .entry))) i) ⌝ }
@@ -105,7 +98,6 @@ fn withheld_event(
     let unit = record_at(units, place, layout::UNIT_WIDTH);
     let area = load_u8(unit, 4);
     let capability = load_u32(unit, 8);
-    let g = group_capability(units, group);
     withheld_mask(cells_of(events, i), sums, capability, g, area == 1, p)
 }
 
@@ -164,6 +156,17 @@ fn fuel_mask(sums: &[u64]) -> u32
         h += 1;
     }
     mask
+}
+
+// The flagged hours of a fuel event: its leader's where that is an earlier event, else found from sums, those of its party.
+fn fuel_event(sums: &[u64], masks: &[u32], leader: usize, i: usize) -> u32
+    requires { ⌜ (length (now sums) ≡ 24) × (i ≤ length (now masks)) ⌝ }
+    ensures { λ r. ⌜ r ≡ fuelMaskIn (now (sums .entry)) (now (masks .entry)) leader i ⌝ }
+{
+    if leader < i {
+        return masks[leader];
+    }
+    fuel_mask(sums)
 }
 
 // Whether the event before i has a time component too, and the same unit, day and market: its time totals are event i's.
@@ -274,22 +277,25 @@ fn bid_event(
     bid_mask(cells_of(events, i), totals, bid)
 }
 
-// The flagged hours of event i, by its kind.
+// The flagged hours of event i, by its kind; masks are those of the events before it.
 fn event_mask(
     units: &[u8],
     events: &[u8],
     places: &[usize],
-    groups: &[u16],
     leaders: &[usize],
     levels: &[u32],
     sums: &[u64],
+    capabilities: &[u64],
     totals: &[u64],
+    masks: &[u32],
     i: usize,
 ) -> u32
-    requires { ⌜ Found (now units) (now events) (now places) (now groups) (now leaders) (now levels) ⌝ }
+    requires { ⌜ Led (now units) (now events) (now places) (now leaders) (now levels) ⌝ }
     requires { ⌜ HasSums (caseIn [] [] [] (now events)) (now leaders) (length (now events) / 312) (length (now events) / 312) (now sums) ⌝ }
-    requires { ⌜ (24 * (length (now events) / 312) ≤ length (now sums)) × (length (now totals) ≡ 24) × (i < length (now events) / 312) ⌝ }
+    requires { ⌜ (24 * (length (now events) / 312) ≤ length (now sums)) × (length (now totals) ≡ 24) × (i < length (now events) / 312) × (length (now events) / 312 ≤ length (now capabilities)) × (i ≤ length (now masks)) ⌝ }
     requires { ⌜ HasRow (totalRead (caseIn [] [] [] (now events)) (now levels) i) (now totals) ⌝ }
+    requires { ⌜ Holds (length (now events) / 312) (now capabilities) (listedCapability (caseIn (now units) [] [] (now events))) ⌝ }
+    requires { ⌜ Holds i (now masks) (flagMaskIn (caseIn (now units) [] [] (now events)) (now levels)) ⌝ }
     ensures { λ r. ⌜ r ≡ flagMaskIn (caseIn (now (units .entry)) [] [] (now (events .entry))) (now (levels .entry)) i ⌝ }
 {
     let kind = load_u8(record_at(events, i, layout::EVENT_WIDTH), 0);
@@ -297,17 +303,18 @@ fn event_mask(
     if kind == 4 {
         return bid_event(units, events, levels, totals, place, i);
     }
-    let at = layout::HOURS * leaders[i];
+    let leader = leaders[i];
+    let at = layout::HOURS * leader;
     let end = at + layout::HOURS;
     let row = &sums[at..end];
     if kind == 1 {
-        return withheld_event(units, events, place, groups[i], row, i);
+        return withheld_event(units, events, place, capabilities[i], row, i);
     }
     if kind == 2 {
         return dispatch_event(units, events, place, row, i);
     }
     if kind == 3 {
-        return fuel_mask(row);
+        return fuel_event(row, masks, leader, i);
     }
     0
 }
@@ -316,17 +323,18 @@ fn event_masks(
     units: &[u8],
     events: &[u8],
     places: &[usize],
-    groups: &[u16],
     leaders: &[usize],
     levels: &[u32],
     sums: &[u64],
+    capabilities: &[u64],
     keys: &[u64],
     masks: &mut [u32],
 )
-    requires { ⌜ Found (now units) (now events) (now places) (now groups) (now leaders) (now levels) ⌝ }
+    requires { ⌜ Led (now units) (now events) (now places) (now leaders) (now levels) ⌝ }
     requires { ⌜ HasSums (caseIn [] [] [] (now events)) (now leaders) (length (now events) / 312) (length (now events) / 312) (now sums) ⌝ }
-    requires { ⌜ (24 * (length (now events) / 312) ≤ length (now sums)) × (length (now events) / 312 ≤ length (now keys)) × (length (now events) / 312 ≤ length (now masks)) ⌝ }
+    requires { ⌜ (24 * (length (now events) / 312) ≤ length (now sums)) × (length (now events) / 312 ≤ length (now capabilities)) × (length (now events) / 312 ≤ length (now keys)) × (length (now events) / 312 ≤ length (now masks)) ⌝ }
     requires { ⌜ Holds (length (now events) / 312) (now keys) (timeKey (eventsIn (now events))) ⌝ }
+    requires { ⌜ Holds (length (now events) / 312) (now capabilities) (listedCapability (caseIn (now units) [] [] (now events))) ⌝ }
     ensures { λ _. ⌜ now (masks .exit) ≡ listTo (length (now (events .entry)) / 312) (flagMaskIn (caseIn (now (units .entry)) [] [] (now (events .entry))) (now (levels .entry))) ++ drop (length (now (events .entry)) / 312) (now (masks .entry)) ⌝ }
 {
     let n = events.len() / layout::EVENT_WIDTH;
@@ -338,18 +346,19 @@ fn event_masks(
             units,
             events,
             places,
-            groups,
             leaders,
             levels,
             sums,
+            capabilities,
             &totals,
+            masks,
             i,
         );
         i += 1;
     }
 }
 
-// The flagged hours of every event, with tables of zeros for the sums and the time keys.
+// The flagged hours of every event, with tables of zeros for the sums, the capabilities and the time keys.
 fn fill_masks(
     units: &[u8],
     events: &[u8],
@@ -358,24 +367,26 @@ fn fill_masks(
     leaders: &[usize],
     levels: &[u32],
     sums: &mut [u64],
+    capabilities: &mut [u64],
     keys: &mut [u64],
     masks: &mut [u32],
 )
     requires { ⌜ Found (now units) (now events) (now places) (now groups) (now leaders) (now levels) ⌝ }
-    requires { ⌜ (24 * (length (now events) / 312) ≤ length (now sums)) × (length (now events) / 312 ≤ length (now keys)) × (length (now events) / 312 ≤ length (now masks)) ⌝ }
+    requires { ⌜ (24 * (length (now events) / 312) ≤ length (now sums)) × (length (now events) / 312 ≤ length (now capabilities)) × (length (now events) / 312 ≤ length (now keys)) × (length (now events) / 312 ≤ length (now masks)) ⌝ }
     requires { ⌜ Zeros (now sums) ⌝ }
     ensures { λ _. ⌜ now (masks .exit) ≡ listTo (length (now (events .entry)) / 312) (flagMaskIn (caseIn (now (units .entry)) [] [] (now (events .entry))) (now (levels .entry))) ++ drop (length (now (events .entry)) / 312) (now (masks .entry)) ⌝ }
 {
     party_sums(events, leaders, sums);
+    listed_capabilities(units, events, groups, leaders, capabilities);
     time_keys(events, keys);
     event_masks(
         units,
         events,
         places,
-        groups,
         leaders,
         levels,
         sums,
+        capabilities,
         keys,
         masks,
     );
@@ -396,6 +407,7 @@ fn small_case_masks(
     ensures { λ _. ⌜ now (masks .exit) ≡ listTo (length (now (events .entry)) / 312) (flagMaskIn (caseIn (now (units .entry)) [] [] (now (events .entry))) (now (levels .entry))) ++ drop (length (now (events .entry)) / 312) (now (masks .entry)) ⌝ }
 {
     let mut sums = [0u64; 192];
+    let mut capabilities = [0u64; 8];
     let mut keys = [0u64; 8];
     fill_masks(
         units,
@@ -405,6 +417,7 @@ fn small_case_masks(
         leaders,
         levels,
         &mut sums,
+        &mut capabilities,
         &mut keys,
         masks,
     );
@@ -429,6 +442,7 @@ fn flag_masks(
         return;
     }
     let mut sums = [0u64; 4800];
+    let mut capabilities = [0u64; 200];
     let mut keys = [0u64; 200];
     fill_masks(
         units,
@@ -438,6 +452,7 @@ fn flag_masks(
         leaders,
         levels,
         &mut sums,
+        &mut capabilities,
         &mut keys,
         masks,
     );

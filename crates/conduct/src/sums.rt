@@ -4,12 +4,14 @@ ghost use mathlib.Core.List.{[]};
 ghost use mathlib.Core.Path.{_≡_};
 ghost use Prim.Native.Nat.{ℕ, _+_, _*_, _/_, _≤_, _<_};
 ghost use lib.Dec.{eqb};
-ghost use lib.ListN.{length};
+ghost use lib.ListN.{length, getD};
 ghost use Rattle.binary.specs.Bounded.{bitOf};
 ghost use Rattle.binary.specs.Lists.{Holds};
 ghost use Rattle.casefile.specs.Decode.{unitsIn, eventsIn, amountsIn, caseIn};
+ghost use Rattle.casefile.specs.Lookup.{groupOf};
 ghost use Rattle.casefile.specs.Read.{cellOf};
-ghost use Rattle.conduct.specs.Stages.{cellsIn, Small, Zeros, Added, partyFigure, HasSums, HasRow, Below, capabilityShare, capabilityOf, timeComponent, timeKey, countedIncrease, keyedIncrease, cell, HasIncreases, SmallTable};
+ghost use Rattle.conduct.specs.Parties.{leaderOf};
+ghost use Rattle.conduct.specs.Stages.{cellsIn, Small, Zeros, Added, partyFigure, HasSums, HasRow, Below, capabilityShare, capabilityOf, listedCapability, timeComponent, timeKey, countedIncrease, keyedIncrease, cell, HasIncreases, SmallTable};
 use crate::parties::pack;
 use binary::bytes::load_u8;
 use binary::bytes::load_u16;
@@ -99,6 +101,53 @@ pub fn group_capability(units: &[u8], group: u16) -> u64
         u += 1;
     }
     sum
+}
+
+// G of event i where its kind is 1, else 0; where its leader is an earlier event the leader's is read.
+fn listed_capability(
+    units: &[u8],
+    events: &[u8],
+    groups: &[u16],
+    leaders: &[usize],
+    capabilities: &[u64],
+    i: usize,
+) -> u64
+    requires { ⌜ (i < length (now events) / 312) × (length (now units) ≤ 65000) × (i < length (now groups)) × (i < length (now leaders)) × (i ≤ length (now capabilities)) ⌝ }
+    requires { ⌜ getD (now groups) i 0 ≡ groupOf (caseIn (now units) [] [] (now events)) i ⌝ }
+    requires { ⌜ getD (now leaders) i 0 ≡ leaderOf (caseIn (now units) [] [] (now events)) i ⌝ }
+    requires { ⌜ Holds i (now capabilities) (listedCapability (caseIn (now units) [] [] (now events))) ⌝ }
+    ensures { λ r. ⌜ r ≡ listedCapability (caseIn (now (units .entry)) [] [] (now (events .entry))) i ⌝ }
+{
+    let kind = load_u8(record_at(events, i, layout::EVENT_WIDTH), 0);
+    if kind != 1 {
+        return 0;
+    }
+    let leader = leaders[i];
+    if leader < i {
+        return capabilities[leader];
+    }
+    group_capability(units, groups[i])
+}
+
+// G of every event of kind 1, found once for a party-day.
+pub fn listed_capabilities(
+    units: &[u8],
+    events: &[u8],
+    groups: &[u16],
+    leaders: &[usize],
+    capabilities: &mut [u64],
+)
+    requires { ⌜ (length (now units) ≤ 65000) × (length (now events) / 312 ≤ length (now groups)) × (length (now events) / 312 ≤ length (now leaders)) × (length (now events) / 312 ≤ length (now capabilities)) ⌝ }
+    requires { ⌜ Holds (length (now events) / 312) (now groups) (groupOf (caseIn (now units) [] [] (now events))) ⌝ }
+    requires { ⌜ Holds (length (now events) / 312) (now leaders) (leaderOf (caseIn (now units) [] [] (now events))) ⌝ }
+    ensures { λ _. ⌜ Holds (length (now (events .entry)) / 312) (now (capabilities .exit)) (listedCapability (caseIn (now (units .entry)) [] [] (now (events .entry)))) ⌝ }
+{
+    let n = events.len() / layout::EVENT_WIDTH;
+    let mut i = 0;
+    while i < n {
+        capabilities[i] = listed_capability(units, events, groups, leaders, capabilities, i);
+        i += 1;
+    }
 }
 
 // The component of a bid on a time component, else 0.

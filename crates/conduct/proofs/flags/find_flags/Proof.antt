@@ -23,16 +23,18 @@ find-flags-spec =
     let p = c .before .before .before .before .before .before .before .before .before .before .before .before .before .before .before .before .before in
     let start = p .before .before .before .before .before .before .before .before .before .before .before .before .before .before in (
       record {
+        base = record {
+          few = start .pre .1 .1 .0 .1;
+          listed = start .pre .0 .1;
+          places-reach = omega arith;
+          leaders-reach = omega arith;
+          levels-reach = omega arith;
+          placed = holds-fill _ _ _ _ (p .find-parties .ensures .0);
+          led = holds-fill _ _ _ _ (p .find-parties .ensures .1 .1 .1);
+        };
         short = start .pre .1 .1 .0 .0;
-        few = start .pre .1 .1 .0 .1;
-        listed = start .pre .0 .1;
-        places-reach = omega arith;
         groups-reach = omega arith;
-        leaders-reach = omega arith;
-        levels-reach = omega arith;
-        placed = holds-fill _ _ _ _ (p .find-parties .ensures .0);
         grouped = holds-fill _ _ _ _ (p .find-parties .ensures .1 .0);
-        led = holds-fill _ _ _ _ (p .find-parties .ensures .1 .1 .1);
       },
       omega arith,
     ))

@@ -13,9 +13,10 @@ flag-masks-spec =
     (λ c. c .before .before .small-case-masks .ensures)
     (λ c. search needs)
     (λ c. search needs)
-    (λ c κs.
-    let p = c .before .before .before .before .before .before .before .before .before .before .before .pre in
-    let few = p .0 .few in
-    (p .0, ((omega arith, omega arith, p .1), zeros-at 4800)))
     (λ c. search needs)
-    (λ c. c .before .before .before .before .fill-masks .ensures))
+    (λ c κs.
+    let p = c .before .before .before .before .before .before .before .before .before .before .before .before .pre in
+    let few = p .0 .base .few in
+    (p .0, ((omega arith, omega arith, omega arith, p .1), zeros-at 4800)))
+    (λ c. search needs)
+    (λ c. c .before .before .before .before .before .fill-masks .ensures))

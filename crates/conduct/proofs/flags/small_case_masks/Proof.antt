@@ -10,9 +10,10 @@ small-case-masks-spec =
     (tie.spec
     (λ c. search needs)
     (λ c. search needs)
-    (λ c κs.
-    let p = c .before .before .before .before .before .before .before .before .before .before .pre in
-    let few = p .1 .0 in
-    (p .0, ((omega arith, omega arith, p .1 .1), zeros-at 192)))
     (λ c. search needs)
-    (λ c. c .before .before .before .before .fill-masks .ensures))
+    (λ c κs.
+    let p = c .before .before .before .before .before .before .before .before .before .before .before .pre in
+    let few = p .1 .0 in
+    (p .0, ((omega arith, omega arith, omega arith, p .1 .1), zeros-at 192)))
+    (λ c. search needs)
+    (λ c. c .before .before .before .before .before .fill-masks .ensures))
