@@ -1,5 +1,5 @@
 // The runs of which specs/Demands speaks are those of the call: one run, and the runs before and after a list of changes.
-ghost use Rattle.worse_conduct.specs.Demands.{Run, WorseOfTwo};
+ghost use Rattle.worse_conduct.specs.Demands.{Run, Demand1, Demand2, WorseOfTwo};
 use settlement::settle::Settlement;
 use settlement::settle::settle;
 
@@ -8,9 +8,11 @@ pub struct Answers {
     pub after: Settlement,
 }
 
-// One case settled is a run of the demands.
+// One case settled is a run of the demands, and meets the first two.
 pub fn settled_once<'a>(file: &'a [u8], correction: &'a [u8], rows: &mut [u8]) -> Settlement
     ensures { λ r. ⌜ Run (now (file .entry)) (now (correction .entry)) (now (rows .entry)) r (now (rows .exit)) ⌝ }
+    ensures { λ r. ⌜ Demand1 (now (file .entry)) (now (correction .entry)) (now (rows .entry)) r (now (rows .exit)) ⌝ }
+    ensures { λ r. ⌜ Demand2 (now (file .entry)) (now (correction .entry)) (now (rows .entry)) r (now (rows .exit)) ⌝ }
 {
     settle(file, correction, rows)
 }

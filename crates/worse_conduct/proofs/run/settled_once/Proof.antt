@@ -1,4 +1,6 @@
 use borrow.Author.Needs.{needs}
+use Rattle.worse_conduct.specs.Demands.{Run}
+use Rattle.worse_conduct.proofs.Demands.{demand-1, demand-2}
 use Rattle.worse_conduct.proofs.run.settled_once.Statement.{statement}
 use Rattle.worse_conduct.proofs.run.settled_once.Tie as tie
 
@@ -8,4 +10,9 @@ settled-once-spec =
     (tie.spec
     (λ c κs. tt)
     (λ c. search needs)
-    (λ c. let s = c .before .before .settle .ensures in record { answered = s .0; told = s .1 .0; left = s .1 .1 }))
+    (λ c.
+    let s = c .before .before .settle .ensures in
+    let a = c .before .before .before .before .before .before .before .args in
+    let run : Run (a .file .now) (a .correction .now) (a .rows .now) (c .before .before .settle .result) _ =
+    record { answered = s .0; told = s .1 .0; left = s .1 .1 } in
+    (run, (demand-1 _ _ _ _ _ run, demand-2 _ _ _ _ _ run))))

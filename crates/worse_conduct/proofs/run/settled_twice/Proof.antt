@@ -12,4 +12,4 @@ settled-twice-spec =
     (λ c. search needs)
     (λ c. search needs)
     (λ c.
-    worse-of-two _ _ _ _ _ _ _ _ _ (c .before .before .before .before .before .before .settled-once .ensures) (c .before .before .settled-once2 .ensures)))
+    worse-of-two _ _ _ _ _ _ _ _ _ (c .before .before .before .before .before .before .settled-once .ensures .0) (c .before .before .settled-once2 .ensures .0)))
