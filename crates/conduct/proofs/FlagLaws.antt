@@ -446,10 +446,6 @@ module _ (u r e levels : List ℕ) (t : Holds (length e / 312) levels (bidLevel 
       let q : eqb (caseIn u r [] e .events .kind j) 4 ≡ true = search (and-l, and-r) depth 8 in
       eqb-true _ _ q
 
-  total-same : (i h : ℕ) → timeTotalIn (caseIn u [] [] e) levels i h ≡ timeTotalIn (caseIn u r [] e) levels i h
-  unfolding timeTotalIn timeBid caseIn
-  total-same i h = refl
-
   count-of : caseIn u r [] e .events .count ≡ length e / 312
   unfolding caseIn eventsIn
   count-of = refl

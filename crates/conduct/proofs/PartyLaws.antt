@@ -1,7 +1,7 @@
--- Events together: an equivalence, told by one key, with a leader; what is summed or sought over the events together with an event
--- is the same for its leader.
+-- Events together: an equivalence, told by one key, with a leader; what is sought over the events together with an event is the
+-- same for its leader.
 use Prim.Native.Nat.{ℕ, zero, suc, _+_, _*_, _^_, _≤_, _<_, zero-le}
-use mathlib.Core.Bool.{Bool, true, false, cond, _&&_}
+use mathlib.Core.Bool.{Bool, true, false, _&&_}
 use mathlib.Core.List.{List}
 use mathlib.Core.Path.{_≡_, refl, sym, ap, _∙_}
 use native.Mathlib.Nat.{zero-add, pow-suc}
@@ -12,27 +12,16 @@ use lib.ListN.{getD}
 use Rattle.binary.specs.Bounded.{anyTo}
 use Rattle.binary.specs.Bytes.{byteAt, valueAt}
 use Rattle.binary.specs.Lists.{Bytes, Holds}
-use Rattle.binary.proofs.Implies.{and-l, and-r}
-use Rattle.binary.proofs.BoundedLaws.{sum-same, any-same}
+use Rattle.binary.proofs.Implies.{and-l, and-r, same-test}
+use Rattle.binary.proofs.BoundedLaws.{any-same}
 use Rattle.binary.proofs.ByteLaws.{stretch-byte}
 use Rattle.binary.proofs.ListLaws.{from-le, from-holds, from-passed}
 use Rattle.casefile.specs.Case.{Case}
 use Rattle.casefile.specs.Decode.{recordAt, unitsIn, eventsIn, caseIn}
 use Rattle.casefile.specs.Lookup.{unitOf, groupOf}
 use Rattle.casefile.proofs.RecordLaws.{value-record}
-use Rattle.conduct.specs.Flags.{together, sumTogether}
+use Rattle.conduct.specs.Flags.{together}
 use Rattle.conduct.specs.Parties.{partyKey, leaderOf}
-
--- ---- tests
-
--- two tests that follow from each other are one
-pub same-test : (a b : Bool) → (a ≡ true → b ≡ true) → (b ≡ true → a ≡ true) → a ≡ b
-same-test true b f g = sym (f refl)
-same-test false true f g = g refl
-same-test false false f g = refl
-
-pub eqb-same : (x : ℕ) → eqb x x ≡ true
-eqb-same x = eq-eqb x x refl
 
 -- ---- the events together with an event
 
@@ -79,11 +68,6 @@ together-same c i l j h =
 pub together-trans : (c : Case) (i l j : ℕ) → together c i l ≡ true → together c l j ≡ true → together c i j ≡ true
 together-trans c i l j h k = sym (together-same c i l j h) ∙ k
 
-pub sum-together : (c : Case) (i l : ℕ) (f : ℕ → ℕ) → together c i l ≡ true → sumTogether c l f ≡ sumTogether c i f
-unfolding sumTogether
-sum-together c i l f h =
-    sum-same (c .events .count) _ _ (λ j q. ap (λ (t : Bool). cond t (f j) 0) (together-same c i l j h))
-
 pub any-together : (c : Case) (i l : ℕ) (p : ℕ → Bool) → together c i l ≡ true
     → anyTo (c .events .count) (λ j. together c l j && p j) ≡ anyTo (c .events .count) (λ j. together c i j && p j)
 any-together c i l p h =
@@ -126,16 +110,6 @@ leader-eqb c i j =
     let t : together c i (leaderOf c j) ≡ true = rw q (leader-together c i) in
     together-trans c i (leaderOf c j) j t (flip c j (leaderOf c j) (leader-together c j)))
     (λ h. eq-eqb _ _ (leader-same c i j h))
-
-pub leader-leader : (c : Case) (i : ℕ) → leaderOf c (leaderOf c i) ≡ leaderOf c i
-leader-leader c i = leader-same c i (leaderOf c i) (leader-together c i)
-
-pub sum-leader : (c : Case) (i : ℕ) (f : ℕ → ℕ) → sumTogether c (leaderOf c i) f ≡ sumTogether c i f
-sum-leader c i f = sum-together c i (leaderOf c i) f (leader-together c i)
-
-pub any-leader : (c : Case) (i : ℕ) (p : ℕ → Bool)
-    → anyTo (c .events .count) (λ j. together c (leaderOf c i) j && p j) ≡ anyTo (c .events .count) (λ j. together c i j && p j)
-any-leader c i p = any-together c i (leaderOf c i) p (leader-together c i)
 
 -- ---- the key
 
@@ -216,10 +190,6 @@ module _ (u r r′ p p′ e : List ℕ) where
   pub group-sections : (i : ℕ) → groupOf (caseIn u r p e) i ≡ groupOf (caseIn u r′ p′ e) i
   unfolding groupOf unitOf caseIn
   group-sections i = refl
-
-  pub together-sections : (i j : ℕ) → together (caseIn u r p e) i j ≡ together (caseIn u r′ p′ e) i j
-  unfolding together groupOf unitOf caseIn
-  together-sections i j = refl
 
   pub key-sections : (i : ℕ) → partyKey (caseIn u r p e) i ≡ partyKey (caseIn u r′ p′ e) i
   unfolding partyKey groupOf unitOf caseIn

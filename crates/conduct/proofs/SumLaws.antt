@@ -11,7 +11,7 @@ use lib.ListN.{length, getD, set, replicate, getD-replicate, List·getD-eq-defau
 use lib.Seq.{getD-set-same, getD-set-other}
 use Rattle.binary.specs.Bounded.{sumTo, countTo, bitOf}
 use Rattle.binary.specs.Lists.{Bytes, Holds}
-use Rattle.binary.proofs.Implies.{and-l, and-r}
+use Rattle.binary.proofs.Implies.{and-l, and-r, same-test}
 use Rattle.binary.proofs.BoundedLaws.{sum-none, sum-more, sum-same, sum-bound, any-count}
 use Rattle.binary.proofs.ByteLaws.{value-drop}
 use Rattle.binary.proofs.WordLaws.{positive-lt}
@@ -24,7 +24,7 @@ use Rattle.casefile.specs.declared.cells.Cell.{Cell}
 use Rattle.conduct.specs.Flags.{together, sumTogether, groupSum, groupCapability, fuelFlag, timeBid}
 use Rattle.conduct.specs.Parties.{leaderOf}
 use Rattle.conduct.specs.Stages.{cellsIn, Zeros, Added, partyFigure, ledSum, HasSums, capabilityShare, capabilityOf, timeComponent, timeKey, countedIncrease, keyedIncrease, cell, HasIncreases, timeTotalIn}
-use Rattle.conduct.proofs.PartyLaws.{same-test, together-fields, leader-eqb, record-byte-lt, record-value-lt, packed, packed-same}
+use Rattle.conduct.proofs.PartyLaws.{together-fields, leader-eqb, record-byte-lt, record-value-lt, packed, packed-same}
 
 -- ---- choices and sums
 

@@ -6,10 +6,10 @@ use native.Mathlib.Omega.{arith}
 use borrow.Author.Tests.{ltb-true, lt-ltb, le-leb, lt-leb, ne-eqb}
 use lib.Dec.{ltb, leb}
 use Rattle.binary.specs.Word.{positivePart}
+use Rattle.binary.proofs.Implies.{same-test}
 use Rattle.tariff.specs.declared.threshold.Threshold.{Threshold}
 use Rattle.tariff.specs.Threshold.{thresholdOf}
 use Rattle.tariff.specs.Conduct.{increase, lowerTest, constrainedTest, percentTest, timeTest, maximumTest, bidTest, unitLimit, groupLimit, withheldTest, dispatchTest}
-use Rattle.conduct.proofs.PartyLaws.{same-test}
 use Rattle.working.specs.declared.steps.Step.{Step}
 use Rattle.working.specs.Steps.{compared, noStep, exceeds, firstFailed, stepsOf, withheldSteps, dispatchSteps, fuelSteps, lowerStep, percentStep, firstBidStep, secondBidStep, bidSteps, FailsBy, StepsDecide}
 
