@@ -17,6 +17,7 @@ use Rattle.binary.proofs.MaskLaws.{mask-same}
 use Rattle.binary.proofs.ByteLaws.{stretch-byte, stretch-length}
 use Rattle.tariff.specs.Conduct.{increase, lowerTest, constrainedTest, percentTest, timeTest, maximumTest, bidTest}
 use Rattle.tariff.specs.Threshold.{thresholdOf}
+use Rattle.casefile.specs.Layout.{eventWidth}
 use Rattle.casefile.specs.Case.{Units, Case}
 use Rattle.casefile.specs.Decode.{recordAt, unitsIn, referencesIn, eventsIn, amountsIn, caseIn}
 use Rattle.casefile.specs.Lookup.{unitOf, groupOf, referenceOf}
@@ -38,23 +39,23 @@ part-length : (sums : List ℕ) (l : ℕ) → 24 * l + 24 ≤ length sums → le
 part-length sums l b = rw add-sub-cancel-left (stretch-length sums (24 * l) 24 b)
 
 party-sum-is : (u r p e : List ℕ) (i h : ℕ)
-    → sumTo (length e / 312) (λ j. cond (together (caseIn u r p e) i j) (partyFigure (caseIn u r p e) j h) 0) ≡ partySum (caseIn u r p e) i h
+    → sumTo (length e / eventWidth) (λ j. cond (together (caseIn u r p e) i j) (partyFigure (caseIn u r p e) j h) 0) ≡ partySum (caseIn u r p e) i h
 unfolding partySum sumTogether caseIn eventsIn
 party-sum-is u r p e i h = refl
 
 module _ (u e places leaders levels : List ℕ) (f : Led u e places leaders levels) where
-  pub leaders-below : Below (length e / 312) leaders
+  pub leaders-below : Below (length e / eventWidth) leaders
   leaders-below j l = let q = leader-le (caseIn u [] [] e) j in let t = f .led j l in omega arith
 
-  module _ (i : ℕ) (l : i < length e / 312) where
+  module _ (i : ℕ) (l : i < length e / eventWidth) where
     pub found-place : getD places i 0 < length u / 24
     found-place = place-in u [] [] e places i l (f .listed) (f .placed)
 
-    pub found-length : (sums : List ℕ) → 24 * (length e / 312) ≤ length sums
+    pub found-length : (sums : List ℕ) → 24 * (length e / eventWidth) ≤ length sums
         → length (take (24 * getD leaders i 0 + 24 - 24 * getD leaders i 0) (drop (24 * getD leaders i 0) sums)) ≡ 24
     found-length sums z = part-length sums (getD leaders i 0) (let q = leaders-below i l in let few = f .few in omega arith)
 
-    pub found-row : (sums : List ℕ) → HasSums (caseIn [] [] [] e) leaders (length e / 312) (length e / 312) sums
+    pub found-row : (sums : List ℕ) → HasSums (caseIn [] [] [] e) leaders (length e / eventWidth) (length e / eventWidth) sums
         → HasRow (partySum (caseIn u [] [] e) i) (take (24 * getD leaders i 0 + 24 - 24 * getD leaders i 0) (drop (24 * getD leaders i 0) sums))
     found-row sums s =
         record {
@@ -66,7 +67,7 @@ module _ (u e places leaders levels : List ℕ) (f : Led u e places leaders leve
         }
 
 -- no sum is above 2 ^ 40
-pub small-row : (u e row : List ℕ) (i : ℕ) → Bytes e → length e / 312 ≤ 200 → HasRow (partySum (caseIn u [] [] e) i) row → SmallRow row
+pub small-row : (u e row : List ℕ) (i : ℕ) → Bytes e → length e / eventWidth ≤ 200 → HasRow (partySum (caseIn u [] [] e) i) row → SmallRow row
 small-row u e row i b l r h q = rw (r .each h q, ← party-sum-is u [] [] e i h) (party-sum-le u [] [] e i h b l q)
 
 -- ---- withheld and dispatch
@@ -118,7 +119,7 @@ module _ (u e : List ℕ) where
   group-capability-of i = ap (λ (x : Units). capabilityOf x (groupOf (caseIn u [] [] e) i)) units-of ∙ capability-is (caseIn u [] [] e) i
 
 -- the figures of event i and its unit, as they are loaded
-module _ (u e event unit cells : List ℕ) (i place : ℕ) (ee : event ≡ recordAt 312 e i) (eu : unit ≡ recordAt 24 u place)
+module _ (u e event unit cells : List ℕ) (i place : ℕ) (ee : event ≡ recordAt eventWidth e i) (eu : unit ≡ recordAt 24 u place)
     (at : place ≡ unitOf (caseIn u [] [] e) i) (ec : cells ≡ cellsIn e i) where
   unit-is : unit ≡ recordAt 24 u (unitOf (caseIn u [] [] e) i)
   unit-is = eu ∙ ap (recordAt 24 u) at
@@ -209,7 +210,7 @@ total-sections : (u e levels : List ℕ) (i h : ℕ) → totalRead (caseIn [] []
 unfolding totalRead timeTotalIn timeBid caseIn
 total-sections u e levels i h = refl
 
-module _ (u e event unit cells : List ℕ) (i place : ℕ) (ee : event ≡ recordAt 312 e i) (eu : unit ≡ recordAt 24 u place)
+module _ (u e event unit cells : List ℕ) (i place : ℕ) (ee : event ≡ recordAt eventWidth e i) (eu : unit ≡ recordAt 24 u place)
     (at : place ≡ unitOf (caseIn u [] [] e) i) (ec : cells ≡ cellsIn e i) where
   pub bid-mask-is : (totals levels : List ℕ) (bid : Bid) (area x : ℕ) → x ≡ maskTo 24 (bidIn cells totals bid)
       → bid .component ≡ byteAt event 6 → bid .reference ≡ getD levels i 0 → bid .market ≡ byteAt event 1
@@ -286,7 +287,7 @@ component-read : (e levels : List ℕ) (i h component : ℕ) → component ≡ e
 unfolding totalRead caseIn
 component-read e levels i h component q = rw q
 
-module _ (e event levels : List ℕ) (i component : ℕ) (ee : event ≡ recordAt 312 e i) (ec : component ≡ byteAt event 6) where
+module _ (e event levels : List ℕ) (i component : ℕ) (ee : event ≡ recordAt eventWidth e i) (ec : component ≡ byteAt event 6) where
   of-event : component ≡ eventsIn e .component i
   unfolding eventsIn
   of-event = ec ∙ ap (λ (r : List ℕ). byteAt r 6) ee
@@ -311,9 +312,9 @@ module _ (e event levels : List ℕ) (i component : ℕ) (ee : event ≡ recordA
       }
 
   keyed-by : (keys : List ℕ) (market unit day k h : ℕ) → market ≡ eventsIn e .market i → unit ≡ eventsIn e .unit i → day ≡ eventsIn e .day i
-      → keyedIncrease (amountsIn e) levels keys (4 + k + 256 * market + 65536 * unit + 4294967296 * day) (length e / 312) h
+      → keyedIncrease (amountsIn e) levels keys (4 + k + 256 * market + 65536 * unit + 4294967296 * day) (length e / eventWidth) h
       ≡ keyedIncrease (amountsIn e) levels keys (4 + k + 256 * eventsIn e .market i + 65536 * eventsIn e .unit i + 4294967296 * eventsIn e .day i)
-      (length e / 312) h
+      (length e / eventWidth) h
   keyed-by keys market unit day k h em eu ed = rw (em, eu, ed)
 
   fields-of : (market unit day : ℕ) → market ≡ byteAt event 1 → unit ≡ u16At event 2 → day ≡ u32At event 8
@@ -324,9 +325,9 @@ module _ (e event levels : List ℕ) (i component : ℕ) (ee : event ≡ recordA
 
   pub totals-of : (keys row : List ℕ) (t : List (List ℕ)) (market unit day : ℕ) → Bytes e → (leb 4 component && leb component 6) ≡ true
       → market ≡ byteAt event 1 → unit ≡ u16At event 2 → day ≡ u32At event 8
-      → Holds (length e / 312) keys (timeKey (eventsIn e))
+      → Holds (length e / eventWidth) keys (timeKey (eventsIn e))
       → HasIncreases
-      (λ k. keyedIncrease (amountsIn e) levels keys (4 + k + 256 * market + 65536 * unit + 4294967296 * day) (length e / 312)) t
+      (λ k. keyedIncrease (amountsIn e) levels keys (4 + k + 256 * market + 65536 * unit + 4294967296 * day) (length e / eventWidth)) t
       → HasRow (λ h. cell t 0 h + cell t 1 h + cell t 2 h) row
       → HasRow (totalRead (caseIn [] [] [] e) levels i) row
   totals-of keys row t market unit day be w em eu ed hk ht hr =
@@ -382,7 +383,7 @@ module _ (u e levels row masks : List ℕ) (i leader : ℕ) (k : caseIn u [] [] 
       pick true t = held leader (ltb-true leader i t) ∙ ap (flagMaskIn (caseIn u [] [] e) levels) el ∙ leader-flags
       pick false t = fuel-mask-is (caseIn u [] [] e) i (maskTo 24 (fuelIn row)) row k r refl ∙ fuel-flags u e levels i k
 
-module _ (u e event levels : List ℕ) (i kind : ℕ) (ee : event ≡ recordAt 312 e i) (ek : kind ≡ byteAt event 0) where
+module _ (u e event levels : List ℕ) (i kind : ℕ) (ee : event ≡ recordAt eventWidth e i) (ek : kind ≡ byteAt event 0) where
   pub kind-is : caseIn u [] [] e .events .kind i ≡ kind
   unfolding caseIn eventsIn
   kind-is = sym (ek ∙ ap (λ (r : List ℕ). byteAt r 0) ee)
@@ -420,7 +421,7 @@ pub capability-read : (c : Case) (capabilities : List ℕ) (i leader : ℕ) → 
 capability-read c capabilities i leader held el l =
     held leader l ∙ ap (listedCapability c) el ∙ capability-together c i (leaderOf c i) (leader-together c i)
 
-module _ (u e event : List ℕ) (i kind : ℕ) (ee : event ≡ recordAt 312 e i) (ek : kind ≡ byteAt event 0) where
+module _ (u e event : List ℕ) (i kind : ℕ) (ee : event ≡ recordAt eventWidth e i) (ek : kind ≡ byteAt event 0) where
   pub capability-none : (kind ≡ 1 → ⊥) → 0 ≡ listedCapability (caseIn u [] [] e) i
   unfolding listedCapability
   capability-none n = rw (kind-is u e event [] i kind ee ek, ne-eqb kind 1 n)
@@ -435,8 +436,8 @@ module _ (u e event : List ℕ) (i kind : ℕ) (ee : event ≡ recordAt 312 e i)
 
 -- ---- with the references in place of the levels
 
-module _ (u r e levels : List ℕ) (t : Holds (length e / 312) levels (bidLevel (referencesIn r) (eventsIn e))) where
-  level-of : (j : ℕ) → j < length e / 312 → caseIn u r [] e .events .kind j ≡ 4 → getD levels j 0 ≡ referenceOf (caseIn u r [] e) j
+module _ (u r e levels : List ℕ) (t : Holds (length e / eventWidth) levels (bidLevel (referencesIn r) (eventsIn e))) where
+  level-of : (j : ℕ) → j < length e / eventWidth → caseIn u r [] e .events .kind j ≡ 4 → getD levels j 0 ≡ referenceOf (caseIn u r [] e) j
   unfolding bidLevel referenceOf caseIn
   level-of j l q = t j l ∙ rw q
 
@@ -446,7 +447,7 @@ module _ (u r e levels : List ℕ) (t : Holds (length e / 312) levels (bidLevel 
       let q : eqb (caseIn u r [] e .events .kind j) 4 ≡ true = search (and-l, and-r) depth 8 in
       eqb-true _ _ q
 
-  count-of : caseIn u r [] e .events .count ≡ length e / 312
+  count-of : caseIn u r [] e .events .count ≡ length e / eventWidth
   unfolding caseIn eventsIn
   count-of = refl
 
@@ -462,7 +463,7 @@ module _ (u r e levels : List ℕ) (t : Holds (length e / 312) levels (bidLevel 
   unfolding bidFlagIn tight unitOf timeTotalIn timeBid caseIn
   bid-same i h = refl
 
-  bid-is : (i h : ℕ) → i < length e / 312 → caseIn u r [] e .events .kind i ≡ 4 → bidFlagIn (caseIn u [] [] e) levels i h ≡ bidFlag (caseIn u r [] e) i h
+  bid-is : (i h : ℕ) → i < length e / eventWidth → caseIn u r [] e .events .kind i ≡ 4 → bidFlagIn (caseIn u [] [] e) levels i h ≡ bidFlag (caseIn u r [] e) i h
   unfolding bidFlagIn bidFlag
   bid-is i h l q = bid-same i h ∙ rw (level-of i l q, total-is i h)
 
@@ -486,7 +487,7 @@ module _ (u r e levels : List ℕ) (t : Holds (length e / 312) levels (bidLevel 
   given true x y h = h refl
   given false x y h = refl
 
-  flagged-is : (i h : ℕ) → i < length e / 312 → flaggedIn (caseIn u [] [] e) levels i h ≡ flagged (caseIn u r [] e) i h
+  flagged-is : (i h : ℕ) → i < length e / eventWidth → flaggedIn (caseIn u [] [] e) levels i h ≡ flagged (caseIn u r [] e) i h
   unfolding flaggedIn flagged
   flagged-is i h l =
       rw (
@@ -506,7 +507,7 @@ module _ (u r e levels : List ℕ) (t : Holds (length e / 312) levels (bidLevel 
   unfolding flagMask caseIn eventsIn
   flag-hours i = refl
 
-  pub flag-mask-is : (i : ℕ) → i < length e / 312 → flagMaskIn (caseIn u [] [] e) levels i ≡ flagMask (caseIn u r [] e) i
+  pub flag-mask-is : (i : ℕ) → i < length e / eventWidth → flagMaskIn (caseIn u [] [] e) levels i ≡ flagMask (caseIn u r [] e) i
   flag-mask-is i l = sym (mask-hours i) ∙ mask-same 24 _ _ (λ h b. flagged-is i h l) ∙ flag-hours i
 
 -- ---- past entries

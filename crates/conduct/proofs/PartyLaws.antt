@@ -16,6 +16,7 @@ use Rattle.binary.proofs.Implies.{and-l, and-r, same-test}
 use Rattle.binary.proofs.BoundedLaws.{any-same}
 use Rattle.binary.proofs.ByteLaws.{stretch-byte}
 use Rattle.binary.proofs.ListLaws.{from-le, from-holds, from-passed}
+use Rattle.casefile.specs.Layout.{eventWidth}
 use Rattle.casefile.specs.Case.{Case}
 use Rattle.casefile.specs.Decode.{recordAt, unitsIn, eventsIn, caseIn}
 use Rattle.casefile.specs.Lookup.{unitOf, groupOf}
@@ -159,11 +160,11 @@ packed-same k m g d k′ m′ g′ d′ bk bm bg bk′ bm′ bg′ =
 module _ (u r p e : List ℕ) (bu : Bytes u) (be : Bytes e) where
   kind-lt : (i : ℕ) → caseIn u r p e .events .kind i < 256
   unfolding caseIn eventsIn
-  kind-lt i = record-byte-lt 312 e i 0 be (omega arith)
+  kind-lt i = record-byte-lt eventWidth e i 0 be (omega arith)
 
   market-lt : (i : ℕ) → caseIn u r p e .events .market i < 256
   unfolding caseIn eventsIn
-  market-lt i = record-byte-lt 312 e i 1 be (omega arith)
+  market-lt i = record-byte-lt eventWidth e i 1 be (omega arith)
 
   group-lt : (i : ℕ) → groupOf (caseIn u r p e) i < 65536
   unfolding groupOf caseIn unitsIn

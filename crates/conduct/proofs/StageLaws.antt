@@ -1,20 +1,20 @@
 -- What a stage reads in the tables of the stages before it is the figure of the case.
-use Prim.Native.Nat.{ℕ, zero, suc, _+_, _*_, _/_, _%_, _≤_, _<_}
-use mathlib.Core.Bool.{Bool, true, false, cond, not, _&&_, _||_}
+use Prim.Native.Nat.{ℕ, zero, suc, _+_, _*_, _/_, _<_}
+use mathlib.Core.Bool.{Bool, true, false, cond, not, _||_}
 use mathlib.Core.List.{List, _++_}
 use mathlib.Core.Path.{_≡_, refl, ap, ap₂, _∙_}
 use native.Mathlib.Omega.{arith}
-use borrow.Author.Tests.{eqb-true, leb-true}
-use lib.Dec.{T, leb, eqb}
+use borrow.Author.Tests.{eqb-true}
+use lib.Dec.{eqb}
 use lib.ListN.{length, getD, drop}
 use Rattle.binary.specs.Lists.{listTo, firstFrom, Bytes, Holds}
-use Rattle.binary.proofs.Implies.{_⇒_, T→true, true→T, and-l, and-r}
 use Rattle.binary.proofs.BoundedLaws.{all-true}
 use Rattle.binary.proofs.ListLaws.{list-same}
+use Rattle.casefile.specs.Layout.{eventWidth}
 use Rattle.casefile.specs.Case.{References, Events}
 use Rattle.casefile.specs.Decode.{unitsIn, eventsIn, caseIn}
-use Rattle.casefile.specs.Lookup.{unitOf, groupOf, hasReference, readsCorrect}
-use Rattle.casefile.specs.Refusal.{sizeFine, eventsListed, referenceFound, referencesFound}
+use Rattle.casefile.specs.Lookup.{unitOf, groupOf, hasReference}
+use Rattle.casefile.specs.Refusal.{eventsListed, referencesFound}
 use Rattle.casefile.proofs.RangeLaws.{of-kind}
 use Rattle.casefile.proofs.EventLaws.{events-place}
 use Rattle.casefile.proofs.SectionLaws.{reference-there}
@@ -28,16 +28,16 @@ units-group : (u r p e : List ℕ) (k : ℕ) → unitsIn u .group k ≡ caseIn u
 unfolding caseIn
 units-group u r p e k = refl
 
-module _ (u r p e places : List ℕ) (i : ℕ) (l : i < length e / 312) where
+module _ (u r p e places : List ℕ) (i : ℕ) (l : i < length e / eventWidth) where
   pub place-lt : eventsListed (unitsIn u) (eventsIn e) ≡ true → unitOf (caseIn u r p e) i < length u / 24
   unfolding unitOf caseIn unitsIn eventsIn
   place-lt h = events-place (unitsIn u) (eventsIn e) i h l
 
-  pub place-in : eventsListed (unitsIn u) (eventsIn e) ≡ true → Holds (length e / 312) places (unitOf (caseIn u r p e))
+  pub place-in : eventsListed (unitsIn u) (eventsIn e) ≡ true → Holds (length e / eventWidth) places (unitOf (caseIn u r p e))
       → getD places i 0 < length u / 24
   place-in h t = rw (t i l) (place-lt h)
 
-  pub group-in : (g : ℕ) → Holds (length e / 312) places (unitOf (caseIn u r p e)) → g ≡ unitsIn u .group (getD places i 0)
+  pub group-in : (g : ℕ) → Holds (length e / eventWidth) places (unitOf (caseIn u r p e)) → g ≡ unitsIn u .group (getD places i 0)
       → g ≡ groupOf (caseIn u r p e) i
   unfolding groupOf
   group-in g t q = q ∙ ap (unitsIn u .group) (t i l) ∙ units-group u r p e (unitOf (caseIn u r p e) i)

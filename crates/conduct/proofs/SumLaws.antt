@@ -16,6 +16,7 @@ use Rattle.binary.proofs.BoundedLaws.{sum-none, sum-more, sum-same, sum-bound, 
 use Rattle.binary.proofs.ByteLaws.{value-drop}
 use Rattle.binary.proofs.WordLaws.{positive-lt}
 use Rattle.tariff.specs.Conduct.{increase}
+use Rattle.casefile.specs.Layout.{eventWidth}
 use Rattle.casefile.specs.Case.{Case}
 use Rattle.casefile.specs.Decode.{recordAt, eventsIn, amountsIn, caseIn}
 use Rattle.casefile.specs.Lookup.{groupOf}
@@ -49,11 +50,11 @@ and-both false b p q = p
 
 pub cell-amount : (s : List ℕ) (i h : ℕ) → cellOf (cellsIn s i) h .a ≡ amountsIn s i h
 unfolding cellOf cellsIn amountsIn
-cell-amount s i h = value-drop 4 24 (recordAt 312 s i) (12 * h)
+cell-amount s i h = value-drop 4 24 (recordAt eventWidth s i) (12 * h)
 
 pub amount-lt : (s : List ℕ) (i h : ℕ) → Bytes s → h < 24 → amountsIn s i h ≤ 4294967295
 unfolding amountsIn
-amount-lt s i h b l = let q = record-value-lt 4 312 s i (24 + 12 * h) b (omega arith) in omega arith
+amount-lt s i h b l = let q = record-value-lt 4 eventWidth s i (24 + 12 * h) b (omega arith) in omega arith
 
 -- ---- a loop that adds to a row
 
@@ -188,15 +189,15 @@ led-by c leaders n i j t l = rw (t j l) (leader-eqb c i j)
 
 -- the leader's row holds the sums of each event of its party
 pub party-sum : (u r p e leaders sums : List ℕ) (i h : ℕ)
-    → HasSums (caseIn [] [] [] e) leaders (length e / 312) (length e / 312) sums
-    → Holds (length e / 312) leaders (leaderOf (caseIn u r p e)) → i < length e / 312 → leaderOf (caseIn u r p e) i < length e / 312 → h < 24
+    → HasSums (caseIn [] [] [] e) leaders (length e / eventWidth) (length e / eventWidth) sums
+    → Holds (length e / eventWidth) leaders (leaderOf (caseIn u r p e)) → i < length e / eventWidth → leaderOf (caseIn u r p e) i < length e / eventWidth → h < 24
     → getD sums (24 * leaderOf (caseIn u r p e) i + h) 0
-    ≡ sumTo (length e / 312) (λ j. cond (together (caseIn u r p e) i j) (partyFigure (caseIn u r p e) j h) 0)
+    ≡ sumTo (length e / eventWidth) (λ j. cond (together (caseIn u r p e) i j) (partyFigure (caseIn u r p e) j h) 0)
 unfolding ledSum
 party-sum u r p e leaders sums i h s t l q lh =
     s .each (leaderOf (caseIn u r p e) i) h q lh
-    ∙ sum-same (length e / 312) _ _
-    (λ j lj. ap₂ (λ (b : Bool) (x : ℕ). cond b x 0) (led-by (caseIn u r p e) leaders (length e / 312) i j t lj) (figure-sections u r p e j h))
+    ∙ sum-same (length e / eventWidth) _ _
+    (λ j lj. ap₂ (λ (b : Bool) (x : ℕ). cond b x 0) (led-by (caseIn u r p e) leaders (length e / eventWidth) i j t lj) (figure-sections u r p e j h))
 
 -- for kinds 1 and 2 that is S
 pub sum-amounts : (c : Case) (i h : ℕ) → (c .events .kind i ≡ 3 → ⊥)
@@ -238,10 +239,10 @@ sum-union c i h e =
     let yes : eqb (c .events .kind j) 3 ≡ true = eq-eqb _ _ (s .kind ∙ e) in
     rw yes))))
 
-pub party-sum-le : (u r p e : List ℕ) (i h : ℕ) → Bytes e → length e / 312 ≤ 200 → h < 24
-    → sumTo (length e / 312) (λ j. cond (together (caseIn u r p e) i j) (partyFigure (caseIn u r p e) j h) 0) ≤ 1099511627776
+pub party-sum-le : (u r p e : List ℕ) (i h : ℕ) → Bytes e → length e / eventWidth ≤ 200 → h < 24
+    → sumTo (length e / eventWidth) (λ j. cond (together (caseIn u r p e) i j) (partyFigure (caseIn u r p e) j h) 0) ≤ 1099511627776
 party-sum-le u r p e i h b l lh =
-    let q = sum-bound (length e / 312) (λ j. cond (together (caseIn u r p e) i j) (partyFigure (caseIn u r p e) j h) 0) 4294967295
+    let q = sum-bound (length e / eventWidth) (λ j. cond (together (caseIn u r p e) i j) (partyFigure (caseIn u r p e) j h) 0) 4294967295
     (λ j lj. cond-le (together (caseIn u r p e) i j) _ _ (figure-le u r p e j h b lh)) in
     omega arith
 
@@ -388,15 +389,15 @@ sum-three (suc n) f g h = let e = sum-three n f g h in omega arith
 module _ (u r p e : List ℕ) (be : Bytes e) where
   component-lt : (j : ℕ) → eventsIn e .component j < 256
   unfolding eventsIn
-  component-lt j = record-byte-lt 312 e j 6 be (omega arith)
+  component-lt j = record-byte-lt eventWidth e j 6 be (omega arith)
 
   market-lt : (j : ℕ) → eventsIn e .market j < 256
   unfolding eventsIn
-  market-lt j = record-byte-lt 312 e j 1 be (omega arith)
+  market-lt j = record-byte-lt eventWidth e j 1 be (omega arith)
 
   unit-lt : (j : ℕ) → eventsIn e .unit j < 65536
   unfolding eventsIn
-  unit-lt j = record-value-lt 2 312 e j 2 be (omega arith)
+  unit-lt j = record-value-lt 2 eventWidth e j 2 be (omega arith)
 
   time-bid-key : (i j k : ℕ) → 0 < k → k < 256
       → eqb (timeKey (eventsIn e) j) (packed k (eventsIn e .market i) (eventsIn e .unit i) (eventsIn e .day i))
@@ -413,23 +414,23 @@ module _ (u r p e : List ℕ) (be : Bytes e) where
       let l6 : leb (eventsIn e .component j) 6 ≡ true = search (and-l, and-r) depth 8 in
       (leb-true _ _ l4, leb-true _ _ l6)
 
-  case-sum : (f : (ℕ → ℕ → ℕ) → ℕ → ℕ) → sumTo (length e / 312) (f (amountsIn e)) ≡ sumTo (caseIn u r p e .events .count) (f (caseIn u r p e .a))
+  case-sum : (f : (ℕ → ℕ → ℕ) → ℕ → ℕ) → sumTo (length e / eventWidth) (f (amountsIn e)) ≡ sumTo (caseIn u r p e .events .count) (f (caseIn u r p e .a))
   unfolding caseIn eventsIn
   case-sum f = refl
 
   -- the three components of the table add to the positive d of the unit, day, market and hour
-  pub time-total : (levels keys : List ℕ) (i h : ℕ) → Holds (length e / 312) keys (timeKey (eventsIn e))
+  pub time-total : (levels keys : List ℕ) (i h : ℕ) → Holds (length e / eventWidth) keys (timeKey (eventsIn e))
       → keyedIncrease (amountsIn e) levels keys (4 + 0 + 256 * eventsIn e .market i + 65536 * eventsIn e .unit i + 4294967296 * eventsIn e .day i)
-      (length e / 312) h
+      (length e / eventWidth) h
       + keyedIncrease (amountsIn e) levels keys (4 + 1 + 256 * eventsIn e .market i + 65536 * eventsIn e .unit i + 4294967296 * eventsIn e .day i)
-      (length e / 312) h
+      (length e / eventWidth) h
       + keyedIncrease (amountsIn e) levels keys (4 + 2 + 256 * eventsIn e .market i + 65536 * eventsIn e .unit i + 4294967296 * eventsIn e .day i)
-      (length e / 312) h
+      (length e / eventWidth) h
       ≡ timeTotalIn (caseIn u r p e) levels i h
   unfolding keyedIncrease countedIncrease timeTotalIn
   time-total levels keys i h t =
-      sym (sum-three (length e / 312) (share 4) (share 5) (share 6))
-      ∙ sum-same (length e / 312) _ _ each
+      sym (sum-three (length e / eventWidth) (share 4) (share 5) (share 6))
+      ∙ sum-same (length e / eventWidth) _ _ each
       ∙ case-sum (λ a j. cond (timeBid (caseIn u r p e) i j) (increase (getD levels j 0) (a j h)) 0)
     where
       share : ℕ → ℕ → ℕ
@@ -437,13 +438,13 @@ module _ (u r p e : List ℕ) (be : Bytes e) where
           cond (eqb (getD keys j 0) (packed k (eventsIn e .market i) (eventsIn e .unit i) (eventsIn e .day i)))
           (increase (getD levels j 0) (amountsIn e j h)) 0
 
-      of : (k j : ℕ) → 0 < k → k < 256 → j < length e / 312
+      of : (k j : ℕ) → 0 < k → k < 256 → j < length e / eventWidth
           → share k j ≡ cond (timeBid (caseIn u r p e) i j && eqb (eventsIn e .component j) k) (increase (getD levels j 0) (amountsIn e j h)) 0
       of k j pk bk l =
           ap (λ (b : Bool). cond b (increase (getD levels j 0) (amountsIn e j h)) 0)
           (ap (λ (x : ℕ). eqb x (packed k (eventsIn e .market i) (eventsIn e .unit i) (eventsIn e .day i))) (t j l) ∙ time-bid-key i j k pk bk)
 
-      each : (j : ℕ) → j < length e / 312
+      each : (j : ℕ) → j < length e / eventWidth
           → share 4 j + share 5 j + share 6 j ≡ cond (timeBid (caseIn u r p e) i j) (increase (getD levels j 0) (amountsIn e j h)) 0
       each j l =
           ap₂ (λ (x y : ℕ). x + y)

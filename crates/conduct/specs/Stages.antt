@@ -8,7 +8,7 @@ use lib.ListN.{length, getD, drop}
 use Rattle.binary.specs.Bounded.{sumTo, maskTo, bitOf}
 use Rattle.binary.specs.Lists.{firstFrom, Holds}
 use Rattle.tariff.specs.Conduct.{increase, withheldTest, dispatchTest, bidTest}
-use Rattle.casefile.specs.Layout.{eventWidth, cellsOffset}
+use Rattle.casefile.specs.Layout.{eventWidth, cellsOffset, hours, mostEvents, longestFile}
 use Rattle.casefile.specs.Case.{Units, Events, Case}
 use Rattle.casefile.specs.Decode.{recordAt, unitsIn, eventsIn, caseIn}
 use Rattle.casefile.specs.Lookup.{unitOf, groupOf}
@@ -60,7 +60,7 @@ ledSum c leaders m l h = sumTo m (λ j. cond (eqb (getD leaders j 0) l) (partyFi
 
 -- the sums of leader l stand from 24 × l on
 pub record HasSums (c : Case) (leaders : List ℕ) (n m : ℕ) (sums : List ℕ) : Type 0 where
-  pub each : (l h : ℕ) → l < n → h < 24 → getD sums (24 * l + h) 0 ≡ ledSum c leaders m l h
+  pub each : (l h : ℕ) → l < n → h < hours → getD sums (hours * l + h) 0 ≡ ledSum c leaders m l h
 
 -- the figures of the events together with event i, added
 unfoldable pub partySum : Case → (i h : ℕ) → ℕ
@@ -72,11 +72,11 @@ Below n leaders = (j : ℕ) → j < n → getD leaders j 0 < n
 
 -- twenty-four figures, in a row of their own
 pub record HasRow (figure : ℕ → ℕ) (row : List ℕ) : Type 0 where
-  pub each : (h : ℕ) → h < 24 → getD row h 0 ≡ figure h
+  pub each : (h : ℕ) → h < hours → getD row h 0 ≡ figure h
 
 -- no sum of a row is above 2 ^ 40
 abbrev pub SmallRow : (row : List ℕ) → Type 0
-SmallRow row = (h : ℕ) → h < 24 → getD row h 0 ≤ 1099511627776
+SmallRow row = (h : ℕ) → h < hours → getD row h 0 ≤ 1099511627776
 
 -- the capability of unit u where it is of this group
 unfoldable pub capabilityShare : Units → (group u : ℕ) → ℕ
@@ -112,10 +112,10 @@ abbrev pub cell : List (List ℕ) → (k h : ℕ) → ℕ
 cell t k h = getD (getD t k []) h 0
 
 pub record HasIncreases (figure : ℕ → ℕ → ℕ) (t : List (List ℕ)) : Type 0 where
-  pub each : (k h : ℕ) → k < 3 → h < 24 → cell t k h ≡ figure k h
+  pub each : (k h : ℕ) → k < 3 → h < hours → cell t k h ≡ figure k h
 
 abbrev pub SmallTable : List (List ℕ) → Type 0
-SmallTable t = (k h : ℕ) → k < 3 → h < 24 → cell t k h ≤ 4611686018427387904
+SmallTable t = (k h : ℕ) → k < 3 → h < hours → cell t k h ≤ 4611686018427387904
 
 -- ---- flags, with the figures that are at hand
 
@@ -131,7 +131,7 @@ fuelIn sums h = ltb 0 (getD sums h 0)
 
 -- the leader's flagged hours where the leader is an earlier event, else those of the sums
 unfoldable pub fuelMaskIn : (sums masks : List ℕ) → (leader i : ℕ) → ℕ
-fuelMaskIn sums masks leader i = cond (ltb leader i) (getD masks leader 0) (maskTo 24 (fuelIn sums))
+fuelMaskIn sums masks leader i = cond (ltb leader i) (getD masks leader 0) (maskTo hours (fuelIn sums))
 
 unfoldable pub bidIn : (cells totals : List ℕ) → Bid → (h : ℕ) → Bool
 bidIn cells totals bid h =
@@ -177,17 +177,17 @@ flagMaskIn c levels i = maskTo (c .events .hours i) (flaggedIn c levels i)
 
 -- the place of each event's unit and the leader of its party, and room for its level
 pub record Led (units events places leaders levels : List ℕ) : Type 0 where
-  pub few : length events / 312 ≤ 200
+  pub few : length events / eventWidth ≤ mostEvents
   pub listed : eventsListed (unitsIn units) (eventsIn events) ≡ true
-  pub places-reach : length events / 312 ≤ length places
-  pub leaders-reach : length events / 312 ≤ length leaders
-  pub levels-reach : length events / 312 ≤ length levels
-  pub placed : Holds (length events / 312) places (unitOf (caseIn units [] [] events))
-  pub led : Holds (length events / 312) leaders (leaderOf (caseIn units [] [] events))
+  pub places-reach : length events / eventWidth ≤ length places
+  pub leaders-reach : length events / eventWidth ≤ length leaders
+  pub levels-reach : length events / eventWidth ≤ length levels
+  pub placed : Holds (length events / eventWidth) places (unitOf (caseIn units [] [] events))
+  pub led : Holds (length events / eventWidth) leaders (leaderOf (caseIn units [] [] events))
 
 -- the same with the groups, from which G is found
 pub record Found (units events places groups leaders levels : List ℕ) : Type 0 where
   pub base : Led units events places leaders levels
-  pub short : length units ≤ 65000
-  pub groups-reach : length events / 312 ≤ length groups
-  pub grouped : Holds (length events / 312) groups (groupOf (caseIn units [] [] events))
+  pub short : length units ≤ longestFile
+  pub groups-reach : length events / eventWidth ≤ length groups
+  pub grouped : Holds (length events / eventWidth) groups (groupOf (caseIn units [] [] events))

@@ -6,6 +6,7 @@ ghost use Prim.Native.Nat.{_*_, _/_, _≤_, _<_};
 ghost use lib.ListN.{length, drop, getD};
 ghost use Rattle.binary.specs.Bounded.{maskTo};
 ghost use Rattle.binary.specs.Lists.{listTo, Holds};
+ghost use Rattle.casefile.specs.Layout.{cellWidth, hours, eventWidth, unitWidth, mostEvents, longestFile};
 ghost use Rattle.casefile.specs.Decode.{unitsIn, referencesIn, eventsIn, caseIn};
 ghost use Rattle.casefile.specs.Lookup.{unitOf, groupOf, UnitsInOrder, InOrder};
 ghost use Rattle.casefile.specs.Refusal.{eventsListed};
@@ -52,7 +53,7 @@ fn withheld_hour(
     p: u32,
     h: usize,
 ) -> bool
-    requires { ⌜ (h < 24) × (length (now cells) ≡ 288) × (length (now sums) ≡ 24) × (getD (now sums) h 0 ≤ 1099511627776) ⌝ }
+    requires { ⌜ (h < hours) × (length (now cells) ≡ cellWidth * hours) × (length (now sums) ≡ hours) × (getD (now sums) h 0 ≤ 1099511627776) ⌝ }
     ensures { λ r. ⌜ r ≡ withheldIn (now (cells .entry)) (now (sums .entry)) capability g constrained p h ⌝ }
 {
     let cell = cell_at(cells, h);
@@ -69,9 +70,9 @@ fn withheld_mask(
     constrained: bool,
     p: u32,
 ) -> u32
-    requires { ⌜ (length (now cells) ≡ 288) × (length (now sums) ≡ 24) ⌝ }
+    requires { ⌜ (length (now cells) ≡ cellWidth * hours) × (length (now sums) ≡ hours) ⌝ }
     requires { ⌜ SmallRow (now sums) ⌝ }
-    ensures { λ r. ⌜ r ≡ maskTo 24 (withheldIn (now (cells .entry)) (now (sums .entry)) capability g constrained p) ⌝ }
+    ensures { λ r. ⌜ r ≡ maskTo hours (withheldIn (now (cells .entry)) (now (sums .entry)) capability g constrained p) ⌝ }
 {
     let mut mask: u32 = 0;
     let mut weight: u32 = 1;
@@ -87,11 +88,11 @@ fn withheld_mask(
 
 // The flagged hours of a withheld event; g is the listed capability of its group and sums are S of its party.
 fn withheld_event(units: &[u8], events: &[u8], place: usize, g: u64, sums: &[u64], i: usize) -> u32
-    requires { ⌜ (i < length (now events) / 312) × (place < length (now units) / 24) × (length (now sums) ≡ 24) ⌝ }
+    requires { ⌜ (i < length (now events) / eventWidth) × (place < length (now units) / unitWidth) × (length (now sums) ≡ hours) ⌝ }
     requires { ⌜ (place ≡ unitOf (caseIn (now units) [] [] (now events)) i) × (g ≡ groupCapability (caseIn (now units) [] [] (now events)) i) ⌝ }
     requires { ⌜ SmallRow (now sums) ⌝ }
     requires { ⌜ HasRow (groupSum (caseIn (now units) [] [] (now events)) i) (now sums) ⌝ }
-    ensures { λ r. ⌜ r ≡ maskTo 24 (withheldFlag (caseIn (now (units .entry)) [] [] (now (events .entry))) i) ⌝ }
+    ensures { λ r. ⌜ r ≡ maskTo hours (withheldFlag (caseIn (now (units .entry)) [] [] (now (events .entry))) i) ⌝ }
 {
     let event = record_at(events, i, layout::EVENT_WIDTH);
     let p = load_u32(event, 12);
@@ -102,7 +103,7 @@ fn withheld_event(units: &[u8], events: &[u8], place: usize, g: u64, sums: &[u64
 }
 
 fn dispatch_hour(cells: &[u8], sums: &[u64], rate: u32, constrained: bool, p: u32, h: usize) -> bool
-    requires { ⌜ (h < 24) × (length (now cells) ≡ 288) × (length (now sums) ≡ 24) ⌝ }
+    requires { ⌜ (h < hours) × (length (now cells) ≡ cellWidth * hours) × (length (now sums) ≡ hours) ⌝ }
     ensures { λ r. ⌜ r ≡ dispatchIn (now (cells .entry)) (now (sums .entry)) rate constrained p h ⌝ }
 {
     let cell = cell_at(cells, h);
@@ -112,8 +113,8 @@ fn dispatch_hour(cells: &[u8], sums: &[u64], rate: u32, constrained: bool, p: u3
 }
 
 fn dispatch_mask(cells: &[u8], sums: &[u64], rate: u32, constrained: bool, p: u32) -> u32
-    requires { ⌜ (length (now cells) ≡ 288) × (length (now sums) ≡ 24) ⌝ }
-    ensures { λ r. ⌜ r ≡ maskTo 24 (dispatchIn (now (cells .entry)) (now (sums .entry)) rate constrained p) ⌝ }
+    requires { ⌜ (length (now cells) ≡ cellWidth * hours) × (length (now sums) ≡ hours) ⌝ }
+    ensures { λ r. ⌜ r ≡ maskTo hours (dispatchIn (now (cells .entry)) (now (sums .entry)) rate constrained p) ⌝ }
 {
     let mut mask: u32 = 0;
     let mut weight: u32 = 1;
@@ -129,10 +130,10 @@ fn dispatch_mask(cells: &[u8], sums: &[u64], rate: u32, constrained: bool, p: u3
 
 // The flagged hours of a dispatch event; sums are S of its party.
 fn dispatch_event(units: &[u8], events: &[u8], place: usize, sums: &[u64], i: usize) -> u32
-    requires { ⌜ (i < length (now events) / 312) × (place < length (now units) / 24) × (length (now sums) ≡ 24) ⌝ }
+    requires { ⌜ (i < length (now events) / eventWidth) × (place < length (now units) / unitWidth) × (length (now sums) ≡ hours) ⌝ }
     requires { ⌜ place ≡ unitOf (caseIn (now units) [] [] (now events)) i ⌝ }
     requires { ⌜ HasRow (groupSum (caseIn (now units) [] [] (now events)) i) (now sums) ⌝ }
-    ensures { λ r. ⌜ r ≡ maskTo 24 (dispatchFlag (caseIn (now (units .entry)) [] [] (now (events .entry))) i) ⌝ }
+    ensures { λ r. ⌜ r ≡ maskTo hours (dispatchFlag (caseIn (now (units .entry)) [] [] (now (events .entry))) i) ⌝ }
 {
     let event = record_at(events, i, layout::EVENT_WIDTH);
     let p = load_u32(event, 12);
@@ -144,8 +145,8 @@ fn dispatch_event(units: &[u8], events: &[u8], place: usize, sums: &[u64], i: us
 
 // The union of P over a party-day: the hours that some event of it has.
 fn fuel_mask(sums: &[u64]) -> u32
-    requires { ⌜ length (now sums) ≡ 24 ⌝ }
-    ensures { λ r. ⌜ r ≡ maskTo 24 (fuelIn (now (sums .entry))) ⌝ }
+    requires { ⌜ length (now sums) ≡ hours ⌝ }
+    ensures { λ r. ⌜ r ≡ maskTo hours (fuelIn (now (sums .entry))) ⌝ }
 {
     let mut mask: u32 = 0;
     let mut weight: u32 = 1;
@@ -160,7 +161,7 @@ fn fuel_mask(sums: &[u64]) -> u32
 
 // The flagged hours of a fuel event: its leader's where that is an earlier event, else found from sums, those of its party.
 fn fuel_event(sums: &[u64], masks: &[u32], leader: usize, i: usize) -> u32
-    requires { ⌜ (length (now sums) ≡ 24) × (i ≤ length (now masks)) ⌝ }
+    requires { ⌜ (length (now sums) ≡ hours) × (i ≤ length (now masks)) ⌝ }
     ensures { λ r. ⌜ r ≡ fuelMaskIn (now (sums .entry)) (now (masks .entry)) leader i ⌝ }
 {
     if leader < i {
@@ -171,7 +172,7 @@ fn fuel_event(sums: &[u64], masks: &[u32], leader: usize, i: usize) -> u32
 
 // Whether the event before i has a time component too, and the same unit, day and market: its time totals are event i's.
 fn same_time_totals(events: &[u8], i: usize) -> bool
-    requires { ⌜ i < length (now events) / 312 ⌝ }
+    requires { ⌜ i < length (now events) / eventWidth ⌝ }
     ensures { λ r. ⌜ r ≡ sameTotals (eventsIn (now (events .entry))) i ⌝ }
 {
     if i == 0 {
@@ -188,8 +189,8 @@ fn same_time_totals(events: &[u8], i: usize) -> bool
 
 // The time totals of event i's unit, day and market, where its component reads them; before are those that the event before it read.
 fn bid_totals(events: &[u8], levels: &[u32], keys: &[u64], i: usize, before: [u64; 24]) -> [u64; 24]
-    requires { ⌜ (i < length (now events) / 312) × (length (now events) / 312 ≤ 200) × (length (now events) / 312 ≤ length (now levels)) × (length (now events) / 312 ≤ length (now keys)) ⌝ }
-    requires { ⌜ Holds (length (now events) / 312) (now keys) (timeKey (eventsIn (now events))) ⌝ }
+    requires { ⌜ (i < length (now events) / eventWidth) × (length (now events) / eventWidth ≤ mostEvents) × (length (now events) / eventWidth ≤ length (now levels)) × (length (now events) / eventWidth ≤ length (now keys)) ⌝ }
+    requires { ⌜ Holds (length (now events) / eventWidth) (now keys) (timeKey (eventsIn (now events))) ⌝ }
     requires { ⌜ HasRow (totalBefore (caseIn [] [] [] (now events)) (now levels) i) before ⌝ }
     ensures { λ r. ⌜ HasRow (totalRead (caseIn [] [] [] (now (events .entry))) (now (levels .entry)) i) r ⌝ }
 {
@@ -208,7 +209,7 @@ fn bid_totals(events: &[u8], levels: &[u32], keys: &[u64], i: usize, before: [u6
 }
 
 fn bid_hour(cells: &[u8], totals: &[u64], bid: Bid, h: usize) -> bool
-    requires { ⌜ (h < 24) × (length (now cells) ≡ 288) × (length (now totals) ≡ 24) ⌝ }
+    requires { ⌜ (h < hours) × (length (now cells) ≡ cellWidth * hours) × (length (now totals) ≡ hours) ⌝ }
     ensures { λ r. ⌜ r ≡ bidIn (now (cells .entry)) (now (totals .entry)) bid h ⌝ }
 {
     let component = bid.component;
@@ -234,8 +235,8 @@ fn bid_hour(cells: &[u8], totals: &[u64], bid: Bid, h: usize) -> bool
 }
 
 fn bid_mask(cells: &[u8], totals: &[u64], bid: Bid) -> u32
-    requires { ⌜ (length (now cells) ≡ 288) × (length (now totals) ≡ 24) ⌝ }
-    ensures { λ r. ⌜ r ≡ maskTo 24 (bidIn (now (cells .entry)) (now (totals .entry)) bid) ⌝ }
+    requires { ⌜ (length (now cells) ≡ cellWidth * hours) × (length (now totals) ≡ hours) ⌝ }
+    ensures { λ r. ⌜ r ≡ maskTo hours (bidIn (now (cells .entry)) (now (totals .entry)) bid) ⌝ }
 {
     let mut mask: u32 = 0;
     let mut weight: u32 = 1;
@@ -257,10 +258,10 @@ fn bid_event(
     place: usize,
     i: usize,
 ) -> u32
-    requires { ⌜ (i < length (now events) / 312) × (length (now events) / 312 ≤ length (now levels)) × (length (now totals) ≡ 24) × (place < length (now units) / 24) ⌝ }
+    requires { ⌜ (i < length (now events) / eventWidth) × (length (now events) / eventWidth ≤ length (now levels)) × (length (now totals) ≡ hours) × (place < length (now units) / unitWidth) ⌝ }
     requires { ⌜ place ≡ unitOf (caseIn (now units) [] [] (now events)) i ⌝ }
     requires { ⌜ HasRow (totalRead (caseIn [] [] [] (now events)) (now levels) i) (now totals) ⌝ }
-    ensures { λ r. ⌜ r ≡ maskTo 24 (bidFlagIn (caseIn (now (units .entry)) [] [] (now (events .entry))) (now (levels .entry)) i) ⌝ }
+    ensures { λ r. ⌜ r ≡ maskTo hours (bidFlagIn (caseIn (now (units .entry)) [] [] (now (events .entry))) (now (levels .entry)) i) ⌝ }
 {
     let event = record_at(events, i, layout::EVENT_WIDTH);
     let unit = record_at(units, place, layout::UNIT_WIDTH);
@@ -291,10 +292,10 @@ fn event_mask(
     i: usize,
 ) -> u32
     requires { ⌜ Led (now units) (now events) (now places) (now leaders) (now levels) ⌝ }
-    requires { ⌜ HasSums (caseIn [] [] [] (now events)) (now leaders) (length (now events) / 312) (length (now events) / 312) (now sums) ⌝ }
-    requires { ⌜ (24 * (length (now events) / 312) ≤ length (now sums)) × (length (now totals) ≡ 24) × (i < length (now events) / 312) × (length (now events) / 312 ≤ length (now capabilities)) × (i ≤ length (now masks)) ⌝ }
+    requires { ⌜ HasSums (caseIn [] [] [] (now events)) (now leaders) (length (now events) / eventWidth) (length (now events) / eventWidth) (now sums) ⌝ }
+    requires { ⌜ (hours * (length (now events) / eventWidth) ≤ length (now sums)) × (length (now totals) ≡ hours) × (i < length (now events) / eventWidth) × (length (now events) / eventWidth ≤ length (now capabilities)) × (i ≤ length (now masks)) ⌝ }
     requires { ⌜ HasRow (totalRead (caseIn [] [] [] (now events)) (now levels) i) (now totals) ⌝ }
-    requires { ⌜ Holds (length (now events) / 312) (now capabilities) (listedCapability (caseIn (now units) [] [] (now events))) ⌝ }
+    requires { ⌜ Holds (length (now events) / eventWidth) (now capabilities) (listedCapability (caseIn (now units) [] [] (now events))) ⌝ }
     requires { ⌜ Holds i (now masks) (flagMaskIn (caseIn (now units) [] [] (now events)) (now levels)) ⌝ }
     ensures { λ r. ⌜ r ≡ flagMaskIn (caseIn (now (units .entry)) [] [] (now (events .entry))) (now (levels .entry)) i ⌝ }
 {
@@ -331,11 +332,11 @@ fn event_masks(
     masks: &mut [u32],
 )
     requires { ⌜ Led (now units) (now events) (now places) (now leaders) (now levels) ⌝ }
-    requires { ⌜ HasSums (caseIn [] [] [] (now events)) (now leaders) (length (now events) / 312) (length (now events) / 312) (now sums) ⌝ }
-    requires { ⌜ (24 * (length (now events) / 312) ≤ length (now sums)) × (length (now events) / 312 ≤ length (now capabilities)) × (length (now events) / 312 ≤ length (now keys)) × (length (now events) / 312 ≤ length (now masks)) ⌝ }
-    requires { ⌜ Holds (length (now events) / 312) (now keys) (timeKey (eventsIn (now events))) ⌝ }
-    requires { ⌜ Holds (length (now events) / 312) (now capabilities) (listedCapability (caseIn (now units) [] [] (now events))) ⌝ }
-    ensures { λ _. ⌜ now (masks .exit) ≡ listTo (length (now (events .entry)) / 312) (flagMaskIn (caseIn (now (units .entry)) [] [] (now (events .entry))) (now (levels .entry))) ++ drop (length (now (events .entry)) / 312) (now (masks .entry)) ⌝ }
+    requires { ⌜ HasSums (caseIn [] [] [] (now events)) (now leaders) (length (now events) / eventWidth) (length (now events) / eventWidth) (now sums) ⌝ }
+    requires { ⌜ (hours * (length (now events) / eventWidth) ≤ length (now sums)) × (length (now events) / eventWidth ≤ length (now capabilities)) × (length (now events) / eventWidth ≤ length (now keys)) × (length (now events) / eventWidth ≤ length (now masks)) ⌝ }
+    requires { ⌜ Holds (length (now events) / eventWidth) (now keys) (timeKey (eventsIn (now events))) ⌝ }
+    requires { ⌜ Holds (length (now events) / eventWidth) (now capabilities) (listedCapability (caseIn (now units) [] [] (now events))) ⌝ }
+    ensures { λ _. ⌜ now (masks .exit) ≡ listTo (length (now (events .entry)) / eventWidth) (flagMaskIn (caseIn (now (units .entry)) [] [] (now (events .entry))) (now (levels .entry))) ++ drop (length (now (events .entry)) / eventWidth) (now (masks .entry)) ⌝ }
 {
     let n = events.len() / layout::EVENT_WIDTH;
     let mut totals = [0u64; 24];
@@ -372,9 +373,9 @@ fn fill_masks(
     masks: &mut [u32],
 )
     requires { ⌜ Found (now units) (now events) (now places) (now groups) (now leaders) (now levels) ⌝ }
-    requires { ⌜ (24 * (length (now events) / 312) ≤ length (now sums)) × (length (now events) / 312 ≤ length (now capabilities)) × (length (now events) / 312 ≤ length (now keys)) × (length (now events) / 312 ≤ length (now masks)) ⌝ }
+    requires { ⌜ (hours * (length (now events) / eventWidth) ≤ length (now sums)) × (length (now events) / eventWidth ≤ length (now capabilities)) × (length (now events) / eventWidth ≤ length (now keys)) × (length (now events) / eventWidth ≤ length (now masks)) ⌝ }
     requires { ⌜ Zeros (now sums) ⌝ }
-    ensures { λ _. ⌜ now (masks .exit) ≡ listTo (length (now (events .entry)) / 312) (flagMaskIn (caseIn (now (units .entry)) [] [] (now (events .entry))) (now (levels .entry))) ++ drop (length (now (events .entry)) / 312) (now (masks .entry)) ⌝ }
+    ensures { λ _. ⌜ now (masks .exit) ≡ listTo (length (now (events .entry)) / eventWidth) (flagMaskIn (caseIn (now (units .entry)) [] [] (now (events .entry))) (now (levels .entry))) ++ drop (length (now (events .entry)) / eventWidth) (now (masks .entry)) ⌝ }
 {
     party_sums(events, leaders, sums);
     listed_capabilities(units, events, groups, leaders, capabilities);
@@ -403,8 +404,8 @@ fn small_case_masks(
     masks: &mut [u32],
 )
     requires { ⌜ Found (now units) (now events) (now places) (now groups) (now leaders) (now levels) ⌝ }
-    requires { ⌜ (length (now events) / 312 ≤ 8) × (length (now events) / 312 ≤ length (now masks)) ⌝ }
-    ensures { λ _. ⌜ now (masks .exit) ≡ listTo (length (now (events .entry)) / 312) (flagMaskIn (caseIn (now (units .entry)) [] [] (now (events .entry))) (now (levels .entry))) ++ drop (length (now (events .entry)) / 312) (now (masks .entry)) ⌝ }
+    requires { ⌜ (length (now events) / eventWidth ≤ 8) × (length (now events) / eventWidth ≤ length (now masks)) ⌝ }
+    ensures { λ _. ⌜ now (masks .exit) ≡ listTo (length (now (events .entry)) / eventWidth) (flagMaskIn (caseIn (now (units .entry)) [] [] (now (events .entry))) (now (levels .entry))) ++ drop (length (now (events .entry)) / eventWidth) (now (masks .entry)) ⌝ }
 {
     let mut sums = [0u64; 192];
     let mut capabilities = [0u64; 8];
@@ -434,8 +435,8 @@ fn flag_masks(
     masks: &mut [u32],
 )
     requires { ⌜ Found (now units) (now events) (now places) (now groups) (now leaders) (now levels) ⌝ }
-    requires { ⌜ length (now events) / 312 ≤ length (now masks) ⌝ }
-    ensures { λ _. ⌜ now (masks .exit) ≡ listTo (length (now (events .entry)) / 312) (flagMaskIn (caseIn (now (units .entry)) [] [] (now (events .entry))) (now (levels .entry))) ++ drop (length (now (events .entry)) / 312) (now (masks .entry)) ⌝ }
+    requires { ⌜ length (now events) / eventWidth ≤ length (now masks) ⌝ }
+    ensures { λ _. ⌜ now (masks .exit) ≡ listTo (length (now (events .entry)) / eventWidth) (flagMaskIn (caseIn (now (units .entry)) [] [] (now (events .entry))) (now (levels .entry))) ++ drop (length (now (events .entry)) / eventWidth) (now (masks .entry)) ⌝ }
 {
     if events.len() / layout::EVENT_WIDTH <= 8 {
         small_case_masks(units, events, places, groups, leaders, levels, masks);
@@ -472,19 +473,19 @@ pub fn find_flags(
 )
     requires { ⌜ UnitsInOrder (now units) × (eventsListed (unitsIn (now units)) (eventsIn (now events)) ≡ true) ⌝ }
     requires { ⌜ InOrder (now references) × (levelsFound (referencesIn (now references)) (eventsIn (now events)) ≡ true) ⌝ }
-    requires { ⌜ (length (now units) ≤ 65000) × (length (now events) / 312 ≤ 200) ⌝ }
-    requires { ⌜ length (now events) / 312 ≤ length (now places) ⌝ }
-    requires { ⌜ length (now events) / 312 ≤ length (now groups) ⌝ }
-    requires { ⌜ length (now events) / 312 ≤ length (now keys) ⌝ }
-    requires { ⌜ length (now events) / 312 ≤ length (now leaders) ⌝ }
-    requires { ⌜ length (now events) / 312 ≤ length (now levels) ⌝ }
-    requires { ⌜ length (now events) / 312 ≤ length (now masks) ⌝ }
-    ensures placed { λ _. ⌜ now (places .exit) ≡ listTo (length (now (events .entry)) / 312) (unitOf (caseIn (now (units .entry)) (now (references .entry)) [] (now (events .entry)))) ++ drop (length (now (events .entry)) / 312) (now (places .entry)) ⌝ }
-    ensures grouped { λ _. ⌜ now (groups .exit) ≡ listTo (length (now (events .entry)) / 312) (groupOf (caseIn (now (units .entry)) (now (references .entry)) [] (now (events .entry)))) ++ drop (length (now (events .entry)) / 312) (now (groups .entry)) ⌝ }
-    ensures keyed { λ _. ⌜ now (keys .exit) ≡ listTo (length (now (events .entry)) / 312) (partyKey (caseIn (now (units .entry)) (now (references .entry)) [] (now (events .entry)))) ++ drop (length (now (events .entry)) / 312) (now (keys .entry)) ⌝ }
-    ensures led { λ _. ⌜ now (leaders .exit) ≡ listTo (length (now (events .entry)) / 312) (leaderOf (caseIn (now (units .entry)) (now (references .entry)) [] (now (events .entry)))) ++ drop (length (now (events .entry)) / 312) (now (leaders .entry)) ⌝ }
-    ensures levelled { λ _. ⌜ now (levels .exit) ≡ listTo (length (now (events .entry)) / 312) (bidLevel (referencesIn (now (references .entry))) (eventsIn (now (events .entry)))) ++ drop (length (now (events .entry)) / 312) (now (levels .entry)) ⌝ }
-    ensures flagged { λ _. ⌜ now (masks .exit) ≡ listTo (length (now (events .entry)) / 312) (flagMask (caseIn (now (units .entry)) (now (references .entry)) [] (now (events .entry)))) ++ drop (length (now (events .entry)) / 312) (now (masks .entry)) ⌝ }
+    requires { ⌜ (length (now units) ≤ longestFile) × (length (now events) / eventWidth ≤ mostEvents) ⌝ }
+    requires { ⌜ length (now events) / eventWidth ≤ length (now places) ⌝ }
+    requires { ⌜ length (now events) / eventWidth ≤ length (now groups) ⌝ }
+    requires { ⌜ length (now events) / eventWidth ≤ length (now keys) ⌝ }
+    requires { ⌜ length (now events) / eventWidth ≤ length (now leaders) ⌝ }
+    requires { ⌜ length (now events) / eventWidth ≤ length (now levels) ⌝ }
+    requires { ⌜ length (now events) / eventWidth ≤ length (now masks) ⌝ }
+    ensures placed { λ _. ⌜ now (places .exit) ≡ listTo (length (now (events .entry)) / eventWidth) (unitOf (caseIn (now (units .entry)) (now (references .entry)) [] (now (events .entry)))) ++ drop (length (now (events .entry)) / eventWidth) (now (places .entry)) ⌝ }
+    ensures grouped { λ _. ⌜ now (groups .exit) ≡ listTo (length (now (events .entry)) / eventWidth) (groupOf (caseIn (now (units .entry)) (now (references .entry)) [] (now (events .entry)))) ++ drop (length (now (events .entry)) / eventWidth) (now (groups .entry)) ⌝ }
+    ensures keyed { λ _. ⌜ now (keys .exit) ≡ listTo (length (now (events .entry)) / eventWidth) (partyKey (caseIn (now (units .entry)) (now (references .entry)) [] (now (events .entry)))) ++ drop (length (now (events .entry)) / eventWidth) (now (keys .entry)) ⌝ }
+    ensures led { λ _. ⌜ now (leaders .exit) ≡ listTo (length (now (events .entry)) / eventWidth) (leaderOf (caseIn (now (units .entry)) (now (references .entry)) [] (now (events .entry)))) ++ drop (length (now (events .entry)) / eventWidth) (now (leaders .entry)) ⌝ }
+    ensures levelled { λ _. ⌜ now (levels .exit) ≡ listTo (length (now (events .entry)) / eventWidth) (bidLevel (referencesIn (now (references .entry))) (eventsIn (now (events .entry)))) ++ drop (length (now (events .entry)) / eventWidth) (now (levels .entry)) ⌝ }
+    ensures flagged { λ _. ⌜ now (masks .exit) ≡ listTo (length (now (events .entry)) / eventWidth) (flagMask (caseIn (now (units .entry)) (now (references .entry)) [] (now (events .entry)))) ++ drop (length (now (events .entry)) / eventWidth) (now (masks .entry)) ⌝ }
 {
     find_parties(units, events, places, groups, keys, leaders);
     reference_levels(references, events, levels);

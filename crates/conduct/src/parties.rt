@@ -5,6 +5,7 @@ ghost use mathlib.Core.Path.{_≡_};
 ghost use Prim.Native.Nat.{_+_, _*_, _/_, _≤_, _<_};
 ghost use lib.ListN.{length, drop};
 ghost use Rattle.binary.specs.Lists.{listTo, Holds};
+ghost use Rattle.casefile.specs.Layout.{eventWidth, unitWidth};
 ghost use Rattle.casefile.specs.Decode.{unitsIn, referencesIn, eventsIn, caseIn};
 ghost use Rattle.casefile.specs.Lookup.{unitOf, groupOf, UnitsInOrder, InOrder};
 ghost use Rattle.casefile.specs.Refusal.{eventsListed};
@@ -20,7 +21,7 @@ use casefile::units::unit_place;
 
 // The place of event i's unit.
 fn event_place(units: &[u8], events: &[u8], i: usize) -> usize
-    requires { ⌜ (i < length (now events) / 312) × UnitsInOrder (now units) ⌝ }
+    requires { ⌜ (i < length (now events) / eventWidth) × UnitsInOrder (now units) ⌝ }
     ensures { λ r. ⌜ r ≡ unitOf (caseIn (now (units .entry)) [] [] (now (events .entry))) i ⌝ }
 {
     let event = record_at(events, i, layout::EVENT_WIDTH);
@@ -28,8 +29,8 @@ fn event_place(units: &[u8], events: &[u8], i: usize) -> usize
 }
 
 pub fn unit_places(units: &[u8], events: &[u8], places: &mut [usize])
-    requires { ⌜ UnitsInOrder (now units) × (length (now events) / 312 ≤ length (now places)) ⌝ }
-    ensures { λ _. ⌜ now (places .exit) ≡ listTo (length (now (events .entry)) / 312) (unitOf (caseIn (now (units .entry)) [] [] (now (events .entry)))) ++ drop (length (now (events .entry)) / 312) (now (places .entry)) ⌝ }
+    requires { ⌜ UnitsInOrder (now units) × (length (now events) / eventWidth ≤ length (now places)) ⌝ }
+    ensures { λ _. ⌜ now (places .exit) ≡ listTo (length (now (events .entry)) / eventWidth) (unitOf (caseIn (now (units .entry)) [] [] (now (events .entry)))) ++ drop (length (now (events .entry)) / eventWidth) (now (places .entry)) ⌝ }
 {
     let n = events.len() / layout::EVENT_WIDTH;
     let mut i = 0;
@@ -41,7 +42,7 @@ pub fn unit_places(units: &[u8], events: &[u8], places: &mut [usize])
 
 // The group of the unit at a place.
 fn group_at(units: &[u8], place: usize) -> u16
-    requires { ⌜ place < length (now units) / 24 ⌝ }
+    requires { ⌜ place < length (now units) / unitWidth ⌝ }
     ensures { λ r. ⌜ r ≡ unitsIn (now (units .entry)) .group place ⌝ }
 {
     load_u16(record_at(units, place, layout::UNIT_WIDTH), 2)
@@ -49,10 +50,10 @@ fn group_at(units: &[u8], place: usize) -> u16
 
 pub fn party_groups(units: &[u8], events: &[u8], places: &[usize], groups: &mut [u16])
     requires { ⌜ eventsListed (unitsIn (now units)) (eventsIn (now events)) ≡ true ⌝ }
-    requires { ⌜ length (now events) / 312 ≤ length (now places) ⌝ }
-    requires { ⌜ Holds (length (now events) / 312) (now places) (unitOf (caseIn (now units) [] [] (now events))) ⌝ }
-    requires { ⌜ length (now events) / 312 ≤ length (now groups) ⌝ }
-    ensures { λ _. ⌜ now (groups .exit) ≡ listTo (length (now (events .entry)) / 312) (groupOf (caseIn (now (units .entry)) [] [] (now (events .entry)))) ++ drop (length (now (events .entry)) / 312) (now (groups .entry)) ⌝ }
+    requires { ⌜ length (now events) / eventWidth ≤ length (now places) ⌝ }
+    requires { ⌜ Holds (length (now events) / eventWidth) (now places) (unitOf (caseIn (now units) [] [] (now events))) ⌝ }
+    requires { ⌜ length (now events) / eventWidth ≤ length (now groups) ⌝ }
+    ensures { λ _. ⌜ now (groups .exit) ≡ listTo (length (now (events .entry)) / eventWidth) (groupOf (caseIn (now (units .entry)) [] [] (now (events .entry)))) ++ drop (length (now (events .entry)) / eventWidth) (now (groups .entry)) ⌝ }
 {
     let n = events.len() / layout::EVENT_WIDTH;
     let mut i = 0;
@@ -70,7 +71,7 @@ pub fn pack(kind: u8, market: u8, group: u16, day: u32) -> u64
 }
 
 fn party_key(events: &[u8], groups: &[u16], i: usize) -> u64
-    requires { ⌜ (i < length (now events) / 312) × (i < length (now groups)) ⌝ }
+    requires { ⌜ (i < length (now events) / eventWidth) × (i < length (now groups)) ⌝ }
     ensures { λ r. ⌜ r ≡ keyIn (eventsIn (now (events .entry))) (now (groups .entry)) i ⌝ }
 {
     let event = record_at(events, i, layout::EVENT_WIDTH);
@@ -81,9 +82,9 @@ fn party_key(events: &[u8], groups: &[u16], i: usize) -> u64
 }
 
 pub fn party_keys(events: &[u8], groups: &[u16], keys: &mut [u64])
-    requires { ⌜ length (now events) / 312 ≤ length (now groups) ⌝ }
-    requires { ⌜ length (now events) / 312 ≤ length (now keys) ⌝ }
-    ensures { λ _. ⌜ now (keys .exit) ≡ listTo (length (now (events .entry)) / 312) (keyIn (eventsIn (now (events .entry))) (now (groups .entry))) ++ drop (length (now (events .entry)) / 312) (now (keys .entry)) ⌝ }
+    requires { ⌜ length (now events) / eventWidth ≤ length (now groups) ⌝ }
+    requires { ⌜ length (now events) / eventWidth ≤ length (now keys) ⌝ }
+    ensures { λ _. ⌜ now (keys .exit) ≡ listTo (length (now (events .entry)) / eventWidth) (keyIn (eventsIn (now (events .entry))) (now (groups .entry))) ++ drop (length (now (events .entry)) / eventWidth) (now (keys .entry)) ⌝ }
 {
     let n = events.len() / layout::EVENT_WIDTH;
     let mut i = 0;
@@ -130,14 +131,14 @@ pub fn find_parties(
     leaders: &mut [usize],
 )
     requires { ⌜ UnitsInOrder (now units) × (eventsListed (unitsIn (now units)) (eventsIn (now events)) ≡ true) ⌝ }
-    requires { ⌜ length (now events) / 312 ≤ length (now places) ⌝ }
-    requires { ⌜ length (now events) / 312 ≤ length (now groups) ⌝ }
-    requires { ⌜ length (now events) / 312 ≤ length (now keys) ⌝ }
-    requires { ⌜ length (now events) / 312 ≤ length (now leaders) ⌝ }
-    ensures placed { λ _. ⌜ now (places .exit) ≡ listTo (length (now (events .entry)) / 312) (unitOf (caseIn (now (units .entry)) [] [] (now (events .entry)))) ++ drop (length (now (events .entry)) / 312) (now (places .entry)) ⌝ }
-    ensures grouped { λ _. ⌜ now (groups .exit) ≡ listTo (length (now (events .entry)) / 312) (groupOf (caseIn (now (units .entry)) [] [] (now (events .entry)))) ++ drop (length (now (events .entry)) / 312) (now (groups .entry)) ⌝ }
-    ensures keyed { λ _. ⌜ now (keys .exit) ≡ listTo (length (now (events .entry)) / 312) (partyKey (caseIn (now (units .entry)) [] [] (now (events .entry)))) ++ drop (length (now (events .entry)) / 312) (now (keys .entry)) ⌝ }
-    ensures led { λ _. ⌜ now (leaders .exit) ≡ listTo (length (now (events .entry)) / 312) (leaderOf (caseIn (now (units .entry)) [] [] (now (events .entry)))) ++ drop (length (now (events .entry)) / 312) (now (leaders .entry)) ⌝ }
+    requires { ⌜ length (now events) / eventWidth ≤ length (now places) ⌝ }
+    requires { ⌜ length (now events) / eventWidth ≤ length (now groups) ⌝ }
+    requires { ⌜ length (now events) / eventWidth ≤ length (now keys) ⌝ }
+    requires { ⌜ length (now events) / eventWidth ≤ length (now leaders) ⌝ }
+    ensures placed { λ _. ⌜ now (places .exit) ≡ listTo (length (now (events .entry)) / eventWidth) (unitOf (caseIn (now (units .entry)) [] [] (now (events .entry)))) ++ drop (length (now (events .entry)) / eventWidth) (now (places .entry)) ⌝ }
+    ensures grouped { λ _. ⌜ now (groups .exit) ≡ listTo (length (now (events .entry)) / eventWidth) (groupOf (caseIn (now (units .entry)) [] [] (now (events .entry)))) ++ drop (length (now (events .entry)) / eventWidth) (now (groups .entry)) ⌝ }
+    ensures keyed { λ _. ⌜ now (keys .exit) ≡ listTo (length (now (events .entry)) / eventWidth) (partyKey (caseIn (now (units .entry)) [] [] (now (events .entry)))) ++ drop (length (now (events .entry)) / eventWidth) (now (keys .entry)) ⌝ }
+    ensures led { λ _. ⌜ now (leaders .exit) ≡ listTo (length (now (events .entry)) / eventWidth) (leaderOf (caseIn (now (units .entry)) [] [] (now (events .entry)))) ++ drop (length (now (events .entry)) / eventWidth) (now (leaders .entry)) ⌝ }
 {
     unit_places(units, events, places);
     party_groups(units, events, places, groups);
@@ -147,7 +148,7 @@ pub fn find_parties(
 
 // The reference level of event i where it is a bid, else 0.
 fn event_level(references: &[u8], events: &[u8], i: usize) -> u32
-    requires { ⌜ (i < length (now events) / 312) × InOrder (now references) × (levelFound (referencesIn (now references)) (eventsIn (now events)) i ≡ true) ⌝ }
+    requires { ⌜ (i < length (now events) / eventWidth) × InOrder (now references) × (levelFound (referencesIn (now references)) (eventsIn (now events)) i ≡ true) ⌝ }
     ensures { λ r. ⌜ r ≡ bidLevel (referencesIn (now (references .entry))) (eventsIn (now (events .entry))) i ⌝ }
 {
     let event = record_at(events, i, layout::EVENT_WIDTH);
@@ -162,8 +163,8 @@ fn event_level(references: &[u8], events: &[u8], i: usize) -> u32
 
 pub fn reference_levels(references: &[u8], events: &[u8], levels: &mut [u32])
     requires { ⌜ InOrder (now references) × (levelsFound (referencesIn (now references)) (eventsIn (now events)) ≡ true) ⌝ }
-    requires { ⌜ length (now events) / 312 ≤ length (now levels) ⌝ }
-    ensures { λ _. ⌜ now (levels .exit) ≡ listTo (length (now (events .entry)) / 312) (bidLevel (referencesIn (now (references .entry))) (eventsIn (now (events .entry)))) ++ drop (length (now (events .entry)) / 312) (now (levels .entry)) ⌝ }
+    requires { ⌜ length (now events) / eventWidth ≤ length (now levels) ⌝ }
+    ensures { λ _. ⌜ now (levels .exit) ≡ listTo (length (now (events .entry)) / eventWidth) (bidLevel (referencesIn (now (references .entry))) (eventsIn (now (events .entry)))) ++ drop (length (now (events .entry)) / eventWidth) (now (levels .entry)) ⌝ }
 {
     let n = events.len() / layout::EVENT_WIDTH;
     let mut i = 0;

@@ -7,6 +7,7 @@ ghost use lib.Dec.{eqb};
 ghost use lib.ListN.{length, getD};
 ghost use Rattle.binary.specs.Bounded.{bitOf};
 ghost use Rattle.binary.specs.Lists.{Holds};
+ghost use Rattle.casefile.specs.Layout.{eventWidth, cellWidth, hours, mostEvents, unitWidth, longestFile};
 ghost use Rattle.casefile.specs.Decode.{unitsIn, eventsIn, amountsIn, caseIn};
 ghost use Rattle.casefile.specs.Lookup.{groupOf};
 ghost use Rattle.casefile.specs.Read.{cellOf};
@@ -26,8 +27,8 @@ use tariff::conduct::increase;
 
 // The part of event i where its cells begin.
 pub fn cells_of(events: &[u8], i: usize) -> &[u8]
-    requires { ⌜ i < length (now events) / 312 ⌝ }
-    ensures { λ r. ⌜ (now r ≡ cellsIn (now (events .entry)) i) × (length (now r) ≡ 288) ⌝ }
+    requires { ⌜ i < length (now events) / eventWidth ⌝ }
+    ensures { λ r. ⌜ (now r ≡ cellsIn (now (events .entry)) i) × (length (now r) ≡ cellWidth * hours) ⌝ }
 {
     let event = record_at(events, i, layout::EVENT_WIDTH);
     &event[layout::CELLS_OFFSET..]
@@ -35,7 +36,7 @@ pub fn cells_of(events: &[u8], i: usize) -> &[u8]
 
 // What an event adds to its party's sum: a, or for kind 3 its bit of P.
 fn party_figure(kind: u8, p: u32, cells: &[u8], h: usize) -> u32
-    requires { ⌜ (h < 24) × (length (now cells) ≡ 288) ⌝ }
+    requires { ⌜ (h < hours) × (length (now cells) ≡ cellWidth * hours) ⌝ }
     ensures { λ r. ⌜ r ≡ cond (eqb kind 3) (cond (bitOf p h) 1 0) (cellOf (now (cells .entry)) h .a) ⌝ }
 {
     let cell = cell_at(cells, h);
@@ -46,9 +47,9 @@ fn party_figure(kind: u8, p: u32, cells: &[u8], h: usize) -> u32
 
 // Adds the 24 figures of event j to the row of its leader.
 fn add_event(sums: &mut [u64], leader: usize, events: &[u8], j: usize)
-    requires { ⌜ (24 * leader + 24 ≤ length (now sums)) × (j < length (now events) / 312) ⌝ }
+    requires { ⌜ (hours * leader + 24 ≤ length (now sums)) × (j < length (now events) / eventWidth) ⌝ }
     requires { ⌜ Small (now sums) ⌝ }
-    ensures { λ _. ⌜ Added (24 * leader) 24 (now (sums .entry)) (now (sums .exit)) (partyFigure (caseIn [] [] [] (now (events .entry))) j) ⌝ }
+    ensures { λ _. ⌜ Added (hours * leader) 24 (now (sums .entry)) (now (sums .exit)) (partyFigure (caseIn [] [] [] (now (events .entry))) j) ⌝ }
 {
     let event = record_at(events, j, layout::EVENT_WIDTH);
     let kind = load_u8(event, 0);
@@ -65,10 +66,10 @@ fn add_event(sums: &mut [u64], leader: usize, events: &[u8], j: usize)
 
 // For each leader the 24 sums of its party, added in a table of zeros: S for kinds 1 and 2, for kind 3 how many P have the hour's bit.
 pub fn party_sums(events: &[u8], leaders: &[usize], sums: &mut [u64])
-    requires { ⌜ (length (now events) / 312 ≤ 200) × (length (now events) / 312 ≤ length (now leaders)) × (24 * (length (now events) / 312) ≤ length (now sums)) ⌝ }
-    requires { ⌜ Below (length (now events) / 312) (now leaders) ⌝ }
+    requires { ⌜ (length (now events) / eventWidth ≤ mostEvents) × (length (now events) / eventWidth ≤ length (now leaders)) × (hours * (length (now events) / eventWidth) ≤ length (now sums)) ⌝ }
+    requires { ⌜ Below (length (now events) / eventWidth) (now leaders) ⌝ }
     requires { ⌜ Zeros (now sums) ⌝ }
-    ensures { λ _. ⌜ HasSums (caseIn [] [] [] (now (events .entry))) (now (leaders .entry)) (length (now (events .entry)) / 312) (length (now (events .entry)) / 312) (now (sums .exit)) ⌝ }
+    ensures { λ _. ⌜ HasSums (caseIn [] [] [] (now (events .entry))) (now (leaders .entry)) (length (now (events .entry)) / eventWidth) (length (now (events .entry)) / eventWidth) (now (sums .exit)) ⌝ }
 {
     let n = events.len() / layout::EVENT_WIDTH;
     let mut j = 0;
@@ -79,7 +80,7 @@ pub fn party_sums(events: &[u8], leaders: &[usize], sums: &mut [u64])
 }
 
 fn capability_share(units: &[u8], group: u16, u: usize) -> u32
-    requires { ⌜ u < length (now units) / 24 ⌝ }
+    requires { ⌜ u < length (now units) / unitWidth ⌝ }
     ensures { λ r. ⌜ r ≡ capabilityShare (unitsIn (now (units .entry))) group u ⌝ }
 {
     let unit = record_at(units, u, layout::UNIT_WIDTH);
@@ -90,7 +91,7 @@ fn capability_share(units: &[u8], group: u16, u: usize) -> u32
 
 // G, the group's listed capability.
 pub fn group_capability(units: &[u8], group: u16) -> u64
-    requires { ⌜ length (now units) ≤ 65000 ⌝ }
+    requires { ⌜ length (now units) ≤ longestFile ⌝ }
     ensures { λ r. ⌜ r ≡ capabilityOf (unitsIn (now (units .entry))) group ⌝ }
 {
     let n = units.len() / layout::UNIT_WIDTH;
@@ -112,7 +113,7 @@ fn listed_capability(
     capabilities: &[u64],
     i: usize,
 ) -> u64
-    requires { ⌜ (i < length (now events) / 312) × (length (now units) ≤ 65000) × (i < length (now groups)) × (i < length (now leaders)) × (i ≤ length (now capabilities)) ⌝ }
+    requires { ⌜ (i < length (now events) / eventWidth) × (length (now units) ≤ longestFile) × (i < length (now groups)) × (i < length (now leaders)) × (i ≤ length (now capabilities)) ⌝ }
     requires { ⌜ getD (now groups) i 0 ≡ groupOf (caseIn (now units) [] [] (now events)) i ⌝ }
     requires { ⌜ getD (now leaders) i 0 ≡ leaderOf (caseIn (now units) [] [] (now events)) i ⌝ }
     requires { ⌜ Holds i (now capabilities) (listedCapability (caseIn (now units) [] [] (now events))) ⌝ }
@@ -137,10 +138,10 @@ pub fn listed_capabilities(
     leaders: &[usize],
     capabilities: &mut [u64],
 )
-    requires { ⌜ (length (now units) ≤ 65000) × (length (now events) / 312 ≤ length (now groups)) × (length (now events) / 312 ≤ length (now leaders)) × (length (now events) / 312 ≤ length (now capabilities)) ⌝ }
-    requires { ⌜ Holds (length (now events) / 312) (now groups) (groupOf (caseIn (now units) [] [] (now events))) ⌝ }
-    requires { ⌜ Holds (length (now events) / 312) (now leaders) (leaderOf (caseIn (now units) [] [] (now events))) ⌝ }
-    ensures { λ _. ⌜ Holds (length (now (events .entry)) / 312) (now (capabilities .exit)) (listedCapability (caseIn (now (units .entry)) [] [] (now (events .entry)))) ⌝ }
+    requires { ⌜ (length (now units) ≤ longestFile) × (length (now events) / eventWidth ≤ length (now groups)) × (length (now events) / eventWidth ≤ length (now leaders)) × (length (now events) / eventWidth ≤ length (now capabilities)) ⌝ }
+    requires { ⌜ Holds (length (now events) / eventWidth) (now groups) (groupOf (caseIn (now units) [] [] (now events))) ⌝ }
+    requires { ⌜ Holds (length (now events) / eventWidth) (now leaders) (leaderOf (caseIn (now units) [] [] (now events))) ⌝ }
+    ensures { λ _. ⌜ Holds (length (now (events .entry)) / eventWidth) (now (capabilities .exit)) (listedCapability (caseIn (now (units .entry)) [] [] (now (events .entry)))) ⌝ }
 {
     let n = events.len() / layout::EVENT_WIDTH;
     let mut i = 0;
@@ -163,7 +164,7 @@ fn time_component(kind: u8, component: u8) -> u8
 
 // Time component, market, unit and day of event j in one number.
 fn time_key(events: &[u8], j: usize) -> u64
-    requires { ⌜ j < length (now events) / 312 ⌝ }
+    requires { ⌜ j < length (now events) / eventWidth ⌝ }
     ensures { λ r. ⌜ r ≡ timeKey (eventsIn (now (events .entry))) j ⌝ }
 {
     let event = record_at(events, j, layout::EVENT_WIDTH);
@@ -176,8 +177,8 @@ fn time_key(events: &[u8], j: usize) -> u64
 }
 
 pub fn time_keys(events: &[u8], keys: &mut [u64])
-    requires { ⌜ length (now events) / 312 ≤ length (now keys) ⌝ }
-    ensures { λ _. ⌜ Holds (length (now (events .entry)) / 312) (now (keys .exit)) (timeKey (eventsIn (now (events .entry)))) ⌝ }
+    requires { ⌜ length (now events) / eventWidth ≤ length (now keys) ⌝ }
+    ensures { λ _. ⌜ Holds (length (now (events .entry)) / eventWidth) (now (keys .exit)) (timeKey (eventsIn (now (events .entry)))) ⌝ }
 {
     let n = events.len() / layout::EVENT_WIDTH;
     let mut j = 0;
@@ -189,9 +190,9 @@ pub fn time_keys(events: &[u8], keys: &mut [u64])
 
 // Adds the positive d of event j in each hour, where it counts.
 fn add_increases(row: &mut [u64], events: &[u8], level: u32, j: usize, counts: bool)
-    requires { ⌜ (length (now row) ≡ 24) × (j < length (now events) / 312) ⌝ }
+    requires { ⌜ (length (now row) ≡ hours) × (j < length (now events) / eventWidth) ⌝ }
     requires { ⌜ Small (now row) ⌝ }
-    ensures { λ _. ⌜ Added 0 24 (now (row .entry)) (now (row .exit)) (countedIncrease (amountsIn (now (events .entry))) level j counts) ⌝ }
+    ensures { λ _. ⌜ Added 0 hours (now (row .entry)) (now (row .exit)) (countedIncrease (amountsIn (now (events .entry))) level j counts) ⌝ }
 {
     if !counts {
         return;
@@ -209,8 +210,8 @@ fn add_increases(row: &mut [u64], events: &[u8], level: u32, j: usize, counts: b
 
 // The positive d of the events with this key, by hour.
 fn component_increases(events: &[u8], levels: &[u32], keys: &[u64], key: u64) -> [u64; 24]
-    requires { ⌜ (length (now events) / 312 ≤ 200) × (length (now events) / 312 ≤ length (now levels)) × (length (now events) / 312 ≤ length (now keys)) ⌝ }
-    ensures { λ r. ⌜ Holds 24 r (keyedIncrease (amountsIn (now (events .entry))) (now (levels .entry)) (now (keys .entry)) key (length (now (events .entry)) / 312)) ⌝ }
+    requires { ⌜ (length (now events) / eventWidth ≤ mostEvents) × (length (now events) / eventWidth ≤ length (now levels)) × (length (now events) / eventWidth ≤ length (now keys)) ⌝ }
+    ensures { λ r. ⌜ Holds hours r (keyedIncrease (amountsIn (now (events .entry))) (now (levels .entry)) (now (keys .entry)) key (length (now (events .entry)) / eventWidth)) ⌝ }
 {
     let n = events.len() / layout::EVENT_WIDTH;
     let mut row = [0u64; 24];
@@ -231,8 +232,8 @@ pub fn time_increases(
     unit: u16,
     day: u32,
 ) -> [[u64; 24]; 3]
-    requires { ⌜ (length (now events) / 312 ≤ 200) × (length (now events) / 312 ≤ length (now levels)) × (length (now events) / 312 ≤ length (now keys)) ⌝ }
-    ensures { λ r. ⌜ HasIncreases (λ (k : ℕ). keyedIncrease (amountsIn (now (events .entry))) (now (levels .entry)) (now (keys .entry)) (4 + k + 256 * market + 65536 * unit + 4294967296 * day) (length (now (events .entry)) / 312)) r ⌝ }
+    requires { ⌜ (length (now events) / eventWidth ≤ mostEvents) × (length (now events) / eventWidth ≤ length (now levels)) × (length (now events) / eventWidth ≤ length (now keys)) ⌝ }
+    ensures { λ r. ⌜ HasIncreases (λ (k : ℕ). keyedIncrease (amountsIn (now (events .entry))) (now (levels .entry)) (now (keys .entry)) (4 + k + 256 * market + 65536 * unit + 4294967296 * day) (length (now (events .entry)) / eventWidth)) r ⌝ }
 {
     let start_up = component_increases(events, levels, keys, pack(4, market, unit, day));
     let minimum_run = component_increases(events, levels, keys, pack(5, market, unit, day));

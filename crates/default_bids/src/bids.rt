@@ -1,9 +1,9 @@
 // Bids in force.
 ghost use mathlib.Core.Path.{_≡_};
-ghost use Prim.Native.Nat.{_/_, _<_};
+ghost use Prim.Native.Nat.{_*_, _/_, _<_};
 ghost use lib.ListN.{length};
 ghost use Rattle.binary.specs.Lists.{listTo};
-ghost use Rattle.casefile.specs.Layout.{hours};
+ghost use Rattle.casefile.specs.Layout.{hours, eventWidth, unitWidth, cellWidth};
 ghost use Rattle.casefile.specs.Decode.{unitsIn, eventsIn, amountsIn};
 ghost use Rattle.default_bids.specs.Figures.{termsOf, hourBid, bidAt, bidBy};
 use binary::bytes::load_u8;
@@ -40,7 +40,7 @@ fn terms_of(
     correct: u32,
     mitigated: u32,
 ) -> Terms
-    requires { ⌜ (i < length (now events) / 312) × (place < length (now units) / 24) ⌝ }
+    requires { ⌜ (i < length (now events) / eventWidth) × (place < length (now units) / unitWidth) ⌝ }
     ensures { λ r. ⌜ r ≡ termsOf (unitsIn (now (units .entry))) (eventsIn (now (events .entry))) i place reference correct mitigated ⌝ }
 {
     let event = record_at(events, i, layout::EVENT_WIDTH);
@@ -87,7 +87,7 @@ fn hour_bid(t: Terms, a: u32, h: usize) -> u32
 }
 
 fn hour_bids(t: Terms, cells: &[u8]) -> [u32; 24]
-    requires { ⌜ length (now cells) ≡ 288 ⌝ }
+    requires { ⌜ length (now cells) ≡ cellWidth * hours ⌝ }
     ensures { λ r. ⌜ r ≡ listTo hours (bidAt t (now (cells .entry))) ⌝ }
 {
     let mut bids = [0u32; 24];
@@ -111,7 +111,7 @@ pub fn bids_in_force(
     correct: u32,
     mitigated: u32,
 ) -> [u32; 24]
-    requires { ⌜ (i < length (now events) / 312) × (place < length (now units) / 24) ⌝ }
+    requires { ⌜ (i < length (now events) / eventWidth) × (place < length (now units) / unitWidth) ⌝ }
     ensures { λ r. ⌜ r ≡ listTo hours (bidBy (unitsIn (now (units .entry))) (eventsIn (now (events .entry))) (amountsIn (now (events .entry))) i place reference correct mitigated) ⌝ }
 {
     let event = record_at(events, i, layout::EVENT_WIDTH);

@@ -5,6 +5,7 @@ ghost use mathlib.Core.Path.{_≡_};
 ghost use Prim.Native.Nat.{_/_, _<_, _≤_};
 ghost use lib.ListN.{length, drop};
 ghost use Rattle.binary.specs.Lists.{listTo};
+ghost use Rattle.casefile.specs.Layout.{eventWidth};
 ghost use Rattle.casefile.specs.Decode.{referencesIn, eventsIn};
 ghost use Rattle.casefile.specs.Lookup.{InOrder};
 ghost use Rattle.default_bids.specs.Figures.{correctLevel, correctFound, correctsFound};
@@ -16,7 +17,7 @@ use casefile::references::reference_level;
 
 // The correct reference of event i; components 2 and 4 to 8 need none.
 fn correct_level(correct: &[u8], events: &[u8], i: usize) -> u32
-    requires { ⌜ (i < length (now events) / 312) × InOrder (now correct) × (correctFound (referencesIn (now correct)) (eventsIn (now events)) i ≡ true) ⌝ }
+    requires { ⌜ (i < length (now events) / eventWidth) × InOrder (now correct) × (correctFound (referencesIn (now correct)) (eventsIn (now events)) i ≡ true) ⌝ }
     ensures { λ r. ⌜ r ≡ correctLevel (referencesIn (now (correct .entry))) (eventsIn (now (events .entry))) i ⌝ }
 {
     let event = record_at(events, i, layout::EVENT_WIDTH);
@@ -30,8 +31,8 @@ fn correct_level(correct: &[u8], events: &[u8], i: usize) -> u32
 }
 
 pub fn correct_levels(correct: &[u8], events: &[u8], correct_levels: &mut [u32])
-    requires { ⌜ (length (now events) / 312 ≤ length (now «correct_levels»)) × InOrder (now correct) × (correctsFound (referencesIn (now correct)) (eventsIn (now events)) ≡ true) ⌝ }
-    ensures { λ _. ⌜ now («correct_levels» .exit) ≡ listTo (length (now (events .entry)) / 312) (correctLevel (referencesIn (now (correct .entry))) (eventsIn (now (events .entry)))) ++ drop (length (now (events .entry)) / 312) (now («correct_levels» .entry)) ⌝ }
+    requires { ⌜ (length (now events) / eventWidth ≤ length (now «correct_levels»)) × InOrder (now correct) × (correctsFound (referencesIn (now correct)) (eventsIn (now events)) ≡ true) ⌝ }
+    ensures { λ _. ⌜ now («correct_levels» .exit) ≡ listTo (length (now (events .entry)) / eventWidth) (correctLevel (referencesIn (now (correct .entry))) (eventsIn (now (events .entry)))) ++ drop (length (now (events .entry)) / eventWidth) (now («correct_levels» .entry)) ⌝ }
 {
     let n = events.len() / layout::EVENT_WIDTH;
     let mut i = 0;

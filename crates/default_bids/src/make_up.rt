@@ -2,11 +2,11 @@
 ghost use mathlib.Core.Bool.{true};
 ghost use mathlib.Core.List.{[], _++_};
 ghost use mathlib.Core.Path.{_≡_};
-ghost use Prim.Native.Nat.{_/_, _<_, _≤_};
+ghost use Prim.Native.Nat.{_*_, _/_, _≤_, _<_};
 ghost use lib.ListN.{length, drop};
 ghost use Rattle.binary.specs.Bounded.{sumTo};
 ghost use Rattle.binary.specs.Lists.{listTo, Holds};
-ghost use Rattle.casefile.specs.Layout.{hours};
+ghost use Rattle.casefile.specs.Layout.{hours, cellWidth, eventWidth, longestFile};
 ghost use Rattle.casefile.specs.Decode.{referencesIn, eventsIn, caseIn};
 ghost use Rattle.casefile.specs.Refusal.{eventsFine};
 ghost use Rattle.casefile.specs.Read.{cellOf};
@@ -24,7 +24,7 @@ use tariff::default_bids::make_up;
 
 // One hour, in tenths of a cent.
 fn hour_tenths(cells: &[u8], h: usize, correct: u32, mitigated: u32) -> u64
-    requires { ⌜ (h < 24) × (length (now cells) ≡ 288) × (cellOf (now cells) h .m ≤ 50000) ⌝ }
+    requires { ⌜ (h < hours) × (length (now cells) ≡ cellWidth * hours) × (cellOf (now cells) h .m ≤ 50000) ⌝ }
     ensures { λ r. ⌜ (r ≡ tenthsAt (now (cells .entry)) correct mitigated h) × (r ≤ 214748364800000) ⌝ }
 {
     let cell = cell_at(cells, h);
@@ -37,7 +37,7 @@ fn hour_tenths(cells: &[u8], h: usize, correct: u32, mitigated: u32) -> u64
 
 // The mitigated hours' sum, in tenths of a cent.
 fn sum_tenths(cells: &[u8], correct: u32, mitigated: u32) -> u64
-    requires { ⌜ (length (now cells) ≡ 288) × MegawattsFine (now cells) ⌝ }
+    requires { ⌜ (length (now cells) ≡ cellWidth * hours) × MegawattsFine (now cells) ⌝ }
     ensures { λ r. ⌜ (r ≡ sumTo hours (tenthsAt (now (cells .entry)) correct mitigated)) × (r ≤ 5153960755200000) ⌝ }
 {
     let mut sum: u64 = 0;
@@ -51,7 +51,7 @@ fn sum_tenths(cells: &[u8], correct: u32, mitigated: u32) -> u64
 
 // The make-up of event i in cents; component 0 alone has one.
 fn event_make_up(events: &[u8], i: usize, reference: u32, correct: u32, mitigated: u32) -> u64
-    requires { ⌜ (i < length (now events) / 312) × (eventsFine (now events) ≡ true) ⌝ }
+    requires { ⌜ (i < length (now events) / eventWidth) × (eventsFine (now events) ≡ true) ⌝ }
     ensures { λ r. ⌜ (r ≡ makeUpBy (now (events .entry)) i reference correct mitigated) × (r ≤ 5153960755200001) ⌝ }
 {
     let event = record_at(events, i, layout::EVENT_WIDTH);
@@ -75,13 +75,13 @@ pub fn make_ups(
     mitigated: &[u32],
     make_ups: &mut [u64],
 ) -> u64
-    requires { ⌜ (length (now events) ≤ 65000) × (eventsFine (now events) ≡ true) ⌝ }
-    requires { ⌜ (length (now events) / 312 ≤ length (now levels)) × (length (now events) / 312 ≤ length (now «correct_levels»)) × (length (now events) / 312 ≤ length (now mitigated)) × (length (now events) / 312 ≤ length (now «make_ups»)) ⌝ }
-    requires { ⌜ Holds (length (now events) / 312) (now levels) (bidLevel (referencesIn (now references)) (eventsIn (now events))) ⌝ }
-    requires { ⌜ Holds (length (now events) / 312) (now «correct_levels») (correctLevel (referencesIn (now correct)) (eventsIn (now events))) ⌝ }
-    requires { ⌜ Holds (length (now events) / 312) (now mitigated) (mitigatedMask (caseIn (now units) (now references) [] (now events))) ⌝ }
+    requires { ⌜ (length (now events) ≤ longestFile) × (eventsFine (now events) ≡ true) ⌝ }
+    requires { ⌜ (length (now events) / eventWidth ≤ length (now levels)) × (length (now events) / eventWidth ≤ length (now «correct_levels»)) × (length (now events) / eventWidth ≤ length (now mitigated)) × (length (now events) / eventWidth ≤ length (now «make_ups»)) ⌝ }
+    requires { ⌜ Holds (length (now events) / eventWidth) (now levels) (bidLevel (referencesIn (now references)) (eventsIn (now events))) ⌝ }
+    requires { ⌜ Holds (length (now events) / eventWidth) (now «correct_levels») (correctLevel (referencesIn (now correct)) (eventsIn (now events))) ⌝ }
+    requires { ⌜ Holds (length (now events) / eventWidth) (now mitigated) (mitigatedMask (caseIn (now units) (now references) [] (now events))) ⌝ }
     ensures { λ r. ⌜ r ≡ totalMakeUp (caseIn (now (units .entry)) (now (references .entry)) [] (now (events .entry))) (referencesIn (now (correct .entry))) ⌝ }
-    ensures { λ _. ⌜ now («make_ups» .exit) ≡ listTo (length (now (events .entry)) / 312) (makeUpOf (caseIn (now (units .entry)) (now (references .entry)) [] (now (events .entry))) (referencesIn (now (correct .entry)))) ++ drop (length (now (events .entry)) / 312) (now («make_ups» .entry)) ⌝ }
+    ensures { λ _. ⌜ now («make_ups» .exit) ≡ listTo (length (now (events .entry)) / eventWidth) (makeUpOf (caseIn (now (units .entry)) (now (references .entry)) [] (now (events .entry))) (referencesIn (now (correct .entry)))) ++ drop (length (now (events .entry)) / eventWidth) (now («make_ups» .entry)) ⌝ }
 {
     let n = events.len() / layout::EVENT_WIDTH;
     let mut total: u64 = 0;

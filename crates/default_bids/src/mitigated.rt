@@ -4,6 +4,7 @@ ghost use mathlib.Core.Path.{_≡_};
 ghost use Prim.Native.Nat.{_/_, _<_, _≤_};
 ghost use lib.ListN.{length, drop};
 ghost use Rattle.binary.specs.Lists.{listTo, Holds};
+ghost use Rattle.casefile.specs.Layout.{eventWidth};
 ghost use Rattle.casefile.specs.Decode.{eventsIn, caseIn};
 ghost use Rattle.conduct.specs.Flags.{flagMask};
 ghost use Rattle.default_bids.specs.Mitigation.{mitigatedMask};
@@ -17,7 +18,7 @@ use tariff::default_bids::span_mask;
 
 // The mitigated hours of event i, whose flag mask is given.
 fn mitigated_mask(events: &[u8], i: usize, flags: u32) -> u32
-    requires { ⌜ i < length (now events) / 312 ⌝ }
+    requires { ⌜ i < length (now events) / eventWidth ⌝ }
     ensures { λ r. ⌜ r ≡ mitigatedBy (eventsIn (now (events .entry))) i flags ⌝ }
 {
     let event = record_at(events, i, layout::EVENT_WIDTH);
@@ -39,9 +40,9 @@ pub fn mitigated_masks(
     masks: &[u32],
     mitigated: &mut [u32],
 )
-    requires { ⌜ (length (now events) / 312 ≤ length (now masks)) × (length (now events) / 312 ≤ length (now mitigated)) ⌝ }
-    requires { ⌜ Holds (length (now events) / 312) (now masks) (flagMask (caseIn (now units) (now references) [] (now events))) ⌝ }
-    ensures { λ _. ⌜ now (mitigated .exit) ≡ listTo (length (now (events .entry)) / 312) (mitigatedMask (caseIn (now (units .entry)) (now (references .entry)) [] (now (events .entry)))) ++ drop (length (now (events .entry)) / 312) (now (mitigated .entry)) ⌝ }
+    requires { ⌜ (length (now events) / eventWidth ≤ length (now masks)) × (length (now events) / eventWidth ≤ length (now mitigated)) ⌝ }
+    requires { ⌜ Holds (length (now events) / eventWidth) (now masks) (flagMask (caseIn (now units) (now references) [] (now events))) ⌝ }
+    ensures { λ _. ⌜ now (mitigated .exit) ≡ listTo (length (now (events .entry)) / eventWidth) (mitigatedMask (caseIn (now (units .entry)) (now (references .entry)) [] (now (events .entry)))) ++ drop (length (now (events .entry)) / eventWidth) (now (mitigated .entry)) ⌝ }
 {
     let n = events.len() / layout::EVENT_WIDTH;
     let mut i = 0;

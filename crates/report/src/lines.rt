@@ -2,6 +2,7 @@
 ghost use mathlib.Core.Path.{_≡_};
 ghost use Prim.Native.Nat.{_+_, _*_, _≤_};
 ghost use lib.ListN.{length};
+ghost use Rattle.casefile.specs.Layout.{eventWidth, rowWidth};
 ghost use Rattle.report.specs.Put.{Put};
 ghost use Rattle.report.specs.Line.{eventFields, rowFields, linesTo};
 use crate::text::put_field;
@@ -14,7 +15,7 @@ use casefile::records::record_at;
 
 // Day, kind, unit, market, component, each with a space after it.
 fn put_event(event: &[u8], out: &mut [u8], at: usize) -> usize
-    requires { ⌜ (length (now event) ≡ 312) × (at + 105 ≤ length (now out)) ⌝ }
+    requires { ⌜ (length (now event) ≡ eventWidth) × (at + 105 ≤ length (now out)) ⌝ }
     ensures { λ r. ⌜ Put (now (out .entry)) at (eventFields (now (event .entry))) (now (out .exit)) r × (r ≤ at + 105) ⌝ }
 {
     let day = load_u32(event, 8);
@@ -31,7 +32,7 @@ fn put_event(event: &[u8], out: &mut [u8], at: usize) -> usize
 
 // Flags, mitigated, multiplier, penalty, make-up, with a line feed at the end.
 fn put_row(row: &[u8], out: &mut [u8], at: usize) -> usize
-    requires { ⌜ (length (now row) ≡ 128) × (at + 105 ≤ length (now out)) ⌝ }
+    requires { ⌜ (length (now row) ≡ rowWidth) × (at + 105 ≤ length (now out)) ⌝ }
     ensures { λ r. ⌜ Put (now (out .entry)) at (rowFields (now (row .entry))) (now (out .exit)) r × (r ≤ at + 105) ⌝ }
 {
     let flags = load_u32(row, 0);
@@ -48,7 +49,7 @@ fn put_row(row: &[u8], out: &mut [u8], at: usize) -> usize
 
 // The lines of the first n events, from the start of out.
 pub fn put_lines(events: &[u8], rows: &[u8], n: usize, out: &mut [u8]) -> usize
-    requires { ⌜ (312 * n ≤ length (now events)) × (128 * n ≤ length (now rows)) × (210 * n ≤ length (now out)) ⌝ }
+    requires { ⌜ (eventWidth * n ≤ length (now events)) × (rowWidth * n ≤ length (now rows)) × (210 * n ≤ length (now out)) ⌝ }
     ensures { λ r. ⌜ Put (now (out .entry)) 0 (linesTo n (now (events .entry)) (now (rows .entry))) (now (out .exit)) r × (r ≤ 210 * n) ⌝ }
 {
     let mut at = 0;

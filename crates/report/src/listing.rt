@@ -3,6 +3,7 @@ ghost use mathlib.Core.List.{_++_};
 ghost use mathlib.Core.Path.{_≡_};
 ghost use Prim.Native.Nat.{_+_, _*_, _≤_};
 ghost use lib.ListN.{length, take};
+ghost use Rattle.casefile.specs.Layout.{eventWidth, mostEvents, rowWidth};
 ghost use Rattle.report.specs.Put.{Put};
 ghost use Rattle.report.specs.Line.{linesTo};
 ghost use Rattle.report.specs.Listing.{refusalText, totalText, listedLength, listedOut, listedRows};
@@ -39,7 +40,7 @@ fn put_settlement(
     make_ups: u64,
     out: &mut [u8],
 ) -> usize
-    requires { ⌜ (312 * n ≤ length (now events)) × (128 * n ≤ length (now rows)) × (n ≤ 200) × (42048 ≤ length (now out)) ⌝ }
+    requires { ⌜ (eventWidth * n ≤ length (now events)) × (rowWidth * n ≤ length (now rows)) × (n ≤ mostEvents) × (42048 ≤ length (now out)) ⌝ }
     ensures { λ r. ⌜ Put (now (out .entry)) 0 (linesTo n (now (events .entry)) (now (rows .entry)) ++ totalText penalties «make_ups») (now (out .exit)) r × (r ≤ 42048) ⌝ }
 {
     let at = put_lines(events, rows, n, out);

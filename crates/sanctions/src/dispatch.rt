@@ -1,9 +1,9 @@
 // The sanction of a dispatch failure (tariff 23.4.3.3.2).
 ghost use mathlib.Core.Path.{_≡_};
-ghost use Prim.Native.Nat.{_/_, _≤_, _<_};
+ghost use Prim.Native.Nat.{_*_, _/_, _≤_, _<_};
 ghost use lib.ListN.{length};
 ghost use Rattle.binary.specs.Bounded.{sumTo};
-ghost use Rattle.casefile.specs.Layout.{hours};
+ghost use Rattle.casefile.specs.Layout.{hours, cellWidth, eventWidth};
 ghost use Rattle.sanctions.specs.Tables.{hourRevenue, dispatchRow};
 use crate::instances::with_impact;
 use crate::sanction::Sanction;
@@ -16,7 +16,7 @@ use tariff::sanctions::dispatch_penalty;
 
 // The added revenue, where the mask has the hour.
 fn hour_revenue(cells: &[u8], mask: u32, h: usize) -> u32
-    requires { ⌜ (h < 24) × (length (now cells) ≡ 288) ⌝ }
+    requires { ⌜ (h < hours) × (length (now cells) ≡ cellWidth * hours) ⌝ }
     ensures { λ r. ⌜ r ≡ hourRevenue (now (cells .entry)) mask h ⌝ }
 {
     let cell = cell_at(cells, h);
@@ -27,7 +27,7 @@ fn hour_revenue(cells: &[u8], mask: u32, h: usize) -> u32
 
 // The sum over flagged hours.
 fn revenue(cells: &[u8], mask: u32) -> u64
-    requires { ⌜ length (now cells) ≡ 288 ⌝ }
+    requires { ⌜ length (now cells) ≡ cellWidth * hours ⌝ }
     ensures { λ r. ⌜ (r ≡ sumTo hours (hourRevenue (now (cells .entry)) mask)) × (r ≤ 1000000000000000000) ⌝ }
 {
     let mut sum: u64 = 0;
@@ -41,7 +41,7 @@ fn revenue(cells: &[u8], mask: u32) -> u64
 
 // Multiplier 3 and the penalty, with impact 1 and a flag; else both 0.
 pub fn dispatch(events: &[u8], masks: &[u32], i: usize) -> Sanction
-    requires { ⌜ (i < length (now events) / 312) × (i < length (now masks)) ⌝ }
+    requires { ⌜ (i < length (now events) / eventWidth) × (i < length (now masks)) ⌝ }
     ensures { λ r. ⌜ r ≡ dispatchRow (now (events .entry)) (now (masks .entry)) i ⌝ }
 {
     if !with_impact(events, masks, i) {

@@ -1,9 +1,10 @@
 // The sanction of a party-day with inaccurate fuel data (tariff 23.4.3.3.3), found at its first event.
 ghost use mathlib.Core.Path.{_≡_};
-ghost use Prim.Native.Nat.{_/_, _≤_, _<_};
+ghost use Prim.Native.Nat.{_*_, _/_, _≤_, _<_};
 ghost use lib.ListN.{length};
 ghost use Rattle.binary.specs.Bounded.{anyTo};
 ghost use Rattle.binary.specs.Word.{positivePart, negativePart};
+ghost use Rattle.casefile.specs.Layout.{cellWidth, hours, eventWidth, mostEvents, pastWidth};
 ghost use Rattle.casefile.specs.Decode.{eventsIn};
 ghost use Rattle.sanctions.specs.Penalties.{fuelMultiplierAfter};
 ghost use Rattle.sanctions.specs.Found.{SmallAmounts, Sound};
@@ -42,7 +43,7 @@ pub struct PartyDay {
 
 // a × b where the mask has the hour: its gain or its loss.
 fn hour_energy(cells: &[u8], mask: u32, h: usize) -> Energy
-    requires { ⌜ (h < 24) × (length (now cells) ≡ 288) ⌝ }
+    requires { ⌜ (h < hours) × (length (now cells) ≡ cellWidth * hours) ⌝ }
     ensures { λ r. ⌜ (r .gain ≡ hourEnergy (positivePart 32) (now (cells .entry)) mask h) × (r .loss ≡ hourEnergy (negativePart 32) (now (cells .entry)) mask h) ⌝ }
 {
     let cell = cell_at(cells, h);
@@ -56,7 +57,7 @@ fn hour_energy(cells: &[u8], mask: u32, h: usize) -> Energy
 
 // An event's part of E: 10 × Q, and a × b over the hours of the mask.
 fn event_energy(q: u32, cells: &[u8], mask: u32) -> Energy
-    requires { ⌜ (length (now cells) ≡ 288) × SmallAmounts (now cells) ⌝ }
+    requires { ⌜ (length (now cells) ≡ cellWidth * hours) × SmallAmounts (now cells) ⌝ }
     ensures { λ r. ⌜ r ≡ energyOf q (now (cells .entry)) mask ⌝ }
 {
     let mut gain = 10 * wide(positive_part(q));
@@ -73,7 +74,7 @@ fn event_energy(q: u32, cells: &[u8], mask: u32) -> Energy
 
 // What event j adds to the party-day that event i leads.
 fn party_share(events: &[u8], leaders: &[usize], mask: u32, i: usize, j: usize) -> PartyDay
-    requires { ⌜ (j < length (now events) / 312) × (j < length (now leaders)) × (eventsIn (now events) .kind i ≡ 3) × Sound (now events) (now leaders) ⌝ }
+    requires { ⌜ (j < length (now events) / eventWidth) × (j < length (now leaders)) × (eventsIn (now events) .kind i ≡ 3) × Sound (now events) (now leaders) ⌝ }
     ensures { λ r. ⌜ r ≡ partyShare (now (events .entry)) (now (leaders .entry)) mask i j ⌝ }
 {
     if leaders[j] != i {
@@ -101,8 +102,8 @@ fn party_share(events: &[u8], leaders: &[usize], mask: u32, i: usize, j: usize) 
 
 // The sums of the party-day that event i leads; no event before it is of that party-day.
 fn party_day(events: &[u8], leaders: &[usize], mask: u32, i: usize) -> PartyDay
-    requires { ⌜ (i < length (now events) / 312) × (length (now events) / 312 ≤ length (now leaders)) × (length (now events) / 312 ≤ 200) × (eventsIn (now events) .kind i ≡ 3) × Sound (now events) (now leaders) ⌝ }
-    ensures { λ r. ⌜ r ≡ partyDay (now (events .entry)) (now (leaders .entry)) mask i (length (now (events .entry)) / 312) ⌝ }
+    requires { ⌜ (i < length (now events) / eventWidth) × (length (now events) / eventWidth ≤ length (now leaders)) × (length (now events) / eventWidth ≤ mostEvents) × (eventsIn (now events) .kind i ≡ 3) × Sound (now events) (now leaders) ⌝ }
+    ensures { λ r. ⌜ r ≡ partyDay (now (events .entry)) (now (leaders .entry)) mask i (length (now (events .entry)) / eventWidth) ⌝ }
 {
     let n = events.len() / layout::EVENT_WIDTH;
     let mut gain: u64 = 0;
@@ -135,7 +136,7 @@ fn is_prior(
     group: u16,
     j: usize,
 ) -> bool
-    requires { ⌜ (j < length (now events) / 312) × (j < length (now groups)) × (j < length (now penalties)) ⌝ }
+    requires { ⌜ (j < length (now events) / eventWidth) × (j < length (now groups)) × (j < length (now penalties)) ⌝ }
     ensures { λ r. ⌜ r ≡ fuelRowCounts (now (events .entry)) (now (groups .entry)) (now (penalties .entry)) day group j ⌝ }
 {
     let event = record_at(events, j, layout::EVENT_WIDTH);
@@ -153,7 +154,7 @@ fn prior_here(
     group: u16,
     i: usize,
 ) -> bool
-    requires { ⌜ (i ≤ length (now events) / 312) × (i ≤ length (now groups)) × (i ≤ length (now penalties)) ⌝ }
+    requires { ⌜ (i ≤ length (now events) / eventWidth) × (i ≤ length (now groups)) × (i ≤ length (now penalties)) ⌝ }
     ensures { λ r. ⌜ r ≡ anyTo i (fuelRowCounts (now (events .entry)) (now (groups .entry)) (now (penalties .entry)) day group) ⌝ }
 {
     let mut any = false;
@@ -167,7 +168,7 @@ fn prior_here(
 
 // Whether past entry j is of kind 3 and of a group, 1 to 183 days before a day.
 fn is_prior_entry(past: &[u8], day: u32, group: u16, j: usize) -> bool
-    requires { ⌜ j < length (now past) / 12 ⌝ }
+    requires { ⌜ j < length (now past) / pastWidth ⌝ }
     ensures { λ r. ⌜ r ≡ fuelEntryCounts (now (past .entry)) day group j ⌝ }
 {
     let entry = record_at(past, j, layout::PAST_WIDTH);
@@ -178,7 +179,7 @@ fn is_prior_entry(past: &[u8], day: u32, group: u16, j: usize) -> bool
 }
 
 fn prior_past(past: &[u8], day: u32, group: u16) -> bool
-    ensures { λ r. ⌜ r ≡ anyTo (length (now (past .entry)) / 12) (fuelEntryCounts (now (past .entry)) day group) ⌝ }
+    ensures { λ r. ⌜ r ≡ anyTo (length (now (past .entry)) / pastWidth) (fuelEntryCounts (now (past .entry)) day group) ⌝ }
 {
     let n = past.len() / layout::PAST_WIDTH;
     let mut any = false;
@@ -207,7 +208,7 @@ pub fn fuel(
     penalties: &[u64],
     i: usize,
 ) -> Sanction
-    requires { ⌜ (i < length (now events) / 312) × (length (now events) / 312 ≤ 200) × (i < length (now groups)) × (length (now events) / 312 ≤ length (now leaders)) × (i < length (now masks)) × (i ≤ length (now penalties)) × (eventsIn (now events) .kind i ≡ 3) × Sound (now events) (now leaders) ⌝ }
+    requires { ⌜ (i < length (now events) / eventWidth) × (length (now events) / eventWidth ≤ mostEvents) × (i < length (now groups)) × (length (now events) / eventWidth ≤ length (now leaders)) × (i < length (now masks)) × (i ≤ length (now penalties)) × (eventsIn (now events) .kind i ≡ 3) × Sound (now events) (now leaders) ⌝ }
     ensures { λ r. ⌜ r ≡ fuelRow (now (past .entry)) (now (events .entry)) (now (groups .entry)) (now (leaders .entry)) (now (masks .entry)) (now (penalties .entry)) i ⌝ }
 {
     let event = record_at(events, i, layout::EVENT_WIDTH);

@@ -3,6 +3,7 @@ ghost use mathlib.Core.Path.{_≡_};
 ghost use mathlib.Core.Bool.{cond};
 ghost use Prim.Native.Nat.{_/_, _≤_, _<_};
 ghost use lib.ListN.{length};
+ghost use Rattle.casefile.specs.Layout.{eventWidth, mostEvents, pastWidth};
 ghost use Rattle.casefile.specs.Decode.{pastIn, eventsIn};
 ghost use Rattle.sanctions.specs.Tables.{instanceOf, entryOf, instancesHere, instancesPast, instancesAt, withImpact};
 use binary::bytes::load_u8;
@@ -25,7 +26,7 @@ fn one_where(counts: bool) -> u16
 
 // Whether event i has impact 1 and a flagged hour.
 pub fn with_impact(events: &[u8], masks: &[u32], i: usize) -> bool
-    requires { ⌜ (i < length (now events) / 312) × (i < length (now masks)) ⌝ }
+    requires { ⌜ (i < length (now events) / eventWidth) × (i < length (now masks)) ⌝ }
     ensures { λ r. ⌜ r ≡ withImpact (now (events .entry)) (now (masks .entry)) i ⌝ }
 {
     let event = record_at(events, i, layout::EVENT_WIDTH);
@@ -35,7 +36,7 @@ pub fn with_impact(events: &[u8], masks: &[u32], i: usize) -> bool
 
 // Whether row j is an instance of a group and market.
 fn is_instance(events: &[u8], groups: &[u16], n3: &[u16], group: u16, market: u8, j: usize) -> bool
-    requires { ⌜ (j < length (now events) / 312) × (j < length (now groups)) × (j < length (now n3)) ⌝ }
+    requires { ⌜ (j < length (now events) / eventWidth) × (j < length (now groups)) × (j < length (now n3)) ⌝ }
     ensures { λ r. ⌜ r ≡ instanceOf (now (events .entry)) (now (groups .entry)) (now (n3 .entry)) group market j ⌝ }
 {
     let event = record_at(events, j, layout::EVENT_WIDTH);
@@ -44,7 +45,7 @@ fn is_instance(events: &[u8], groups: &[u16], n3: &[u16], group: u16, market: u8
 }
 
 fn period_of(events: &[u8], j: usize) -> u16
-    requires { ⌜ j < length (now events) / 312 ⌝ }
+    requires { ⌜ j < length (now events) / eventWidth ⌝ }
     ensures { λ r. ⌜ r ≡ eventsIn (now (events .entry)) .period j ⌝ }
 {
     let event = record_at(events, j, layout::EVENT_WIDTH);
@@ -61,7 +62,7 @@ fn instances_here(
     period: u16,
     i: usize,
 ) -> Instances
-    requires { ⌜ (i ≤ length (now events) / 312) × (i ≤ length (now groups)) × (i ≤ length (now n3)) × (i ≤ 200) ⌝ }
+    requires { ⌜ (i ≤ length (now events) / eventWidth) × (i ≤ length (now groups)) × (i ≤ length (now n3)) × (i ≤ mostEvents) ⌝ }
     ensures { λ r. ⌜ r ≡ instancesHere (now (events .entry)) (now (groups .entry)) (now (n3 .entry)) group market period i ⌝ }
 {
     let mut three: u16 = 0;
@@ -79,7 +80,7 @@ fn instances_here(
 
 // Whether past entry j is of kind 1, and of a group and market.
 fn is_entry(past: &[u8], group: u16, market: u8, j: usize) -> bool
-    requires { ⌜ j < length (now past) / 12 ⌝ }
+    requires { ⌜ j < length (now past) / pastWidth ⌝ }
     ensures { λ r. ⌜ r ≡ entryOf (now (past .entry)) group market j ⌝ }
 {
     let entry = record_at(past, j, layout::PAST_WIDTH);
@@ -90,7 +91,7 @@ fn is_entry(past: &[u8], group: u16, market: u8, j: usize) -> bool
 }
 
 fn entry_period(past: &[u8], j: usize) -> u16
-    requires { ⌜ j < length (now past) / 12 ⌝ }
+    requires { ⌜ j < length (now past) / pastWidth ⌝ }
     ensures { λ r. ⌜ r ≡ pastIn (now (past .entry)) .entry j .period ⌝ }
 {
     let entry = record_at(past, j, layout::PAST_WIDTH);
@@ -99,7 +100,7 @@ fn entry_period(past: &[u8], j: usize) -> u16
 
 // The past entries that count as instances.
 fn instances_past(past: &[u8], group: u16, market: u8, period: u16) -> Instances
-    requires { ⌜ length (now past) / 12 ≤ 256 ⌝ }
+    requires { ⌜ length (now past) / pastWidth ≤ 256 ⌝ }
     ensures { λ r. ⌜ r ≡ instancesPast (now (past .entry)) group market period ⌝ }
 {
     let n = past.len() / layout::PAST_WIDTH;
@@ -118,7 +119,7 @@ fn instances_past(past: &[u8], group: u16, market: u8, period: u16) -> Instances
 
 // N3 and N2 of an instance: 1 plus the rows before it and the past entries that count.
 pub fn instances_at(past: &[u8], events: &[u8], groups: &[u16], n3: &[u16], i: usize) -> Instances
-    requires { ⌜ (i < length (now events) / 312) × (i < length (now groups)) × (i ≤ length (now n3)) × (i ≤ 200) × (length (now past) / 12 ≤ 256) ⌝ }
+    requires { ⌜ (i < length (now events) / eventWidth) × (i < length (now groups)) × (i ≤ length (now n3)) × (i ≤ mostEvents) × (length (now past) / pastWidth ≤ 256) ⌝ }
     ensures { λ r. ⌜ r ≡ instancesAt (now (past .entry)) (now (events .entry)) (now (groups .entry)) (now (n3 .entry)) i ⌝ }
 {
     let event = record_at(events, i, layout::EVENT_WIDTH);

@@ -5,6 +5,7 @@ ghost use Prim.Native.Nat.{ℕ, _/_, _≤_, _<_};
 ghost use lib.ListN.{length, getD, drop};
 ghost use Rattle.binary.specs.Bounded.{sumTo};
 ghost use Rattle.binary.specs.Lists.{listTo};
+ghost use Rattle.casefile.specs.Layout.{eventWidth, pastWidth, mostEvents};
 ghost use Rattle.casefile.specs.Decode.{caseIn};
 ghost use Rattle.sanctions.specs.Penalties.{multiplier, N3, N2, penalty, totalPenalty};
 ghost use Rattle.sanctions.specs.Found.{Accepted, Found, Sound, SmallPenalties};
@@ -28,8 +29,8 @@ fn sanction_at(
     penalties: &[u64],
     i: usize,
 ) -> Sanction
-    requires { ⌜ (i < length (now events) / 312) × (length (now events) / 312 ≤ 200) × (length (now past) / 12 ≤ 256) × Sound (now events) (now leaders) ⌝ }
-    requires { ⌜ (length (now events) / 312 ≤ length (now groups)) × (length (now events) / 312 ≤ length (now leaders)) × (length (now events) / 312 ≤ length (now masks)) × (length (now events) / 312 ≤ length (now n3)) × (length (now events) / 312 ≤ length (now penalties)) ⌝ }
+    requires { ⌜ (i < length (now events) / eventWidth) × (length (now events) / eventWidth ≤ mostEvents) × (length (now past) / pastWidth ≤ 256) × Sound (now events) (now leaders) ⌝ }
+    requires { ⌜ (length (now events) / eventWidth ≤ length (now groups)) × (length (now events) / eventWidth ≤ length (now leaders)) × (length (now events) / eventWidth ≤ length (now masks)) × (length (now events) / eventWidth ≤ length (now n3)) × (length (now events) / eventWidth ≤ length (now penalties)) ⌝ }
     ensures { λ r. ⌜ r ≡ rowAt (now (past .entry)) (now (events .entry)) (now (groups .entry)) (now (leaders .entry)) (now (masks .entry)) (now (n3 .entry)) (now (penalties .entry)) i ⌝ }
 {
     let event = record_at(events, i, layout::EVENT_WIDTH);
@@ -53,7 +54,7 @@ fn sanction_at(
 
 // The sum of the first n penalties.
 fn total_of(penalties: &[u64], n: usize) -> u64
-    requires { ⌜ (n ≤ length (now penalties)) × (n ≤ 200) × SmallPenalties n (now penalties) ⌝ }
+    requires { ⌜ (n ≤ length (now penalties)) × (n ≤ mostEvents) × SmallPenalties n (now penalties) ⌝ }
     ensures { λ r. ⌜ r ≡ sumTo n (λ (i : ℕ). getD (now (penalties .entry)) i 0) ⌝ }
 {
     let mut total: u64 = 0;
@@ -80,12 +81,12 @@ fn fill_rows(
     penalties: &mut [u64],
 )
     requires { ⌜ Accepted (now units) (now past) (now events) ⌝ }
-    requires { ⌜ Found (caseIn (now units) (now references) (now past) (now events)) (length (now events) / 312) (now groups) (now leaders) (now masks) ⌝ }
-    requires { ⌜ (length (now events) / 312 ≤ length (now multipliers)) × (length (now events) / 312 ≤ length (now n3)) × (length (now events) / 312 ≤ length (now n2)) × (length (now events) / 312 ≤ length (now penalties)) ⌝ }
-    ensures multiplied { λ _. ⌜ now (multipliers .exit) ≡ listTo (length (now (events .entry)) / 312) (multiplier (caseIn (now (units .entry)) (now (references .entry)) (now (past .entry)) (now (events .entry)))) ++ drop (length (now (events .entry)) / 312) (now (multipliers .entry)) ⌝ }
-    ensures three { λ _. ⌜ now (n3 .exit) ≡ listTo (length (now (events .entry)) / 312) (N3 (caseIn (now (units .entry)) (now (references .entry)) (now (past .entry)) (now (events .entry)))) ++ drop (length (now (events .entry)) / 312) (now (n3 .entry)) ⌝ }
-    ensures two { λ _. ⌜ now (n2 .exit) ≡ listTo (length (now (events .entry)) / 312) (N2 (caseIn (now (units .entry)) (now (references .entry)) (now (past .entry)) (now (events .entry)))) ++ drop (length (now (events .entry)) / 312) (now (n2 .entry)) ⌝ }
-    ensures penalised { λ _. ⌜ now (penalties .exit) ≡ listTo (length (now (events .entry)) / 312) (penalty (caseIn (now (units .entry)) (now (references .entry)) (now (past .entry)) (now (events .entry)))) ++ drop (length (now (events .entry)) / 312) (now (penalties .entry)) ⌝ }
+    requires { ⌜ Found (caseIn (now units) (now references) (now past) (now events)) (length (now events) / eventWidth) (now groups) (now leaders) (now masks) ⌝ }
+    requires { ⌜ (length (now events) / eventWidth ≤ length (now multipliers)) × (length (now events) / eventWidth ≤ length (now n3)) × (length (now events) / eventWidth ≤ length (now n2)) × (length (now events) / eventWidth ≤ length (now penalties)) ⌝ }
+    ensures multiplied { λ _. ⌜ now (multipliers .exit) ≡ listTo (length (now (events .entry)) / eventWidth) (multiplier (caseIn (now (units .entry)) (now (references .entry)) (now (past .entry)) (now (events .entry)))) ++ drop (length (now (events .entry)) / eventWidth) (now (multipliers .entry)) ⌝ }
+    ensures three { λ _. ⌜ now (n3 .exit) ≡ listTo (length (now (events .entry)) / eventWidth) (N3 (caseIn (now (units .entry)) (now (references .entry)) (now (past .entry)) (now (events .entry)))) ++ drop (length (now (events .entry)) / eventWidth) (now (n3 .entry)) ⌝ }
+    ensures two { λ _. ⌜ now (n2 .exit) ≡ listTo (length (now (events .entry)) / eventWidth) (N2 (caseIn (now (units .entry)) (now (references .entry)) (now (past .entry)) (now (events .entry)))) ++ drop (length (now (events .entry)) / eventWidth) (now (n2 .entry)) ⌝ }
+    ensures penalised { λ _. ⌜ now (penalties .exit) ≡ listTo (length (now (events .entry)) / eventWidth) (penalty (caseIn (now (units .entry)) (now (references .entry)) (now (past .entry)) (now (events .entry)))) ++ drop (length (now (events .entry)) / eventWidth) (now (penalties .entry)) ⌝ }
 {
     let n = events.len() / layout::EVENT_WIDTH;
     let mut i = 0;
@@ -114,13 +115,13 @@ pub fn find_penalties(
     penalties: &mut [u64],
 ) -> u64
     requires { ⌜ Accepted (now units) (now past) (now events) ⌝ }
-    requires { ⌜ Found (caseIn (now units) (now references) (now past) (now events)) (length (now events) / 312) (now groups) (now leaders) (now masks) ⌝ }
-    requires { ⌜ (length (now events) / 312 ≤ length (now multipliers)) × (length (now events) / 312 ≤ length (now n3)) × (length (now events) / 312 ≤ length (now n2)) × (length (now events) / 312 ≤ length (now penalties)) ⌝ }
+    requires { ⌜ Found (caseIn (now units) (now references) (now past) (now events)) (length (now events) / eventWidth) (now groups) (now leaders) (now masks) ⌝ }
+    requires { ⌜ (length (now events) / eventWidth ≤ length (now multipliers)) × (length (now events) / eventWidth ≤ length (now n3)) × (length (now events) / eventWidth ≤ length (now n2)) × (length (now events) / eventWidth ≤ length (now penalties)) ⌝ }
     ensures total { λ r. ⌜ r ≡ totalPenalty (caseIn (now (units .entry)) (now (references .entry)) (now (past .entry)) (now (events .entry))) ⌝ }
-    ensures multiplied { λ _. ⌜ now (multipliers .exit) ≡ listTo (length (now (events .entry)) / 312) (multiplier (caseIn (now (units .entry)) (now (references .entry)) (now (past .entry)) (now (events .entry)))) ++ drop (length (now (events .entry)) / 312) (now (multipliers .entry)) ⌝ }
-    ensures three { λ _. ⌜ now (n3 .exit) ≡ listTo (length (now (events .entry)) / 312) (N3 (caseIn (now (units .entry)) (now (references .entry)) (now (past .entry)) (now (events .entry)))) ++ drop (length (now (events .entry)) / 312) (now (n3 .entry)) ⌝ }
-    ensures two { λ _. ⌜ now (n2 .exit) ≡ listTo (length (now (events .entry)) / 312) (N2 (caseIn (now (units .entry)) (now (references .entry)) (now (past .entry)) (now (events .entry)))) ++ drop (length (now (events .entry)) / 312) (now (n2 .entry)) ⌝ }
-    ensures penalised { λ _. ⌜ now (penalties .exit) ≡ listTo (length (now (events .entry)) / 312) (penalty (caseIn (now (units .entry)) (now (references .entry)) (now (past .entry)) (now (events .entry)))) ++ drop (length (now (events .entry)) / 312) (now (penalties .entry)) ⌝ }
+    ensures multiplied { λ _. ⌜ now (multipliers .exit) ≡ listTo (length (now (events .entry)) / eventWidth) (multiplier (caseIn (now (units .entry)) (now (references .entry)) (now (past .entry)) (now (events .entry)))) ++ drop (length (now (events .entry)) / eventWidth) (now (multipliers .entry)) ⌝ }
+    ensures three { λ _. ⌜ now (n3 .exit) ≡ listTo (length (now (events .entry)) / eventWidth) (N3 (caseIn (now (units .entry)) (now (references .entry)) (now (past .entry)) (now (events .entry)))) ++ drop (length (now (events .entry)) / eventWidth) (now (n3 .entry)) ⌝ }
+    ensures two { λ _. ⌜ now (n2 .exit) ≡ listTo (length (now (events .entry)) / eventWidth) (N2 (caseIn (now (units .entry)) (now (references .entry)) (now (past .entry)) (now (events .entry)))) ++ drop (length (now (events .entry)) / eventWidth) (now (n2 .entry)) ⌝ }
+    ensures penalised { λ _. ⌜ now (penalties .exit) ≡ listTo (length (now (events .entry)) / eventWidth) (penalty (caseIn (now (units .entry)) (now (references .entry)) (now (past .entry)) (now (events .entry)))) ++ drop (length (now (events .entry)) / eventWidth) (now (penalties .entry)) ⌝ }
 {
     fill_rows(
         units,

@@ -1,10 +1,10 @@
 // The sanction of a withheld event (tariff 23.4.3.3.1).
 ghost use mathlib.Core.Path.{_≡_};
-ghost use Prim.Native.Nat.{_/_, _≤_, _<_};
+ghost use Prim.Native.Nat.{_*_, _/_, _≤_, _<_};
 ghost use lib.ListN.{length};
 ghost use Rattle.binary.specs.Bounded.{sumTo};
 ghost use Rattle.binary.specs.Word.{positivePart};
-ghost use Rattle.casefile.specs.Layout.{hours};
+ghost use Rattle.casefile.specs.Layout.{hours, cellWidth, eventWidth, pastWidth, mostEvents};
 ghost use Rattle.conduct.specs.Stages.{cellsIn};
 ghost use Rattle.sanctions.specs.Found.{SmallAmounts};
 ghost use Rattle.sanctions.specs.Tables.{hourEnergy, withheldRow};
@@ -23,7 +23,7 @@ use tariff::sanctions::withheld_penalty;
 
 // a × (b, or 0 if negative), where the mask has the hour.
 fn hour_amount(cells: &[u8], mask: u32, h: usize) -> u64
-    requires { ⌜ (h < 24) × (length (now cells) ≡ 288) ⌝ }
+    requires { ⌜ (h < hours) × (length (now cells) ≡ cellWidth * hours) ⌝ }
     ensures { λ r. ⌜ r ≡ hourEnergy (positivePart 32) (now (cells .entry)) mask h ⌝ }
 {
     let cell = cell_at(cells, h);
@@ -35,7 +35,7 @@ fn hour_amount(cells: &[u8], mask: u32, h: usize) -> u64
 
 // The sum over flagged hours.
 fn amount(cells: &[u8], mask: u32) -> u64
-    requires { ⌜ (length (now cells) ≡ 288) × SmallAmounts (now cells) ⌝ }
+    requires { ⌜ (length (now cells) ≡ cellWidth * hours) × SmallAmounts (now cells) ⌝ }
     ensures { λ r. ⌜ (r ≡ sumTo hours (hourEnergy (positivePart 32) (now (cells .entry)) mask)) × (r ≤ 10000000000000000) ⌝ }
 {
     let mut sum: u64 = 0;
@@ -56,7 +56,7 @@ pub fn withheld(
     n3: &[u16],
     i: usize,
 ) -> Sanction
-    requires { ⌜ (i < length (now events) / 312) × (i < length (now groups)) × (i < length (now masks)) × (i ≤ length (now n3)) × (i ≤ 200) × (length (now past) / 12 ≤ 256) × SmallAmounts (cellsIn (now events) i) ⌝ }
+    requires { ⌜ (i < length (now events) / eventWidth) × (i < length (now groups)) × (i < length (now masks)) × (i ≤ length (now n3)) × (i ≤ mostEvents) × (length (now past) / pastWidth ≤ 256) × SmallAmounts (cellsIn (now events) i) ⌝ }
     ensures { λ r. ⌜ r ≡ withheldRow (now (past .entry)) (now (events .entry)) (now (groups .entry)) (now (masks .entry)) (now (n3 .entry)) i ⌝ }
 {
     if !with_impact(events, masks, i) {

@@ -5,6 +5,7 @@ ghost use Prim.Native.Nat.{_*_, _/_, _≤_, _<_};
 ghost use lib.ListN.{length, getD};
 ghost use lib.Seq.{sets};
 ghost use Rattle.binary.specs.Lists.{Holds};
+ghost use Rattle.casefile.specs.Layout.{rowWidth, eventWidth, unitWidth, longestFile};
 ghost use Rattle.casefile.specs.Decode.{unitsIn, referencesIn, eventsIn, amountsIn, caseIn};
 ghost use Rattle.casefile.specs.Lookup.{unitOf};
 ghost use Rattle.casefile.specs.Refusal.{eventsListed};
@@ -36,7 +37,7 @@ pub struct Row {
 
 // The bids in force, from byte 32 on.
 fn write_bids(row: &mut [u8], bids: [u32; 24])
-    requires { ⌜ length (now row) ≡ 128 ⌝ }
+    requires { ⌜ length (now row) ≡ rowWidth ⌝ }
     ensures { λ _. ⌜ now (row .exit) ≡ sets (now (row .entry)) 32 (wordsOf bids) ⌝ }
 {
     let mut h = 0;
@@ -48,7 +49,7 @@ fn write_bids(row: &mut [u8], bids: [u32; 24])
 
 // All the bytes of one row.
 fn write_row(row: &mut [u8], r: Row)
-    requires { ⌜ length (now row) ≡ 128 ⌝ }
+    requires { ⌜ length (now row) ≡ rowWidth ⌝ }
     ensures { λ _. ⌜ now (row .exit) ≡ rowBytes r ⌝ }
 {
     store_u32(row, 0, r.flags);
@@ -74,7 +75,7 @@ fn bids_at(
     mitigated: &[u32],
     i: usize,
 ) -> [u32; 24]
-    requires { ⌜ (i < length (now events) / 312) × (i < length (now places)) × (i < length (now levels)) × (i < length (now «correct_levels»)) × (i < length (now mitigated)) × (getD (now places) i 0 < length (now units) / 24) ⌝ }
+    requires { ⌜ (i < length (now events) / eventWidth) × (i < length (now places)) × (i < length (now levels)) × (i < length (now «correct_levels»)) × (i < length (now mitigated)) × (getD (now places) i 0 < length (now units) / unitWidth) ⌝ }
     ensures { λ r. ⌜ r ≡ tableBids (unitsIn (now (units .entry))) (eventsIn (now (events .entry))) (amountsIn (now (events .entry))) (now (places .entry)) (now (levels .entry)) (now («correct_levels» .entry)) (now (mitigated .entry)) i ⌝ }
 {
     bids_in_force(
@@ -144,11 +145,11 @@ pub fn write_rows(
     n2: &[u16],
     rows: &mut [u8],
 )
-    requires { ⌜ (length (now events) ≤ 65000) × (eventsListed (unitsIn (now units)) (eventsIn (now events)) ≡ true) × (128 * (length (now events) / 312) ≤ length (now rows)) ⌝ }
-    requires { ⌜ (length (now events) / 312 ≤ length (now places)) × (length (now events) / 312 ≤ length (now levels)) × (length (now events) / 312 ≤ length (now «correct_levels»)) × (length (now events) / 312 ≤ length (now masks)) × (length (now events) / 312 ≤ length (now mitigated)) × (length (now events) / 312 ≤ length (now penalties)) × (length (now events) / 312 ≤ length (now «make_ups»)) × (length (now events) / 312 ≤ length (now multipliers)) × (length (now events) / 312 ≤ length (now n3)) × (length (now events) / 312 ≤ length (now n2)) ⌝ }
-    requires { ⌜ Holds (length (now events) / 312) (now places) (unitOf (caseIn (now units) (now references) (now past) (now events))) × Holds (length (now events) / 312) (now levels) (bidLevel (referencesIn (now references)) (eventsIn (now events))) × Holds (length (now events) / 312) (now «correct_levels») (correctLevel (referencesIn (now correct)) (eventsIn (now events))) ⌝ }
-    requires { ⌜ Holds (length (now events) / 312) (now masks) (flagMask (caseIn (now units) (now references) (now past) (now events))) × Holds (length (now events) / 312) (now mitigated) (mitigatedMask (caseIn (now units) (now references) (now past) (now events))) × Holds (length (now events) / 312) (now «make_ups») (makeUpOf (caseIn (now units) (now references) (now past) (now events)) (referencesIn (now correct))) ⌝ }
-    requires { ⌜ Holds (length (now events) / 312) (now penalties) (penalty (caseIn (now units) (now references) (now past) (now events))) × Holds (length (now events) / 312) (now multipliers) (multiplier (caseIn (now units) (now references) (now past) (now events))) × Holds (length (now events) / 312) (now n3) (N3 (caseIn (now units) (now references) (now past) (now events))) × Holds (length (now events) / 312) (now n2) (N2 (caseIn (now units) (now references) (now past) (now events))) ⌝ }
+    requires { ⌜ (length (now events) ≤ longestFile) × (eventsListed (unitsIn (now units)) (eventsIn (now events)) ≡ true) × (rowWidth * (length (now events) / eventWidth) ≤ length (now rows)) ⌝ }
+    requires { ⌜ (length (now events) / eventWidth ≤ length (now places)) × (length (now events) / eventWidth ≤ length (now levels)) × (length (now events) / eventWidth ≤ length (now «correct_levels»)) × (length (now events) / eventWidth ≤ length (now masks)) × (length (now events) / eventWidth ≤ length (now mitigated)) × (length (now events) / eventWidth ≤ length (now penalties)) × (length (now events) / eventWidth ≤ length (now «make_ups»)) × (length (now events) / eventWidth ≤ length (now multipliers)) × (length (now events) / eventWidth ≤ length (now n3)) × (length (now events) / eventWidth ≤ length (now n2)) ⌝ }
+    requires { ⌜ Holds (length (now events) / eventWidth) (now places) (unitOf (caseIn (now units) (now references) (now past) (now events))) × Holds (length (now events) / eventWidth) (now levels) (bidLevel (referencesIn (now references)) (eventsIn (now events))) × Holds (length (now events) / eventWidth) (now «correct_levels») (correctLevel (referencesIn (now correct)) (eventsIn (now events))) ⌝ }
+    requires { ⌜ Holds (length (now events) / eventWidth) (now masks) (flagMask (caseIn (now units) (now references) (now past) (now events))) × Holds (length (now events) / eventWidth) (now mitigated) (mitigatedMask (caseIn (now units) (now references) (now past) (now events))) × Holds (length (now events) / eventWidth) (now «make_ups») (makeUpOf (caseIn (now units) (now references) (now past) (now events)) (referencesIn (now correct))) ⌝ }
+    requires { ⌜ Holds (length (now events) / eventWidth) (now penalties) (penalty (caseIn (now units) (now references) (now past) (now events))) × Holds (length (now events) / eventWidth) (now multipliers) (multiplier (caseIn (now units) (now references) (now past) (now events))) × Holds (length (now events) / eventWidth) (now n3) (N3 (caseIn (now units) (now references) (now past) (now events))) × Holds (length (now events) / eventWidth) (now n2) (N2 (caseIn (now units) (now references) (now past) (now events))) ⌝ }
     ensures { λ _. ⌜ now (rows .exit) ≡ rowsOf (caseIn (now (units .entry)) (now (references .entry)) (now (past .entry)) (now (events .entry))) (referencesIn (now (correct .entry))) (now (rows .entry)) ⌝ }
 {
     let n = events.len() / layout::EVENT_WIDTH;

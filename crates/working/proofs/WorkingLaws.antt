@@ -14,6 +14,7 @@ use Rattle.binary.proofs.Implies.{and-l, and-r}
 use Rattle.binary.proofs.BoundedLaws.{sum-same}
 use Rattle.binary.proofs.MaskLaws.{bit-mask}
 use Rattle.tariff.specs.Conduct.{increase}
+use Rattle.casefile.specs.Layout.{eventWidth}
 use Rattle.casefile.specs.Case.{Case}
 use Rattle.casefile.specs.Decode.{recordAt, sectionOf, unitsIn, referencesIn, eventsIn, caseIn, decode}
 use Rattle.casefile.specs.Lookup.{unitOf, groupOf, referenceOf, correctReferences}
@@ -70,7 +71,7 @@ unfolding sumsOf
 sums-are c i h kind sum g x y z ek es eg ex ey ez = rw (ex, ey, ez, ek, es, eg, amounts-where c i h, fuel-where c i h)
 
 party-sum-is : (u e : List ℕ) (i h : ℕ)
-    → sumTo (length e / 312) (λ j. cond (together (caseIn u [] [] e) i j) (partyFigure (caseIn u [] [] e) j h) 0) ≡ partySum (caseIn u [] [] e) i h
+    → sumTo (length e / eventWidth) (λ j. cond (together (caseIn u [] [] e) i j) (partyFigure (caseIn u [] [] e) j h) 0) ≡ partySum (caseIn u [] [] e) i h
 unfolding partySum sumTogether caseIn eventsIn
 party-sum-is u e i h = refl
 
@@ -78,24 +79,24 @@ figure-sections : (u e : List ℕ) (j h : ℕ) → partyFigure (caseIn [] [] [] 
 unfolding partyFigure caseIn
 figure-sections u e j h = refl
 
-module _ (u e leaders : List ℕ) (led : Holds (length e / 312) leaders (leaderOf (caseIn u [] [] e))) where
-  pub below : Below (length e / 312) leaders
+module _ (u e leaders : List ℕ) (led : Holds (length e / eventWidth) leaders (leaderOf (caseIn u [] [] e))) where
+  pub below : Below (length e / eventWidth) leaders
   below j l = let q = leader-le (caseIn u [] [] e) j in let t = led j l in omega arith
 
-  same-leader : (i j : ℕ) → i < length e / 312 → j < length e / 312
+  same-leader : (i j : ℕ) → i < length e / eventWidth → j < length e / eventWidth
       → eqb (getD leaders j 0) (getD leaders i 0) ≡ together (caseIn u [] [] e) i j
   same-leader i j l lj = rw (led j lj, led i l) (leader-eqb (caseIn u [] [] e) i j)
 
   -- the sum of event i's leader is its own
-  pub led-sum : (i h : ℕ) → i < length e / 312
-      → ledSum (caseIn [] [] [] e) leaders (length e / 312) (getD leaders i 0) h ≡ partySum (caseIn u [] [] e) i h
+  pub led-sum : (i h : ℕ) → i < length e / eventWidth
+      → ledSum (caseIn [] [] [] e) leaders (length e / eventWidth) (getD leaders i 0) h ≡ partySum (caseIn u [] [] e) i h
   unfolding ledSum
   led-sum i h l =
-      sum-same (length e / 312) _ _ (λ j lj. ap₂ (λ (b : Bool) (x : ℕ). cond b x 0) (same-leader i j l lj) (figure-sections u e j h))
+      sum-same (length e / eventWidth) _ _ (λ j lj. ap₂ (λ (b : Bool) (x : ℕ). cond b x 0) (same-leader i j l lj) (figure-sections u e j h))
       ∙ party-sum-is u e i h
 
 pub sum-small : (u e : List ℕ) (i h x sum kind : ℕ) → x ≡ cond (eqb kind 1 || eqb kind 2) sum 0 → sum ≡ partySum (caseIn u [] [] e) i h → Bytes e
-    → length e / 312 ≤ 200 → h < 24 → x ≤ 1099511627776
+    → length e / eventWidth ≤ 200 → h < 24 → x ≤ 1099511627776
 sum-small u e i h x sum kind ex es be few l =
     rw (ex, es, ← party-sum-is u e i h) (cond-le (eqb kind 1 || eqb kind 2) _ _ (party-sum-le u [] [] e i h be few l))
 
@@ -104,14 +105,14 @@ pub group-capability : (u e : List ℕ) (i g group : ℕ) → group ≡ groupOf 
 unfolding caseIn
 group-capability u e i g group eg et = et ∙ ap (capabilityOf (unitsIn u)) eg ∙ capability-is (caseIn u [] [] e) i
 
-pub kind-of : (u e event : List ℕ) (i kind : ℕ) → event ≡ recordAt 312 e i → kind ≡ byteAt event 0 → kind ≡ caseIn u [] [] e .events .kind i
+pub kind-of : (u e event : List ℕ) (i kind : ℕ) → event ≡ recordAt eventWidth e i → kind ≡ byteAt event 0 → kind ≡ caseIn u [] [] e .events .kind i
 unfolding caseIn eventsIn
 kind-of u e event i kind ee ek = ek ∙ ap (λ (r : List ℕ). byteAt r 0) ee
 
 -- ---- with the references and the past
 
-module _ (u r p e levels : List ℕ) (held : Holds (length e / 312) levels (bidLevel (referencesIn r) (eventsIn e))) where
-  level-of : (j : ℕ) → j < length e / 312 → caseIn u r p e .events .kind j ≡ 4 → getD levels j 0 ≡ referenceOf (caseIn u r p e) j
+module _ (u r p e levels : List ℕ) (held : Holds (length e / eventWidth) levels (bidLevel (referencesIn r) (eventsIn e))) where
+  level-of : (j : ℕ) → j < length e / eventWidth → caseIn u r p e .events .kind j ≡ 4 → getD levels j 0 ≡ referenceOf (caseIn u r p e) j
   unfolding bidLevel referenceOf caseIn
   level-of j l q = held j l ∙ rw q
 
@@ -121,7 +122,7 @@ module _ (u r p e levels : List ℕ) (held : Holds (length e / 312) levels (bidL
       let q : eqb (caseIn u r p e .events .kind j) 4 ≡ true = search (and-l, and-r) depth 8 in
       eqb-true _ _ q
 
-  count-of : caseIn u r p e .events .count ≡ length e / 312
+  count-of : caseIn u r p e .events .count ≡ length e / eventWidth
   unfolding caseIn eventsIn
   count-of = refl
 
@@ -141,7 +142,7 @@ module _ (u r p e levels : List ℕ) (held : Holds (length e / 312) levels (bidL
   unfolding totalRead totalOf
   total-of i h = read-sections i h ∙ rw (total-is i h)
 
-  level-is : (i : ℕ) → i < length e / 312 → getD levels i 0 ≡ bidLevel (caseIn u r p e .references) (caseIn u r p e .events) i
+  level-is : (i : ℕ) → i < length e / eventWidth → getD levels i 0 ≡ bidLevel (caseIn u r p e .references) (caseIn u r p e .events) i
   unfolding caseIn
   level-is i l = held i l
 
@@ -154,7 +155,7 @@ module _ (u r p e levels : List ℕ) (held : Holds (length e / 312) levels (bidL
   unfolding figuresWith tight unitOf caseIn
   figures-sections i h reference total sums = refl
 
-  pub figures-full : (i h total : ℕ) (sums : Sums) (f : Figures) → i < length e / 312
+  pub figures-full : (i h total : ℕ) (sums : Sums) (f : Figures) → i < length e / eventWidth
       → f ≡ figuresWith (caseIn u [] [] e) i h (getD levels i 0) sums total → sums ≡ sumsOf (caseIn u [] [] e) i h
       → total ≡ totalRead (caseIn [] [] [] e) levels i h → f ≡ figuresOf (caseIn u r p e) i h
   unfolding figuresOf
@@ -198,14 +199,14 @@ module _ (f k u r p e : List ℕ) (u-is : u ≡ sectionOf f 0) (r-is : r ≡ sec
   unfolding decode
   same-case = rw (u-is, r-is, p-is, e-is) refl
 
-  count-is : length e / 312 ≡ decode f .events .count
+  count-is : length e / eventWidth ≡ decode f .events .count
   unfolding decode caseIn eventsIn
   count-is = rw e-is
 
-  pub working-is : (i h : ℕ) → (ltb i (length e / 312) && ltb h 24) ≡ true → workingAt (caseIn u r p e) i h ≡ workingOf f k i h
+  pub working-is : (i h : ℕ) → (ltb i (length e / eventWidth) && ltb h 24) ≡ true → workingAt (caseIn u r p e) i h ≡ workingOf f k i h
   unfolding workingOf
   working-is i h t = let q = rw count-is at t in rw (eq-eqb _ _ fine, same-case, q)
 
-  pub outside-is : (i h : ℕ) → (ltb i (length e / 312) && ltb h 24) ≡ false → refused 10 ≡ workingOf f k i h
+  pub outside-is : (i h : ℕ) → (ltb i (length e / eventWidth) && ltb h 24) ≡ false → refused 10 ≡ workingOf f k i h
   unfolding workingOf
   outside-is i h t = let q = rw count-is at t in rw (eq-eqb _ _ fine, q)

@@ -4,6 +4,7 @@ ghost use mathlib.Core.Path.{_≡_};
 ghost use Prim.Native.Nat.{_/_, _≤_, _<_};
 ghost use lib.ListN.{length, getD};
 ghost use Rattle.binary.specs.Lists.{Holds};
+ghost use Rattle.casefile.specs.Layout.{eventWidth, hours, mostEvents, longestFile, unitWidth};
 ghost use Rattle.casefile.specs.Decode.{caseIn};
 ghost use Rattle.casefile.specs.Lookup.{unitOf, groupOf};
 ghost use Rattle.conduct.specs.Parties.{leaderOf};
@@ -51,9 +52,9 @@ const MOST_ROWS: usize = layout::ROW_WIDTH * layout::MOST_EVENTS;
 
 // The sum of hour h that stands with event i's leader.
 fn leader_sum(events: &[u8], leaders: &[usize], i: usize, h: usize) -> u64
-    requires { ⌜ (i < length (now events) / 312) × (h < 24) × (length (now events) / 312 ≤ 200) × (length (now events) / 312 ≤ length (now leaders)) ⌝ }
-    requires { ⌜ Below (length (now events) / 312) (now leaders) ⌝ }
-    ensures { λ r. ⌜ r ≡ ledSum (caseIn [] [] [] (now (events .entry))) (now (leaders .entry)) (length (now (events .entry)) / 312) (getD (now (leaders .entry)) i 0) h ⌝ }
+    requires { ⌜ (i < length (now events) / eventWidth) × (h < hours) × (length (now events) / eventWidth ≤ mostEvents) × (length (now events) / eventWidth ≤ length (now leaders)) ⌝ }
+    requires { ⌜ Below (length (now events) / eventWidth) (now leaders) ⌝ }
+    ensures { λ r. ⌜ r ≡ ledSum (caseIn [] [] [] (now (events .entry))) (now (leaders .entry)) (length (now (events .entry)) / eventWidth) (getD (now (leaders .entry)) i 0) h ⌝ }
 {
     let mut sums = [0u64; 4800];
     party_sums(events, leaders, &mut sums);
@@ -70,9 +71,9 @@ fn party_figures(
     i: usize,
     h: usize,
 ) -> Sums
-    requires { ⌜ (i < length (now events) / 312) × (h < 24) × (length (now events) / 312 ≤ 200) × (length (now units) ≤ 65000) × (length (now events) / 312 ≤ length (now groups)) × (length (now events) / 312 ≤ length (now leaders)) ⌝ }
-    requires { ⌜ Holds (length (now events) / 312) (now groups) (groupOf (caseIn (now units) [] [] (now events))) ⌝ }
-    requires { ⌜ Holds (length (now events) / 312) (now leaders) (leaderOf (caseIn (now units) [] [] (now events))) ⌝ }
+    requires { ⌜ (i < length (now events) / eventWidth) × (h < hours) × (length (now events) / eventWidth ≤ mostEvents) × (length (now units) ≤ longestFile) × (length (now events) / eventWidth ≤ length (now groups)) × (length (now events) / eventWidth ≤ length (now leaders)) ⌝ }
+    requires { ⌜ Holds (length (now events) / eventWidth) (now groups) (groupOf (caseIn (now units) [] [] (now events))) ⌝ }
+    requires { ⌜ Holds (length (now events) / eventWidth) (now leaders) (leaderOf (caseIn (now units) [] [] (now events))) ⌝ }
     ensures { λ r. ⌜ r ≡ sumsOf (caseIn (now (units .entry)) [] [] (now (events .entry))) i h ⌝ }
     ensures { λ r. ⌜ r .s ≤ 1099511627776 ⌝ }
 {
@@ -88,7 +89,7 @@ fn party_figures(
 
 // The positive d of event i's unit, day and market in hour h, added, where its component reads them.
 fn time_total(events: &[u8], levels: &[u32], i: usize, h: usize) -> u64
-    requires { ⌜ (i < length (now events) / 312) × (h < 24) × (length (now events) / 312 ≤ 200) × (length (now events) / 312 ≤ length (now levels)) ⌝ }
+    requires { ⌜ (i < length (now events) / eventWidth) × (h < hours) × (length (now events) / eventWidth ≤ mostEvents) × (length (now events) / eventWidth ≤ length (now levels)) ⌝ }
     ensures { λ r. ⌜ r ≡ totalRead (caseIn [] [] [] (now (events .entry))) (now (levels .entry)) i h ⌝ }
 {
     let event = record_at(events, i, layout::EVENT_WIDTH);
@@ -117,8 +118,8 @@ fn row_counts(
     i: usize,
 ) -> Counts
     requires { ⌜ Accepted (now units) (now past) (now events) ⌝ }
-    requires { ⌜ Found (caseIn (now units) (now references) (now past) (now events)) (length (now events) / 312) (now groups) (now leaders) (now masks) ⌝ }
-    requires { ⌜ i < length (now events) / 312 ⌝ }
+    requires { ⌜ Found (caseIn (now units) (now references) (now past) (now events)) (length (now events) / eventWidth) (now groups) (now leaders) (now masks) ⌝ }
+    requires { ⌜ i < length (now events) / eventWidth ⌝ }
     ensures { λ r. ⌜ r ≡ countsOf (caseIn (now (units .entry)) (now (references .entry)) (now (past .entry)) (now (events .entry))) i ⌝ }
 {
     let mut multipliers = [0u8; 200];
@@ -155,7 +156,7 @@ fn figures_at(
     i: usize,
     h: usize,
 ) -> Figures
-    requires { ⌜ (i < length (now events) / 312) × (h < 24) × (place < length (now units) / 24) ⌝ }
+    requires { ⌜ (i < length (now events) / eventWidth) × (h < hours) × (place < length (now units) / unitWidth) ⌝ }
     requires { ⌜ place ≡ unitOf (caseIn (now units) [] [] (now events)) i ⌝ }
     ensures { λ r. ⌜ r ≡ figuresWith (caseIn (now (units .entry)) [] [] (now (events .entry))) i h reference sums total ⌝ }
 {
@@ -291,7 +292,7 @@ fn working_found(
 ) -> Working
     requires { ⌜ AcceptedCase (now units) (now references) (now past) (now events) ⌝ }
     requires { ⌜ FoundFlags (now units) (now references) (now past) (now events) (now places) (now groups) (now leaders) (now levels) (now masks) ⌝ }
-    requires { ⌜ (i < length (now events) / 312) × (h < 24) ⌝ }
+    requires { ⌜ (i < length (now events) / eventWidth) × (h < hours) ⌝ }
     ensures { λ r. ⌜ r ≡ workingAt (caseIn (now (units .entry)) (now (references .entry)) (now (past .entry)) (now (events .entry))) i h ⌝ }
 {
     let flagged = bit_of(masks[i], h);
@@ -312,7 +313,7 @@ fn working_at(
     h: usize,
 ) -> Working
     requires { ⌜ AcceptedCase (now units) (now references) (now past) (now events) ⌝ }
-    requires { ⌜ (i < length (now events) / 312) × (h < 24) ⌝ }
+    requires { ⌜ (i < length (now events) / eventWidth) × (h < hours) ⌝ }
     ensures { λ r. ⌜ r ≡ workingAt (caseIn (now (units .entry)) (now (references .entry)) (now (past .entry)) (now (events .entry))) i h ⌝ }
 {
     let mut places = [0usize; 200];

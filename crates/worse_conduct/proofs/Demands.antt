@@ -6,9 +6,8 @@ use borrow.Author.Tests.{eq-eqb, ne-eqb}
 use lib.ListN.{length}
 use Rattle.casefile.specs.Refusal.{refusal}
 use Rattle.settlement.specs.Row.{rowsOf}
-use Rattle.settlement.specs.Settled.{Answer, accepted, refused, answerOf, settlementOf, answerOfSettlement, rowsAfter, Settled, settled}
+use Rattle.settlement.specs.Settled.{Answer, accepted, answerOf, settlementOf, answerOfSettlement, rowsAfter, settled}
 use Rattle.settlement.specs.declared.settle.Settlement.{Settlement}
-use Rattle.worse_conduct.specs.Promise.{NoSmaller}
 use Rattle.worse_conduct.specs.Demands.{Run, Demand1, Demand2, Demand3, WorseOfTwo}
 use Rattle.worse_conduct.proofs.WorseConduct.{worse-conduct}
 

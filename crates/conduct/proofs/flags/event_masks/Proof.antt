@@ -6,6 +6,7 @@ use native.Mathlib.Omega.{arith}
 use lib.ListN.{length, drop, length-set}
 use Rattle.binary.specs.Lists.{listTo}
 use Rattle.binary.proofs.ListLaws.{fill-none, fill-more, holds-fill}
+use Rattle.casefile.specs.Layout.{eventWidth}
 use Rattle.casefile.specs.Decode.{caseIn}
 use Rattle.conduct.specs.Stages.{HasRow, totalBefore, flagMaskIn}
 use Rattle.conduct.proofs.FlagLaws.{totals-first, totals-next}
@@ -14,11 +15,11 @@ use Rattle.conduct.proofs.flags.event_masks.Tie as tie
 
 abbrev Inv-loop : tie.InvT-loop
 Inv-loop units events places leaders levels sums capabilities keys masks₀ n totals₀ i₀ masks totals i =
-    (i ≤ length events / 312) × (length masks ≡ length masks₀) × (masks ≡ listTo i (flagMaskIn (caseIn units [] [] events) levels) ++ drop i masks₀)
+    (i ≤ length events / eventWidth) × (length masks ≡ length masks₀) × (masks ≡ listTo i (flagMaskIn (caseIn units [] [] events) levels) ++ drop i masks₀)
     × HasRow (totalBefore (caseIn [] [] [] events) levels i) totals
 
 abbrev μ-loop : tie.MeasureT-loop
-μ-loop units events places leaders levels sums capabilities keys masks₀ n totals₀ i₀ masks totals i = length events / 312 - i
+μ-loop units events places leaders levels sums capabilities keys masks₀ n totals₀ i₀ masks totals i = length events / eventWidth - i
 
 pub event-masks-spec : {M : Type 1} → statement M
 event-masks-spec =
@@ -59,5 +60,5 @@ event-masks-spec =
     ))
     (λ c. c .before .loop .inv .1)
     (λ c.
-    let e : c .before .loop .i ≡ length (c .before .before .before .before .before .before .before .before .before .before .before .args .events .now) / 312 = omega arith in
+    let e : c .before .loop .i ≡ length (c .before .before .before .before .before .before .before .before .before .before .before .args .events .now) / eventWidth = omega arith in
     rw e at (c .before .loop .inv .2)))

@@ -6,6 +6,7 @@ use native.Mathlib.Omega.{arith}
 use lib.ListN.{length, drop, length-set}
 use Rattle.binary.specs.Lists.{listTo}
 use Rattle.binary.proofs.ListLaws.{fill-none, fill-more}
+use Rattle.casefile.specs.Layout.{eventWidth}
 use Rattle.casefile.specs.Decode.{caseIn}
 use Rattle.casefile.specs.Lookup.{groupOf}
 use Rattle.conduct.proofs.StageLaws.{place-in, group-in}
@@ -14,10 +15,10 @@ use Rattle.conduct.proofs.parties.party_groups.Tie as tie
 
 abbrev Inv-loop : tie.InvT-loop
 Inv-loop units events places groups₀ n i₀ groups i =
-    (i ≤ length events / 312) × (length groups ≡ length groups₀) × (groups ≡ listTo i (groupOf (caseIn units [] [] events)) ++ drop i groups₀)
+    (i ≤ length events / eventWidth) × (length groups ≡ length groups₀) × (groups ≡ listTo i (groupOf (caseIn units [] [] events)) ++ drop i groups₀)
 
 abbrev μ-loop : tie.MeasureT-loop
-μ-loop units events places groups₀ n i₀ groups i = length events / 312 - i
+μ-loop units events places groups₀ n i₀ groups i = length events / eventWidth - i
 
 pub party-groups-spec : {M : Type 1} → statement M
 party-groups-spec =
@@ -47,5 +48,5 @@ party-groups-spec =
     ))
     (λ c. c .before .loop .inv .1)
     (λ c.
-    let e : c .before .loop .i ≡ length (c .before .before .before .before .before .before .args .events .now) / 312 = omega arith in
+    let e : c .before .loop .i ≡ length (c .before .before .before .before .before .before .args .events .now) / eventWidth = omega arith in
     rw e at (c .before .loop .inv .2)))

@@ -6,6 +6,7 @@ use native.Mathlib.Omega.{arith}
 use lib.ListN.{length, drop, length-set}
 use Rattle.binary.specs.Lists.{listTo}
 use Rattle.binary.proofs.ListLaws.{fill-none, fill-more}
+use Rattle.casefile.specs.Layout.{eventWidth}
 use Rattle.casefile.specs.Decode.{eventsIn}
 use Rattle.conduct.specs.Stages.{keyIn}
 use Rattle.conduct.proofs.parties.party_keys.Statement.{statement}
@@ -13,10 +14,10 @@ use Rattle.conduct.proofs.parties.party_keys.Tie as tie
 
 abbrev Inv-loop : tie.InvT-loop
 Inv-loop events groups keys₀ n i₀ keys i =
-    (i ≤ length events / 312) × (length keys ≡ length keys₀) × (keys ≡ listTo i (keyIn (eventsIn events) groups) ++ drop i keys₀)
+    (i ≤ length events / eventWidth) × (length keys ≡ length keys₀) × (keys ≡ listTo i (keyIn (eventsIn events) groups) ++ drop i keys₀)
 
 abbrev μ-loop : tie.MeasureT-loop
-μ-loop events groups keys₀ n i₀ keys i = length events / 312 - i
+μ-loop events groups keys₀ n i₀ keys i = length events / eventWidth - i
 
 pub party-keys-spec : {M : Type 1} → statement M
 party-keys-spec =
@@ -38,5 +39,5 @@ party-keys-spec =
     ))
     (λ c. c .before .loop .inv .1)
     (λ c.
-    let e : c .before .loop .i ≡ length (c .before .before .before .before .before .args .events .now) / 312 = omega arith in
+    let e : c .before .loop .i ≡ length (c .before .before .before .before .before .args .events .now) / eventWidth = omega arith in
     rw e at (c .before .loop .inv .2)))

@@ -7,6 +7,7 @@ use lib.ListN.{length, drop, length-set}
 use Rattle.binary.specs.Lists.{listTo}
 use Rattle.binary.proofs.BoundedLaws.{all-at}
 use Rattle.binary.proofs.ListLaws.{fill-none, fill-more}
+use Rattle.casefile.specs.Layout.{eventWidth}
 use Rattle.casefile.specs.Decode.{referencesIn, eventsIn}
 use Rattle.conduct.specs.Parties.{bidLevel, levelFound, levelsFound}
 use Rattle.conduct.proofs.parties.reference_levels.Statement.{statement}
@@ -14,10 +15,10 @@ use Rattle.conduct.proofs.parties.reference_levels.Tie as tie
 
 abbrev Inv-loop : tie.InvT-loop
 Inv-loop references events levels₀ n i₀ levels i =
-    (i ≤ length events / 312) × (length levels ≡ length levels₀) × (levels ≡ listTo i (bidLevel (referencesIn references) (eventsIn events)) ++ drop i levels₀)
+    (i ≤ length events / eventWidth) × (length levels ≡ length levels₀) × (levels ≡ listTo i (bidLevel (referencesIn references) (eventsIn events)) ++ drop i levels₀)
 
 abbrev μ-loop : tie.MeasureT-loop
-μ-loop references events levels₀ n i₀ levels i = length events / 312 - i
+μ-loop references events levels₀ n i₀ levels i = length events / eventWidth - i
 
 pub reference-levels-spec : {M : Type 1} → statement M
 unfolding levelsFound eventsIn
@@ -32,7 +33,7 @@ reference-levels-spec =
     let a = s .args in (
       c .loop-test .taken,
       s .pre .0 .0,
-      all-at (length (a .events .now) / 312) (c .before .loop .i) (levelFound (referencesIn (a .references .now)) (eventsIn (a .events .now))) (c .loop-test .taken) (s .pre .0 .1),
+      all-at (length (a .events .now) / eventWidth) (c .before .loop .i) (levelFound (referencesIn (a .references .now)) (eventsIn (a .events .now))) (c .loop-test .taken) (s .pre .0 .1),
     ))
     (λ c. omega arith)
     (λ c. search needs)
@@ -46,5 +47,5 @@ reference-levels-spec =
     ))
     (λ c. c .before .loop .inv .1)
     (λ c.
-    let e : c .before .loop .i ≡ length (c .before .before .before .before .before .args .events .now) / 312 = omega arith in
+    let e : c .before .loop .i ≡ length (c .before .before .before .before .before .args .events .now) / eventWidth = omega arith in
     rw e at (c .before .loop .inv .2)))

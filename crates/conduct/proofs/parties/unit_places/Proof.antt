@@ -6,6 +6,7 @@ use native.Mathlib.Omega.{arith}
 use lib.ListN.{length, drop, length-set}
 use Rattle.binary.specs.Lists.{listTo}
 use Rattle.binary.proofs.ListLaws.{fill-none, fill-more}
+use Rattle.casefile.specs.Layout.{eventWidth}
 use Rattle.casefile.specs.Decode.{caseIn}
 use Rattle.casefile.specs.Lookup.{unitOf}
 use Rattle.conduct.proofs.parties.unit_places.Statement.{statement}
@@ -13,10 +14,10 @@ use Rattle.conduct.proofs.parties.unit_places.Tie as tie
 
 abbrev Inv-loop : tie.InvT-loop
 Inv-loop units events places₀ n i₀ places i =
-    (i ≤ length events / 312) × (length places ≡ length places₀) × (places ≡ listTo i (unitOf (caseIn units [] [] events)) ++ drop i places₀)
+    (i ≤ length events / eventWidth) × (length places ≡ length places₀) × (places ≡ listTo i (unitOf (caseIn units [] [] events)) ++ drop i places₀)
 
 abbrev μ-loop : tie.MeasureT-loop
-μ-loop units events places₀ n i₀ places i = length events / 312 - i
+μ-loop units events places₀ n i₀ places i = length events / eventWidth - i
 
 pub unit-places-spec : {M : Type 1} → statement M
 unit-places-spec =
@@ -38,5 +39,5 @@ unit-places-spec =
     ))
     (λ c. c .before .loop .inv .1)
     (λ c.
-    let e : c .before .loop .i ≡ length (c .before .before .before .before .before .args .events .now) / 312 = omega arith in
+    let e : c .before .loop .i ≡ length (c .before .before .before .before .before .args .events .now) / eventWidth = omega arith in
     rw e at (c .before .loop .inv .2)))

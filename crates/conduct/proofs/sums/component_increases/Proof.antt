@@ -5,6 +5,7 @@ use native.Mathlib.Omega.{arith}
 use lib.Dec.{eqb}
 use lib.ListN.{length, getD}
 use Rattle.binary.specs.Lists.{Holds}
+use Rattle.casefile.specs.Layout.{eventWidth}
 use Rattle.casefile.specs.Decode.{amountsIn}
 use Rattle.conduct.specs.Stages.{countedIncrease, keyedIncrease}
 use Rattle.conduct.proofs.SumLaws.{zeros-at, increases-none, increases-more, added-bound, counted-bound}
@@ -13,11 +14,11 @@ use Rattle.conduct.proofs.sums.component_increases.Tie as tie
 
 abbrev Inv-loop : tie.InvT-loop
 Inv-loop events levels keys key n row₀ j₀ row j =
-    (j ≤ length events / 312) × (length row ≡ 24) × ((k : ℕ) → getD row k 0 ≤ 4294967295 * j)
+    (j ≤ length events / eventWidth) × (length row ≡ 24) × ((k : ℕ) → getD row k 0 ≤ 4294967295 * j)
     × Holds 24 row (keyedIncrease (amountsIn events) levels keys key j)
 
 abbrev μ-loop : tie.MeasureT-loop
-μ-loop events levels keys key n row₀ j₀ row j = length events / 312 - j
+μ-loop events levels keys key n row₀ j₀ row j = length events / eventWidth - j
 
 pub component-increases-spec : {M : Type 1} → statement M
 component-increases-spec =
@@ -55,5 +56,5 @@ component-increases-spec =
     ))
     (λ c.
     let l = c .before .loop in
-    let e : l .j ≡ length (c .before .before .before .before .before .args .events .now) / 312 = omega arith in
+    let e : l .j ≡ length (c .before .before .before .before .before .args .events .now) / eventWidth = omega arith in
     rw e at (l .inv .3)))

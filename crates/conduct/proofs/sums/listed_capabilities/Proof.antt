@@ -6,6 +6,7 @@ use native.Mathlib.Omega.{arith}
 use lib.ListN.{length, drop, length-set}
 use Rattle.binary.specs.Lists.{listTo}
 use Rattle.binary.proofs.ListLaws.{fill-none, fill-more, holds-fill}
+use Rattle.casefile.specs.Layout.{eventWidth}
 use Rattle.casefile.specs.Decode.{caseIn}
 use Rattle.conduct.specs.Stages.{listedCapability}
 use Rattle.conduct.proofs.sums.listed_capabilities.Statement.{statement}
@@ -13,11 +14,11 @@ use Rattle.conduct.proofs.sums.listed_capabilities.Tie as tie
 
 abbrev Inv-loop : tie.InvT-loop
 Inv-loop units events groups leaders capabilities₀ n i₀ capabilities i =
-    (i ≤ length events / 312) × (length capabilities ≡ length capabilities₀)
+    (i ≤ length events / eventWidth) × (length capabilities ≡ length capabilities₀)
     × (capabilities ≡ listTo i (listedCapability (caseIn units [] [] events)) ++ drop i capabilities₀)
 
 abbrev μ-loop : tie.MeasureT-loop
-μ-loop units events groups leaders capabilities₀ n i₀ capabilities i = length events / 312 - i
+μ-loop units events groups leaders capabilities₀ n i₀ capabilities i = length events / eventWidth - i
 
 pub listed-capabilities-spec : {M : Type 1} → statement M
 listed-capabilities-spec =
@@ -44,5 +45,5 @@ listed-capabilities-spec =
     (λ c. c .before .loop .inv .1)
     (λ c.
     let l = c .before .loop in
-    let e : l .i ≡ length (c .before .before .before .before .before .before .before .args .events .now) / 312 = omega arith in
+    let e : l .i ≡ length (c .before .before .before .before .before .before .before .args .events .now) / eventWidth = omega arith in
     holds-fill _ _ _ _ (rw e at (l .inv .2))))

@@ -1,9 +1,10 @@
 use Prim.Native.Nat.{ℕ, _≤_, _-_, _*_, _/_}
 use mathlib.Core.List.{[]}
-use mathlib.Core.Path.{_≡_, refl, sym}
+use mathlib.Core.Path.{_≡_, refl}
 use borrow.Author.Needs.{needs}
 use native.Mathlib.Omega.{arith}
 use lib.ListN.{length, getD}
+use Rattle.casefile.specs.Layout.{eventWidth}
 use Rattle.casefile.specs.Decode.{caseIn}
 use Rattle.conduct.specs.Stages.{HasSums}
 use Rattle.conduct.proofs.SumLaws.{sums-none, sums-more, added-bound, figure-le}
@@ -12,11 +13,11 @@ use Rattle.conduct.proofs.sums.party_sums.Tie as tie
 
 abbrev Inv-loop : tie.InvT-loop
 Inv-loop events leaders sums₀ n j₀ sums j =
-    (j ≤ length events / 312) × (length sums ≡ length sums₀) × ((k : ℕ) → getD sums k 0 ≤ 4294967295 * j)
-    × HasSums (caseIn [] [] [] events) leaders (length events / 312) j sums
+    (j ≤ length events / eventWidth) × (length sums ≡ length sums₀) × ((k : ℕ) → getD sums k 0 ≤ 4294967295 * j)
+    × HasSums (caseIn [] [] [] events) leaders (length events / eventWidth) j sums
 
 abbrev μ-loop : tie.MeasureT-loop
-μ-loop events leaders sums₀ n j₀ sums j = length events / 312 - j
+μ-loop events leaders sums₀ n j₀ sums j = length events / eventWidth - j
 
 pub party-sums-spec : {M : Type 1} → statement M
 party-sums-spec =
@@ -54,5 +55,5 @@ party-sums-spec =
     (λ c. c .before .loop .inv .1)
     (λ c.
     let l = c .before .loop in
-    let e : l .j ≡ length (c .before .before .before .before .before .args .events .now) / 312 = omega arith in
+    let e : l .j ≡ length (c .before .before .before .before .before .args .events .now) / eventWidth = omega arith in
     rw e at (l .inv .3)))

@@ -6,6 +6,7 @@ use native.Mathlib.Omega.{arith}
 use lib.ListN.{length, drop, length-set}
 use Rattle.binary.specs.Lists.{listTo}
 use Rattle.binary.proofs.ListLaws.{fill-none, fill-more, holds-fill}
+use Rattle.casefile.specs.Layout.{eventWidth}
 use Rattle.casefile.specs.Decode.{eventsIn}
 use Rattle.conduct.specs.Stages.{timeKey}
 use Rattle.conduct.proofs.sums.time_keys.Statement.{statement}
@@ -13,10 +14,10 @@ use Rattle.conduct.proofs.sums.time_keys.Tie as tie
 
 abbrev Inv-loop : tie.InvT-loop
 Inv-loop events keys₀ n j₀ keys j =
-    (j ≤ length events / 312) × (length keys ≡ length keys₀) × (keys ≡ listTo j (timeKey (eventsIn events)) ++ drop j keys₀)
+    (j ≤ length events / eventWidth) × (length keys ≡ length keys₀) × (keys ≡ listTo j (timeKey (eventsIn events)) ++ drop j keys₀)
 
 abbrev μ-loop : tie.MeasureT-loop
-μ-loop events keys₀ n j₀ keys j = length events / 312 - j
+μ-loop events keys₀ n j₀ keys j = length events / eventWidth - j
 
 pub time-keys-spec : {M : Type 1} → statement M
 time-keys-spec =
@@ -39,5 +40,5 @@ time-keys-spec =
     (λ c. c .before .loop .inv .1)
     (λ c.
     let l = c .before .loop in
-    let e : l .j ≡ length (c .before .before .before .before .args .events .now) / 312 = omega arith in
+    let e : l .j ≡ length (c .before .before .before .before .args .events .now) / eventWidth = omega arith in
     holds-fill _ _ _ _ (rw e at (l .inv .2))))

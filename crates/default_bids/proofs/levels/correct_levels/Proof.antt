@@ -7,6 +7,7 @@ use lib.ListN.{length, drop, length-set}
 use Rattle.binary.specs.Lists.{listTo}
 use Rattle.binary.proofs.BoundedLaws.{all-at}
 use Rattle.binary.proofs.ListLaws.{fill-none, fill-more}
+use Rattle.casefile.specs.Layout.{eventWidth}
 use Rattle.casefile.specs.Decode.{referencesIn, eventsIn}
 use Rattle.default_bids.specs.Figures.{correctLevel, correctFound, correctsFound}
 use Rattle.default_bids.proofs.levels.correct_levels.Statement.{statement}
@@ -14,11 +15,11 @@ use Rattle.default_bids.proofs.levels.correct_levels.Tie as tie
 
 abbrev Inv-loop : tie.InvT-loop
 Inv-loop correct events levels₀ n i₀ levels i =
-    (i ≤ length events / 312) × (length levels ≡ length levels₀)
+    (i ≤ length events / eventWidth) × (length levels ≡ length levels₀)
     × (levels ≡ listTo i (correctLevel (referencesIn correct) (eventsIn events)) ++ drop i levels₀)
 
 abbrev μ-loop : tie.MeasureT-loop
-μ-loop correct events levels₀ n i₀ levels i = length events / 312 - i
+μ-loop correct events levels₀ n i₀ levels i = length events / eventWidth - i
 
 pub correct-levels-spec : {M : Type 1} → statement M
 unfolding correctsFound eventsIn
@@ -33,7 +34,7 @@ correct-levels-spec =
     let a = s .args in (
       c .loop-test .taken,
       s .pre .1,
-      all-at (length (a .events .now) / 312) (c .before .loop .i) (correctFound (referencesIn (a .correct .now)) (eventsIn (a .events .now))) (c .loop-test .taken) (s .pre .2),
+      all-at (length (a .events .now) / eventWidth) (c .before .loop .i) (correctFound (referencesIn (a .correct .now)) (eventsIn (a .events .now))) (c .loop-test .taken) (s .pre .2),
     ))
     (λ c. search needs)
     (λ c. omega arith)
@@ -47,5 +48,5 @@ correct-levels-spec =
     ))
     (λ c. c .before .loop .inv .1)
     (λ c.
-    let e : c .before .loop .i ≡ length (c .before .before .before .before .before .args .events .now) / 312 = omega arith in
+    let e : c .before .loop .i ≡ length (c .before .before .before .before .before .args .events .now) / eventWidth = omega arith in
     rw e at (c .before .loop .inv .2)))

@@ -8,6 +8,7 @@ use Rattle.binary.specs.Bounded.{sumTo}
 use Rattle.binary.specs.Lists.{listTo}
 use Rattle.binary.proofs.BoundedLaws.{sum-none, sum-more}
 use Rattle.binary.proofs.ListLaws.{fill-none, fill-more}
+use Rattle.casefile.specs.Layout.{eventWidth}
 use Rattle.casefile.specs.Decode.{referencesIn, eventsIn, caseIn}
 use Rattle.default_bids.specs.Mitigation.{makeUpOf, totalMakeUp}
 use Rattle.default_bids.proofs.FigureLaws.{make-up-by}
@@ -16,12 +17,12 @@ use Rattle.default_bids.proofs.make_up.make_ups.Tie as tie
 
 abbrev Inv-loop : tie.InvT-loop
 Inv-loop units references correct events levels corrects mitigated ups₀ n total₀ i₀ ups total i =
-    (i ≤ length events / 312) × (total ≤ 5153960755200001 * i) × (length ups ≡ length ups₀)
+    (i ≤ length events / eventWidth) × (total ≤ 5153960755200001 * i) × (length ups ≡ length ups₀)
     × (total ≡ sumTo i (makeUpOf (caseIn units references [] events) (referencesIn correct)))
     × (ups ≡ listTo i (makeUpOf (caseIn units references [] events) (referencesIn correct)) ++ drop i ups₀)
 
 abbrev μ-loop : tie.MeasureT-loop
-μ-loop units references correct events levels corrects mitigated ups₀ n total₀ i₀ ups total i = length events / 312 - i
+μ-loop units references correct events levels corrects mitigated ups₀ n total₀ i₀ ups total i = length events / eventWidth - i
 
 found : (c : tie.After-event-make-up Inv-loop μ-loop) →
     let l = c .before .before .before .before .before in
@@ -72,5 +73,5 @@ make-ups-spec =
     ))
     (λ c. c .before .loop .inv .2)
     (λ c.
-    let e : c .before .loop .i ≡ length (c .before .before .before .before .before .before .before .before .before .before .args .events .now) / 312 = omega arith in
+    let e : c .before .loop .i ≡ length (c .before .before .before .before .before .before .before .before .before .before .args .events .now) / eventWidth = omega arith in
     (rw e at (c .before .loop .inv .3), rw e at (c .before .loop .inv .4))))

@@ -6,6 +6,7 @@ use native.Mathlib.Omega.{arith}
 use lib.ListN.{length, drop, length-set}
 use Rattle.binary.specs.Lists.{listTo}
 use Rattle.binary.proofs.ListLaws.{fill-none, fill-more}
+use Rattle.casefile.specs.Layout.{eventWidth}
 use Rattle.casefile.specs.Decode.{eventsIn, caseIn}
 use Rattle.default_bids.specs.Mitigation.{mitigatedMask}
 use Rattle.default_bids.specs.Figures.{mitigatedBy}
@@ -15,11 +16,11 @@ use Rattle.default_bids.proofs.mitigated.mitigated_masks.Tie as tie
 
 abbrev Inv-loop : tie.InvT-loop
 Inv-loop units references events masks mitigated₀ n i₀ mitigated i =
-    (i ≤ length events / 312) × (length mitigated ≡ length mitigated₀)
+    (i ≤ length events / eventWidth) × (length mitigated ≡ length mitigated₀)
     × (mitigated ≡ listTo i (mitigatedMask (caseIn units references [] events)) ++ drop i mitigated₀)
 
 abbrev μ-loop : tie.MeasureT-loop
-μ-loop units references events masks mitigated₀ n i₀ mitigated i = length events / 312 - i
+μ-loop units references events masks mitigated₀ n i₀ mitigated i = length events / eventWidth - i
 
 found : (c : tie.After-mitigated-mask Inv-loop μ-loop) →
     let l = c .before .before .before in
@@ -56,5 +57,5 @@ mitigated-masks-spec =
     ))
     (λ c. c .before .loop .inv .1)
     (λ c.
-    let e : c .before .loop .i ≡ length (c .before .before .before .before .before .before .before .args .events .now) / 312 = omega arith in
+    let e : c .before .loop .i ≡ length (c .before .before .before .before .before .before .before .args .events .now) / eventWidth = omega arith in
     rw e at (c .before .loop .inv .2)))

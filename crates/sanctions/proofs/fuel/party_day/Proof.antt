@@ -5,6 +5,7 @@ use native.Mathlib.Omega.{arith}
 use lib.ListN.{length}
 use Rattle.binary.specs.Bounded.{sumTo}
 use Rattle.binary.specs.Word.{positivePart, negativePart}
+use Rattle.casefile.specs.Layout.{eventWidth}
 use Rattle.sanctions.specs.Tables.{ledBy, energyAt, tccAt, partyDay}
 use Rattle.sanctions.proofs.TableLaws.{positive-part, negative-part, sum-turn, shares, energy-led, tcc-led, none-before}
 use Rattle.sanctions.proofs.fuel.party_day.Statement.{statement}
@@ -12,13 +13,13 @@ use Rattle.sanctions.proofs.fuel.party_day.Tie as tie
 
 abbrev Inv-loop : tie.InvT-loop
 Inv-loop events leaders mask i n gain₀ loss₀ rise₀ fall₀ j₀ gain loss rise fall j =
-    (j ≤ length events / 312) × (gain ≡ sumTo j (ledBy leaders i (energyAt (positivePart 32) events mask)))
+    (j ≤ length events / eventWidth) × (gain ≡ sumTo j (ledBy leaders i (energyAt (positivePart 32) events mask)))
     × (loss ≡ sumTo j (ledBy leaders i (energyAt (negativePart 32) events mask)))
     × (rise ≡ sumTo j (ledBy leaders i (tccAt (positivePart 32) events)))
     × (fall ≡ sumTo j (ledBy leaders i (tccAt (negativePart 32) events)))
 
 abbrev μ-loop : tie.MeasureT-loop
-μ-loop events leaders mask i n gain₀ loss₀ rise₀ fall₀ j₀ gain loss rise fall j = length events / 312 - j
+μ-loop events leaders mask i n gain₀ loss₀ rise₀ fall₀ j₀ gain loss rise fall j = length events / eventWidth - j
 
 -- what a turn adds, each sum of at most 200 events
 module _ (c : tie.After-party-share Inv-loop μ-loop) where
@@ -37,7 +38,7 @@ module _ (c : tie.After-party-share Inv-loop μ-loop) where
   abbrev i : ℕ
   i = c .before .before .before .before .before .args .i
 
-  below : (k : ℕ) → k < c .before .before .loop .j + 1 → k < length e / 312
+  below : (k : ℕ) → k < c .before .before .loop .j + 1 → k < length e / eventWidth
   below k b = let t = c .before .loop-test .taken in omega arith
 
   gained : Turn (c .before .before .loop .gain) (c .party-share .result .gain) 3000000000000000 (ledBy l i (energyAt (positivePart 32) e m))
@@ -91,5 +92,5 @@ party-day-spec =
     (omega arith, gained p .0, lost p .0, risen p .0, fallen p .0))
     (λ c.
     let l = c .before .loop in
-    let e : l .j ≡ length (c .before .before .before .before .args .events .now) / 312 = omega arith in
+    let e : l .j ≡ length (c .before .before .before .before .args .events .now) / eventWidth = omega arith in
     rw (l .inv .1, l .inv .2, l .inv .3, l .inv .4, e)))

@@ -3,6 +3,7 @@ use mathlib.Core.Path.{_≡_}
 use borrow.Author.Needs.{needs}
 use native.Mathlib.Omega.{arith}
 use lib.ListN.{length}
+use Rattle.casefile.specs.Layout.{eventWidth}
 use Rattle.casefile.specs.Decode.{caseIn}
 use Rattle.sanctions.specs.Penalties.{multiplier, N3, N2, penalty}
 use Rattle.sanctions.proofs.FoundLaws.{row-found, sound, Filled, filled-none, filled-more, filled-all, filled-holds}
@@ -11,14 +12,14 @@ use Rattle.sanctions.proofs.penalties.fill_rows.Tie as tie
 
 abbrev Inv-loop : tie.InvT-loop
 Inv-loop units references past events groups leaders masks multipliers₀ n3₀ n2₀ penalties₀ n i₀ multipliers n3 n2 penalties i =
-    (i ≤ length events / 312) × Filled i (multiplier (caseIn units references past events)) multipliers multipliers₀
+    (i ≤ length events / eventWidth) × Filled i (multiplier (caseIn units references past events)) multipliers multipliers₀
     × Filled i (N3 (caseIn units references past events)) n3 n3₀
     × Filled i (N2 (caseIn units references past events)) n2 n2₀
     × Filled i (penalty (caseIn units references past events)) penalties penalties₀
 
 abbrev μ-loop : tie.MeasureT-loop
 μ-loop units references past events groups leaders masks multipliers₀ n3₀ n2₀ penalties₀ n i₀ multipliers n3 n2 penalties i =
-    length events / 312 - i
+    length events / eventWidth - i
 
 -- the row that a turn finds
 row : (c : tie.After-sanction-at Inv-loop μ-loop)
@@ -79,5 +80,5 @@ fill-rows-spec =
     (λ c. c .before .loop .inv .4 .same-length)
     (λ c.
     let l = c .before .loop in
-    let e : l .i ≡ length (c .before .before .before .before .before .before .before .before .before .before .before .before .before .args .events .now) / 312 = omega arith in
+    let e : l .i ≡ length (c .before .before .before .before .before .before .before .before .before .before .before .before .before .args .events .now) / eventWidth = omega arith in
     (filled-all _ _ _ _ _ (l .inv .1) e, (filled-all _ _ _ _ _ (l .inv .2) e, (filled-all _ _ _ _ _ (l .inv .3) e, filled-all _ _ _ _ _ (l .inv .4) e)))))

@@ -7,6 +7,7 @@ use native.Mathlib.Omega.{arith}
 use lib.ListN.{length, drop, length-take, length-drop}
 use Rattle.binary.specs.Lists.{joinTo}
 use Rattle.binary.proofs.ListLaws.{join-none, join-part}
+use Rattle.casefile.specs.Layout.{eventWidth}
 use Rattle.casefile.specs.Decode.{referencesIn, eventsIn, caseIn}
 use Rattle.settlement.specs.Row.{rowOf, rowsOf}
 use Rattle.settlement.proofs.RowLaws.{row-length}
@@ -16,12 +17,12 @@ use Rattle.settlement.proofs.rows.write_rows.Tie as tie
 
 abbrev Inv-loop : tie.InvT-loop
 Inv-loop units references past correct events places levels corrects masks mitigated penalties ups multipliers n3 n2 rows₀ n i₀ rows i =
-    (i ≤ length events / 312) × (length rows ≡ length rows₀)
+    (i ≤ length events / eventWidth) × (length rows ≡ length rows₀)
     × (rows ≡ joinTo i (rowOf (caseIn units references past events) (referencesIn correct)) ++ drop (128 * i) rows₀)
 
 abbrev μ-loop : tie.MeasureT-loop
 μ-loop units references past correct events places levels corrects masks mitigated penalties ups multipliers n3 n2 rows₀ n i₀ rows i =
-    length events / 312 - i
+    length events / eventWidth - i
 
 abbrev first : tie.At-loop Inv-loop μ-loop → tie.Start Inv-loop μ-loop
 first l =
@@ -103,5 +104,5 @@ write-rows-spec =
     ))
     (λ c. c .before .loop .inv .1)
     (λ c.
-    let e : c .before .loop .i ≡ length (first (c .before) .args .events .now) / 312 = omega arith in
+    let e : c .before .loop .i ≡ length (first (c .before) .args .events .now) / eventWidth = omega arith in
     rw e at (c .before .loop .inv .2)))
