@@ -3,4 +3,5 @@ pub mod BoundedLaws
 pub mod MaskLaws
 pub mod ByteLaws
 pub mod WordLaws
+pub mod IntegerLaws
 pub mod ListLaws

@@ -1,4 +1,5 @@
 pub mod Bounded
 pub mod Bytes
 pub mod Word
+pub mod Integers
 pub mod Lists

@@ -25,7 +25,7 @@ use Rattle.casefile.specs.Read.{cellOf}
 use Rattle.conduct.specs.Flags.{sumTogether, fuelFlag, flagged, flagMask}
 use Rattle.conduct.specs.Parties.{leaderOf}
 use Rattle.conduct.specs.Stages.{cellsIn}
-use Rattle.sanctions.specs.Penalties.{flaggedWithImpact, isInstance, countsHere, countsPast, instances, N3, N2, withheldMultiplier, withheldAmount, withheldPenaltyOf, dispatchMultiplier, dispatchRevenue, dispatchPenaltyOf, energyPart, gain, loss, tccChange, lowestUnit, pastFuel, fuelMultiplierAfter, fuelPenaltyUnder, fuelMultiplier, fuelPenaltyOf, multiplier, penalty, totalPenalty}
+use Rattle.sanctions.specs.Penalties.{flaggedWithImpact, isInstance, countsHere, countsPast, instances, N3, N2, withheldMultiplier, withheldAmount, withheldPenaltyOf, dispatchMultiplier, dispatchRevenue, dispatchPenaltyOf, energyPart, gain, loss, tccChange, lowestUnit, pastFuel, fuelMultiplierAfter, fuelPenaltyUnder, fuelMultiplier, fuelPenaltyOf, multiplier, penalty, totalPenalty, countsFuelHere}
 use Rattle.sanctions.specs.Found.{Accepted, Found, Sound, SmallPenalties}
 use Rattle.sanctions.specs.Tables.{hourEnergy, hourRevenue, instanceOf, rowCounts, entryOf, entryCounts, instancesHere, instancesPast, instancesAt, withImpact, noSanction, instanceRow, withheldRow, dispatchRow, energyIn, ledBy, energyAt, tccAt, partyDay, fuelRowCounts, fuelEntryCounts, multiplierAt, partyPenalty, fuelRow, rowAt}
 use Rattle.sanctions.specs.declared.sanction.Sanction.{Sanction}
@@ -33,7 +33,7 @@ use Rattle.sanctions.proofs.PenaltyBounds.{penalty-bound}
 use Rattle.conduct.proofs.SumLaws.{cell-amount}
 use Rattle.conduct.proofs.PartyLaws.{together-fields, leader-le, leader-together}
 use Rattle.sanctions.proofs.PartyLaws.{leads, lowest-leader}
-use Rattle.sanctions.proofs.PriorLaws.{hasPrior, prior-rows}
+use Rattle.sanctions.proofs.PriorLaws.{prior-rows}
 use Rattle.sanctions.proofs.AcceptedLaws.{bare-component, ranges}
 
 -- b of event i and hour h, read in the part where its cells begin
@@ -167,7 +167,7 @@ module _ (u r p e groups leaders masks : List ℕ) (acc : Accepted u p e) (found
 
   multiplier-is : (penalties : List ℕ) (i : ℕ) → i < n → Holds i penalties (penalty c)
       → multiplierAt p e groups penalties i ≡ fuelMultiplier c i
-  unfolding multiplierAt fuelMultiplier fuelRowCounts fuelEntryCounts hasPrior pastFuel caseIn pastIn
+  unfolding multiplierAt fuelMultiplier fuelRowCounts fuelEntryCounts countsFuelHere pastFuel caseIn pastIn
   multiplier-is penalties i l held =
       rw (found .group-held i l, prior-rows c i (eventsIn e .day i) (groupOf c i))
       (ap (λ (b : Bool). fuelMultiplierAfter (b || pastFuel c (eventsIn e .day i) (groupOf c i)))

@@ -2,6 +2,7 @@ pub mod PenaltyBounds
 pub mod TableLaws
 pub mod PartyLaws
 pub mod PriorLaws
+pub mod EnergyLaws
 pub mod AcceptedLaws
 pub mod FoundLaws
 pub mod WholeFile

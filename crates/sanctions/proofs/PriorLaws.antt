@@ -8,7 +8,7 @@ use Rattle.binary.specs.Bounded.{anyTo}
 use Rattle.tariff.specs.Sanctions.{fuelDayCounts}
 use Rattle.casefile.specs.Case.{Case}
 use Rattle.casefile.specs.Lookup.{groupOf}
-use Rattle.sanctions.specs.Penalties.{withheldPenaltyOf, dispatchPenaltyOf, fuelMultiplierAfter, fuelPenaltyUnder, lowestUnit, fuelStands, priorFuel, pastFuel, fuelMultiplier, fuelPenaltyOf, penalty}
+use Rattle.sanctions.specs.Penalties.{withheldPenaltyOf, dispatchPenaltyOf, fuelMultiplierAfter, fuelPenaltyUnder, lowestUnit, fuelStands, priorFuel, pastFuel, fuelMultiplier, fuelPenaltyOf, penalty, countsFuelHere}
 
 by-kind : (k x y z : ℕ) → k ≡ 3 → cond (eqb k 1) x (cond (eqb k 2) y z) ≡ z
 by-kind k x y z e = rw e
@@ -19,10 +19,6 @@ unfolding penalty
 fuel-row c n k =
     by-kind (c .events .kind n) (withheldPenaltyOf c n) (dispatchPenaltyOf c n) _ k
     ∙ ap (λ (x : ℕ). cond (eqb x 3 && lowestUnit c n) (fuelPenaltyOf c n) 0) k
-
--- row j has a fuel penalty above 0 of group g, 1 to 183 days before day d
-unfoldable pub hasPrior : Case → (d g j : ℕ) → Bool
-hasPrior c d g j = ltb 0 (penalty c j) && eqb (c .events .kind j) 3 && eqb (groupOf c j) g && fuelDayCounts d (c .events .day j)
 
 swap : (l x y : Bool) → ((x && y) && l) ≡ (l && true && x && y)
 swap true true true = refl
@@ -37,8 +33,8 @@ none true x y = refl
 none false x y = refl
 
 -- a penalty above 0 stands on the lowest unit's row alone
-stands : (c : Case) (n d g : ℕ) → (fuelStands c n d g && ltb 0 (fuelPenaltyOf c n)) ≡ hasPrior c d g n
-unfolding fuelStands hasPrior
+stands : (c : Case) (n d g : ℕ) → (fuelStands c n d g && ltb 0 (fuelPenaltyOf c n)) ≡ countsFuelHere c d g n
+unfolding fuelStands countsFuelHere
 stands c n d g =
     go (eqb (c .events .kind n) 3) refl (lowestUnit c n) (eqb (groupOf c n) g) (fuelDayCounts d (c .events .day n)) (fuel-row c n)
   where
@@ -55,11 +51,11 @@ row : (c : Case) (n d g : ℕ)
     (fuelPenaltyUnder c n
     (fuelMultiplierAfter
     (priorFuel c n (c .events .day n) (groupOf c n) || pastFuel c (c .events .day n) (groupOf c n)))))
-    ≡ hasPrior c d g n
+    ≡ countsFuelHere c d g n
 unfolding fuelPenaltyOf fuelMultiplier
 row c n d g = stands c n d g
 
-pub prior-rows : (c : Case) (n d g : ℕ) → priorFuel c n d g ≡ anyTo n (hasPrior c d g)
+pub prior-rows : (c : Case) (n d g : ℕ) → priorFuel c n d g ≡ anyTo n (countsFuelHere c d g)
 unfolding priorFuel anyTo
 prior-rows c zero d g = refl
 prior-rows c (suc n) d g = ap₂ _||_ (prior-rows c n d g) (row c n d g)

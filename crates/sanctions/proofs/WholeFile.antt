@@ -1,16 +1,28 @@
--- A prior fuel penalty is looked for on the rows before the event. Where days rise, the rows from it on hold none that counts, so
--- that the whole file is looked at.
+-- A prior fuel penalty is looked for on the rows before the event. Days rise, so that the rows from it on hold none that counts:
+-- M is that of the whole file.
 use Prim.Native.Nat.{ℕ, zero, suc, _+_, _-_, _≤_, _<_}
-use mathlib.Core.Bool.{false, _&&_, and-false, or-false}
+use mathlib.Core.Bool.{Bool, true, false, _&&_, and-false, or-false}
+use mathlib.Core.List.{List}
+use mathlib.Core.Logic.{⊎-elim}
 use mathlib.Core.Path.{_≡_, refl, sym, _∙_, ap}
-use native.Mathlib.Nat.{add-zero, add-suc}
+use native.Mathlib.Nat.{add-zero, add-suc, le-refl, eq-or-lt-of-le}
 use native.Mathlib.Omega.{arith}
-use lib.Dec.{eqb}
-use borrow.Author.Tests.{le-ltb}
+use lib.Dec.{eqb, ltb}
+use lib.ListN.{getD, take, drop, length-take, List·getD-eq-default}
+use borrow.Author.Tests.{le-ltb, ltb-true, ltb-false}
+use Rattle.binary.specs.Bounded.{anyTo}
+use Rattle.binary.specs.Lists.{Bytes}
+use Rattle.binary.proofs.ByteLaws.{stretch-byte}
 use Rattle.tariff.specs.Sanctions.{fuelDayCounts}
+use Rattle.casefile.specs.Layout.{eventWidth}
 use Rattle.casefile.specs.Case.{Case}
+use Rattle.casefile.specs.Decode.{offsetOf, lengthOf, sectionOf, eventsIn, caseIn, decode}
 use Rattle.casefile.specs.Lookup.{groupOf}
-use Rattle.sanctions.specs.Penalties.{lowestUnit, fuelStands, priorFuel}
+use Rattle.casefile.specs.Refusal.{refusal}
+use Rattle.casefile.proofs.AcceptedLaws as case
+use Rattle.conduct.proofs.PartyLaws.{record-value-lt}
+use Rattle.sanctions.specs.Penalties.{lowestUnit, fuelStands, priorFuel, fuelMultiplier, multiplier, countsFuelHere, fuelMultiplierHere, MultiplierByFile}
+use Rattle.sanctions.proofs.PriorLaws.{prior-rows}
 
 -- a day that is not before d never counts
 not-later : (c : Case) (j d g : ℕ) → d ≤ c .events .day j → fuelStands c j d g ≡ false
@@ -26,9 +38,39 @@ no-further c i (suc k) d g rise =
     rw (add-suc i k, not-later c (i + k) d g (rise (i + k) (omega arith) (omega arith)))
     (no-further c i k d g (λ j a b. rise j a (omega arith)) ∙ sym (or-false (priorFuel c (i + k) d g)))
 
-pub whole-file : (c : Case) (i g : ℕ) → i ≤ c .events .count
+whole-file : (c : Case) (i g : ℕ) → i ≤ c .events .count
     → ((j : ℕ) → i ≤ j → j < c .events .count → c .events .day i ≤ c .events .day j)
     → priorFuel c i (c .events .day i) g ≡ priorFuel c (c .events .count) (c .events .day i) g
 whole-file c i g l rise =
     no-further c i (c .events .count - i) (c .events .day i) g (λ j a b. rise j a (omega arith))
     ∙ ap (λ (n : ℕ). priorFuel c n (c .events .day i) g) (omega arith)
+
+-- ---- an accepted case
+
+section-bytes : (f : List ℕ) (k : ℕ) → Bytes f → Bytes (sectionOf f k)
+unfolding sectionOf
+section-bytes f k b j = go (ltb j (lengthOf f k)) refl
+  where
+    go : (t : Bool) → ltb j (lengthOf f k) ≡ t → getD (take (lengthOf f k) (drop (offsetOf f k) f)) j 0 < 256
+    go true e = rw (stretch-byte f (offsetOf f k) (lengthOf f k) j (ltb-true _ _ e)) (b (offsetOf f k + j))
+    go false e =
+        let l = ltb-false j (lengthOf f k) e in
+        rw (List·getD-eq-default (take (lengthOf f k) (drop (offsetOf f k) f)) 0 {n = j} (rw length-take (omega arith))) (omega arith)
+
+module _ (f k : List ℕ) (n : ℕ) (b : Bytes f) (h : refusal f k n ≡ 0) where
+  unit-lt : (j : ℕ) → decode f .events .unit j < 65536
+  unfolding decode caseIn eventsIn
+  unit-lt j = record-value-lt 2 eventWidth (sectionOf f 3) j 2 (section-bytes f 3 b) (omega arith)
+
+  days-rise : (i j : ℕ) → i ≤ j → j < decode f .events .count → decode f .events .day i ≤ decode f .events .day j
+  days-rise i j l m = ⊎-elim (λ e. rw e (le-refl _)) (λ lt. case.days-in-order f k n h i j lt m (unit-lt j)) (eq-or-lt-of-le l)
+
+  by-rows : (i g : ℕ) → i < decode f .events .count
+      → priorFuel (decode f) i (decode f .events .day i) g
+      ≡ anyTo (decode f .events .count) (countsFuelHere (decode f) (decode f .events .day i) g)
+  by-rows i g l =
+      whole-file (decode f) i g (omega arith) (λ j a m. days-rise i j a m) ∙ prior-rows (decode f) (decode f .events .count) (decode f .events .day i) g
+
+pub multiplier-by-file : MultiplierByFile
+unfolding multiplier fuelMultiplier fuelMultiplierHere
+multiplier-by-file f k n i b h l kind lowest = rw (kind, lowest, by-rows f k n b h i (groupOf (decode f) i) l) refl

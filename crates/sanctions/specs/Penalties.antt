@@ -1,12 +1,19 @@
 -- Multipliers in halves and penalties in cents of a case's events (document 01, Multipliers and penalties; tariff 23.4.3).
-use Prim.Native.Nat.{ℕ, zero, suc, _+_, _-_, _*_}
-use mathlib.Core.Bool.{Bool, false, cond, not, _&&_, _||_}
+use Prim.Native.Nat.{ℕ, zero, suc, _+_, _-_, _*_, _<_}
+use mathlib.Core.Bool.{Bool, true, false, cond, not, _&&_, _||_}
+use mathlib.Core.List.{List}
+use mathlib.Core.Path.{_≡_}
 use lib.Dec.{ltb, eqb}
+use lib.IntN.{ℤ, pos, _+ℤ_, _*ℤ_}
 use Rattle.binary.specs.Bounded.{sumTo, countTo, anyTo}
+use Rattle.binary.specs.Integers.{signed, sumℤTo}
+use Rattle.binary.specs.Lists.{Bytes}
 use Rattle.binary.specs.Word.{positivePart, negativePart}
 use Rattle.tariff.specs.Sanctions.{periodCounts, ladder, withheldPenalty, dispatchPenalty, fuelDayCounts, fuelPenalty}
 use Rattle.casefile.specs.Case.{Violation, Case}
+use Rattle.casefile.specs.Decode.{decode}
 use Rattle.casefile.specs.Lookup.{groupOf}
+use Rattle.casefile.specs.Refusal.{refusal}
 use Rattle.conduct.specs.Flags.{together, sumTogether, fuelFlag, flagged}
 
 -- impact 1 and a flagged hour
@@ -68,13 +75,24 @@ dispatchPenaltyOf c i = cond (flaggedWithImpact c i) (dispatchPenalty (dispatchR
 
 -- ---- Fuel (23.4.3.3.3)
 
+-- an integer of each event, summed over event i's party-day
+unfoldable pub partyDaySum : Case → ℕ → (figure : ℕ → ℤ) → ℤ
+partyDaySum c i figure = sumℤTo (c .events .count) (λ j. cond (together c i j) (figure j) (pos 0))
+
+-- E, an integer: 10 × the sum of Q, and the sum of a × b over the union hours, both over the party-day's events
+unfoldable pub E : Case → ℕ → ℤ
+E c i =
+    pos 10 *ℤ partyDaySum c i (λ j. signed 32 (c .events .Q j))
+    +ℤ partyDaySum c i
+    (λ j. sumℤTo (c .events .hours j) (λ h. cond (fuelFlag c i h) (pos (c .a j h) *ℤ signed 32 (c .events .b j h)) (pos 0)))
+
 -- event j's part of the E of event i's party-day: 10 × Q, and a × b over the union hours; of signed words the given part
 unfoldable pub energyPart : (part : ℕ → ℕ) → Case → (i j : ℕ) → ℕ
 energyPart part c i j =
     10 * part (c .events .Q j)
     + sumTo (c .events .hours j) (λ h. cond (fuelFlag c i h) (c .a j h * part (c .events .b j h)) 0)
 
--- E is gain less loss
+-- E as its two sums: it is gain less loss
 unfoldable pub gain : Case → ℕ → ℕ
 gain c i = sumTogether c i (energyPart (positivePart 32) c i)
 
@@ -146,3 +164,27 @@ penalty c i =
 
 unfoldable pub totalPenalty : Case → ℕ
 totalPenalty c = sumTo (c .events .count) (penalty c)
+
+-- ---- M by the whole file
+
+-- row j has a fuel penalty above 0 of group g, 1 to 183 days before day d
+unfoldable pub countsFuelHere : Case → (d g j : ℕ) → Bool
+countsFuelHere c d g j =
+    ltb 0 (penalty c j) && eqb (c .events .kind j) 3 && eqb (groupOf c j) g && fuelDayCounts d (c .events .day j)
+
+-- 3 halves where some row of the file has a fuel penalty above 0 that counts, or a past entry counts, else 2
+unfoldable pub fuelMultiplierHere : Case → ℕ → ℕ
+fuelMultiplierHere c i =
+    fuelMultiplierAfter
+    (anyTo (c .events .count) (countsFuelHere c (c .events .day i) (groupOf c i)) || pastFuel c (c .events .day i) (groupOf c i))
+
+-- in every accepted case M is this, on every row where it stands
+abbrev pub MultiplierByFile : Type 0
+MultiplierByFile =
+    (file correction : List ℕ) (rowsLength i : ℕ)
+    → Bytes file
+    → refusal file correction rowsLength ≡ 0
+    → i < decode file .events .count
+    → decode file .events .kind i ≡ 3
+    → lowestUnit (decode file) i ≡ true
+    → multiplier (decode file) i ≡ fuelMultiplierHere (decode file) i
