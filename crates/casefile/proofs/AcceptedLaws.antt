@@ -3,7 +3,7 @@ use Prim.Native.Nat.{ℕ, _+_, _*_, _/_, _%_, _≤_, _<_}
 use mathlib.Core.Bool.{Bool, true, false, cond}
 use mathlib.Core.List.{List}
 use mathlib.Core.Logic.{⊎-elim}
-use mathlib.Core.Path.{_≡_, refl, sym}
+use mathlib.Core.Path.{_≡_, refl, sym, _∙_}
 use native.Mathlib.Nat.{eq-or-lt-of-le, le-trans}
 use native.Mathlib.Omega.{arith}
 use lib.Dec.{ltb, eqb}
@@ -15,7 +15,8 @@ use Rattle.tariff.specs.Ranges.{highestReference}
 use Rattle.casefile.specs.Layout.{sectionCount, headerWidth, longestFile, unitWidth, referenceWidth, pastWidth, eventWidth, mostUnits, mostReferences, mostPast, mostEvents, rowWidth}
 use Rattle.casefile.specs.Decode.{caseIn, lengthOf, sectionOf, FollowOn, HasSection, unitsIn, referencesIn, pastIn, eventsIn, decode}
 use Rattle.casefile.specs.Lookup.{isUnit, isListed, placeOf, unitOf, hasReference, levelOf, Rising, UnitsInOrder, InOrder, correctReferences, correctIn, referenceOf, readsCorrect}
-use Rattle.casefile.specs.Refusal.{sizeFine, sizesFine, referenceFine, referencesFine, correctionFine, entryFine, pastFine, eventKey, rowsFine, eventsRefusal, refusal}
+use Rattle.casefile.specs.Refusal.{sizeFine, sizesFine, referenceFine, referencesFine, correctionFine, entryFine, pastFine, eventKey, rowsFine, refusal}
+use Rattle.casefile.specs.StageRefusal.{eventsRefusal}
 use Rattle.casefile.proofs.LookupLaws.{listed-place, listed-number}
 use Rattle.casefile.proofs.RangeLaws.{UnitRange, ReferenceRange, ViolationRange, EventRange, CellRange, reference-range, violation-range, level-bound, numbers-in-order, references-in-order, correct-in-order}
 use Rattle.casefile.proofs.SectionLaws as section
@@ -27,13 +28,12 @@ use Rattle.casefile.proofs.RefusalLaws.{HeaderFine, RecordsFine, Events
 
 module _ (f k : List ℕ) (n : ℕ) (h : refusal f k n ≡ 0) where
   pub header : HeaderFine f
-  unfolding refusal
-  header = stages.header-fine f _ h .0
+  header = stages.header-fine f _ (sym (stages.in-stages f k n) ∙ h) .0
 
   records-and-events : RecordsFine (sectionOf f 0) (sectionOf f 1) k (sectionOf f 2)
       × (eventsRefusal (sectionOf f 0) (sectionOf f 1) (correctReferences k (sectionOf f 1)) (sectionOf f 3) n ≡ 0)
-  unfolding refusal
-  records-and-events = stages.records-fine (sectionOf f 0) (sectionOf f 1) k (sectionOf f 2) _ (stages.header-fine f _ h .1)
+  records-and-events =
+      stages.records-fine (sectionOf f 0) (sectionOf f 1) k (sectionOf f 2) _ (stages.header-fine f _ (sym (stages.in-stages f k n) ∙ h) .1)
 
   pub records : RecordsFine (sectionOf f 0) (sectionOf f 1) k (sectionOf f 2)
   records = records-and-events .0

@@ -4,5 +4,6 @@ pub mod SearchLaws
 pub mod RangeLaws
 pub mod EventLaws
 pub mod RefusalLaws
+pub mod LimitLaws
 pub mod SectionLaws
 pub mod AcceptedLaws

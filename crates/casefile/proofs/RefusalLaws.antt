@@ -12,7 +12,8 @@ use Rattle.binary.proofs.Implies.{and-l, and-r}
 use Rattle.casefile.specs.Layout.{sectionCount, headerWidth, longestFile}
 use Rattle.casefile.specs.Decode.{offsetOf, lengthOf, sectionOf, FollowOn, HasSection, unitsIn, referencesIn, eventsIn}
 use Rattle.casefile.specs.Lookup.{correctReferences}
-use Rattle.casefile.specs.Refusal.{lengthFine, versionFine, sectionsFine, pairsFine, sizesFine, unitsFine, referencesFine, correctionFine, pastFine, eventsFine, orderFine, eventsListed, amountsFine, referencesFound, rowsFine, unless, headerRefusal, recordsRefusal, eventsRefusal, refusal}
+use Rattle.casefile.specs.Refusal.{lengthFine, versionFine, sectionsFine, pairsFine, sizesFine, unitsFine, referencesFine, correctionFine, pastFine, eventsFine, orderFine, eventsListed, amountsFine, referencesFound, rowsFine, unless, refusal}
+use Rattle.casefile.specs.StageRefusal.{headerRefusal, recordsRefusal, eventsRefusal}
 
 -- ---- one number of the chain
 
@@ -56,20 +57,26 @@ records-next u r k p m = go (unitsFine u) (referencesFine (unitsIn u) r) (correc
     go true true true false = refl
     go true true true true = refl
 
+-- the limits in their order are those of the stages, one after the other
+pub in-stages : (f k : List ℕ) (n : ℕ)
+    → refusal f k n
+    ≡ headerRefusal f
+    (recordsRefusal (sectionOf f 0) (sectionOf f 1) k (sectionOf f 2)
+    (eventsRefusal (sectionOf f 0) (sectionOf f 1) (correctReferences k (sectionOf f 1)) (sectionOf f 3) n))
+unfolding refusal headerRefusal recordsRefusal eventsRefusal
+in-stages f k n = refl
+
 pub refusal-header : (f k : List ℕ) (n h : ℕ) → h ≡ headerRefusal f 0 → (h ≡ 0 → ⊥) → h ≡ refusal f k n
-unfolding refusal
-refusal-header f k n h e ne = rw (header-next f, ← e, ne-eqb h 0 ne)
+refusal-header f k n h e ne = rw (in-stages f k n, header-next f, ← e, ne-eqb h 0 ne)
 
 pub refusal-records : (f k : List ℕ) (n r : ℕ) → headerRefusal f 0 ≡ 0
     → r ≡ recordsRefusal (sectionOf f 0) (sectionOf f 1) k (sectionOf f 2) 0 → (r ≡ 0 → ⊥) → r ≡ refusal f k n
-unfolding refusal
-refusal-records f k n r h e ne = rw (header-next f, h, records-next (sectionOf f 0), ← e, ne-eqb r 0 ne)
+refusal-records f k n r h e ne = rw (in-stages f k n, header-next f, h, records-next (sectionOf f 0), ← e, ne-eqb r 0 ne)
 
 pub refusal-events : (f k : List ℕ) (n : ℕ) → headerRefusal f 0 ≡ 0
     → recordsRefusal (sectionOf f 0) (sectionOf f 1) k (sectionOf f 2) 0 ≡ 0
     → eventsRefusal (sectionOf f 0) (sectionOf f 1) (correctReferences k (sectionOf f 1)) (sectionOf f 3) n ≡ refusal f k n
-unfolding refusal
-refusal-events f k n h r = rw (header-next f, h, records-next (sectionOf f 0), r)
+refusal-events f k n h r = rw (in-stages f k n, header-next f, h, records-next (sectionOf f 0), r)
 
 -- ---- what a stage that breaks no limit says
 

@@ -3,5 +3,5 @@ pub mod Case
 pub mod Decode
 pub mod Lookup
 pub mod Refusal
+pub mod StageRefusal
 pub mod Read
-pub mod Examples

@@ -1,7 +1,8 @@
 -- What a case can break (document 01): the number of the first limit broken, or 0. Each test is of one number of the table.
 use Prim.Native.Nat.{ℕ, _+_, _-_, _*_, _/_, _%_, _^_}
-use mathlib.Core.Bool.{Bool, cond, not, _&&_, _||_}
-use mathlib.Core.List.{List}
+use mathlib.Core.Bool.{Bool, true, false, cond, not, _&&_, _||_}
+use mathlib.Core.List.{List, [], _∷_, _++_}
+use mathlib.Core.Path.{_≡_}
 use lib.Dec.{ltb, leb, eqb}
 use lib.ListN.{length}
 use Rattle.binary.specs.Bounded.{allTo}
@@ -177,40 +178,80 @@ referencesFound own correct e = allTo (e .count) (referenceFound own correct e)
 unfoldable pub rowsFine : Events → (rowsLength : ℕ) → Bool
 rowsFine e rowsLength = leb (rowWidth * e .count) rowsLength
 
+-- ---- the limits, in checking order
+
+-- a limit of the table: its number, and whether the case meets it
+pub record Limit : Type 0 where
+  pub number : ℕ
+  pub met : Bool
+
+abbrev pub limit : (number : ℕ) (met : Bool) → Limit
+limit n m = record { number = n; met = m }
+
+-- 1 to 5, of the header
+abbrev pub headerLimits : (file : List ℕ) → List Limit
+headerLimits f =
+    limit 1 (lengthFine f)
+    ∷ limit 2 (versionFine f)
+    ∷ limit 3 (sectionsFine f)
+    ∷ limit 4 (pairsFine f)
+    ∷ limit 5 (sizesFine f)
+    ∷ []
+
+-- 6 to 9, of the units, the references, the correction and the past
+abbrev pub recordLimits : (units references correction past : List ℕ) → List Limit
+recordLimits units references correction past =
+    limit 6 (unitsFine units)
+    ∷ limit 7 (referencesFine (unitsIn units) references)
+    ∷ limit 8 (correctionFine (unitsIn units) correction)
+    ∷ limit 9 (pastFine past)
+    ∷ []
+
+-- 10 to 15, of the events
+abbrev pub eventLimits : (units references correct events : List ℕ) (rowsLength : ℕ) → List Limit
+eventLimits units references correct events rowsLength =
+    limit 10 (eventsFine events)
+    ∷ limit 11 (orderFine (eventsIn events))
+    ∷ limit 12 (eventsListed (unitsIn units) (eventsIn events))
+    ∷ limit 13 (amountsFine (unitsIn units) events)
+    ∷ limit 14 (referencesFound (referencesIn references) (referencesIn correct) (eventsIn events))
+    ∷ limit 15 (rowsFine (eventsIn events) rowsLength)
+    ∷ []
+
+-- every limit of a case with its correction and a rows buffer of that length
+abbrev pub limits : (file correction : List ℕ) (rowsLength : ℕ) → List Limit
+limits f k n =
+    headerLimits f
+    ++ (recordLimits (sectionOf f 0) (sectionOf f 1) k (sectionOf f 2)
+    ++ eventLimits (sectionOf f 0) (sectionOf f 1) (correctReferences k (sectionOf f 1)) (sectionOf f 3) n)
+
+-- ---- the number
+
 -- the number where the test fails, else what follows
 abbrev pub unless : Bool → (number next : ℕ) → ℕ
 unless fine number next = cond fine next number
 
--- 1 to 5, of the header
-unfoldable pub headerRefusal : (file : List ℕ) (next : ℕ) → ℕ
-headerRefusal f next =
-    unless (lengthFine f) 1
-    (unless (versionFine f) 2
-    (unless (sectionsFine f) 3
-    (unless (pairsFine f) 4
-    (unless (sizesFine f) 5 next))))
-
--- 6 to 9, of the units, the references, the correction and the past
-unfoldable pub recordsRefusal : (units references correction past : List ℕ) (next : ℕ) → ℕ
-recordsRefusal units references correction past next =
-    unless (unitsFine units) 6
-    (unless (referencesFine (unitsIn units) references) 7
-    (unless (correctionFine (unitsIn units) correction) 8
-    (unless (pastFine past) 9 next)))
-
--- 10 to 15, of the events
-unfoldable pub eventsRefusal : (units references correct events : List ℕ) (rowsLength : ℕ) → ℕ
-eventsRefusal units references correct events rowsLength =
-    unless (eventsFine events) 10
-    (unless (orderFine (eventsIn events)) 11
-    (unless (eventsListed (unitsIn units) (eventsIn events)) 12
-    (unless (amountsFine (unitsIn units) events) 13
-    (unless (referencesFound (referencesIn references) (referencesIn correct) (eventsIn events)) 14
-    (unless (rowsFine (eventsIn events) rowsLength) 15 0)))))
+-- the number of the first limit that is not met, else what follows
+abbrev pub firstBroken : List Limit → (next : ℕ) → ℕ
+firstBroken [] next = next
+firstBroken (l ∷ ls) next = unless (l .met) (l .number) (firstBroken ls next)
 
 -- the number of the first limit that the case breaks, or 0: each number over everything before the next
 unfoldable pub refusal : (file correction : List ℕ) (rowsLength : ℕ) → ℕ
-refusal f k n =
-    headerRefusal f
-    (recordsRefusal (sectionOf f 0) (sectionOf f 1) k (sectionOf f 2)
-    (eventsRefusal (sectionOf f 0) (sectionOf f 1) (correctReferences k (sectionOf f 1)) (sectionOf f 3) n))
+refusal f k n = firstBroken (limits f k n) 0
+
+-- ---- what the number says
+
+abbrev pub MeetsAll : List Limit → Type 0
+MeetsAll [] = Unit {0}
+MeetsAll (l ∷ ls) = (l .met ≡ true) × MeetsAll ls
+
+-- m is the lowest number that applies: a limit of that number is broken, and every limit before it is met
+pub record LowestBroken (ls : List Limit) (m : ℕ) : Type 0 where
+  pub before : List Limit
+  pub first : Limit
+  pub after : List Limit
+  pub split : ls ≡ before ++ (first ∷ after)
+  pub met : MeetsAll before
+  pub broken : first .met ≡ false
+  pub number : first .number ≡ m

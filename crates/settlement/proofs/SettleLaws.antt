@@ -1,9 +1,11 @@
 -- From the check's number to what the stages lean on, and from what they leave to the answer and the rows buffer.
 use Prim.Native.Nat.{ℕ, _/_}
+use mathlib.Core.Bool.{Bool, true, false, cond}
 use mathlib.Core.List.{List}
 use mathlib.Core.Path.{_≡_, refl, _∙_}
 use native.Mathlib.Omega.{arith}
 use borrow.Author.Tests.{eq-eqb, ne-eqb}
+use lib.Dec.{eqb}
 use lib.ListN.{length}
 use Rattle.casefile.specs.Layout.{eventWidth}
 use Rattle.casefile.specs.Decode.{sectionOf, referencesIn, eventsIn, caseIn, decode}
@@ -15,7 +17,7 @@ use Rattle.conduct.proofs.StageLaws.{found-own}
 use Rattle.default_bids.proofs.LevelLaws.{found-correct}
 use Rattle.settlement.specs.declared.settle.Totals.{Totals}
 use Rattle.settlement.specs.Row.{rowsOf}
-use Rattle.settlement.specs.Settled.{Answer, refused, settlementOf, accepted, answerOf, rowsAfter}
+use Rattle.settlement.specs.Settled.{Answer, refused, answerOfSettlement, settlementOf, accepted, answerOf, rowsAfter}
 use Rattle.settlement.specs.declared.settle.Settlement.the-variants as settlement
 use Rattle.settlement.specs.Stages.{AcceptedSections, totalsOf}
 
@@ -33,6 +35,16 @@ pub settled-told : (n p m : ℕ) (a : Answer) → record { number = 0; rowCount 
     → settlement.Settled n p m ≡ settlementOf a
 unfolding settlementOf
 settled-told n p m a e = rw (← e) refl
+
+-- and so the answer's number and values are those of the case that the call answers with
+pub told-answer : (f k : List ℕ) (n : ℕ) → answerOfSettlement (settlementOf (answerOf f k n)) ≡ answerOf f k n
+unfolding answerOf accepted settlementOf
+told-answer f k n = go (eqb (refusal f k n) 0) refl
+  where
+    go : (b : Bool) → eqb (refusal f k n) 0 ≡ b
+        → answerOfSettlement (settlementOf (cond b (accepted f k) (refused (refusal f k n)))) ≡ cond b (accepted f k) (refused (refusal f k n))
+    go true e = refl
+    go false e = rw e refl
 
 pub refused-rows : (f k rows : List ℕ) (number : ℕ) → number ≡ refusal f k (length rows) → (number ≡ 0 → ⊥) → rows ≡ rowsAfter f k rows
 unfolding rowsAfter

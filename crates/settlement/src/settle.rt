@@ -6,7 +6,7 @@ ghost use Rattle.casefile.specs.Layout.{eventWidth};
 ghost use Rattle.casefile.specs.Decode.{referencesIn, caseIn};
 ghost use Rattle.default_bids.specs.Mitigation.{totalMakeUp};
 ghost use Rattle.settlement.specs.Row.{rowsOf};
-ghost use Rattle.settlement.specs.Settled.{answerOfSettlement, settlementOf, answerOf, rowsAfter};
+ghost use Rattle.settlement.specs.Settled.{settlementOf, answerOf, rowsAfter};
 ghost use Rattle.settlement.specs.Stages.{AcceptedSections, FoundFlags, FoundBids, FoundPenalties, totalsOf};
 use crate::rows::write_rows;
 use casefile::check::check;
@@ -195,7 +195,6 @@ fn settle_sections(
 
 // A case that meets every limit is settled, a row for each event; any other is refused, and the rows buffer is as it was.
 pub fn settle<'a>(file: &'a [u8], correction: &'a [u8], rows: &mut [u8]) -> Settlement
-    ensures { λ r. ⌜ answerOfSettlement r ≡ answerOf (now (file .entry)) (now (correction .entry)) (length (now (rows .entry))) ⌝ }
     ensures { λ r. ⌜ r ≡ settlementOf (answerOf (now (file .entry)) (now (correction .entry)) (length (now (rows .entry)))) ⌝ }
     ensures { λ _. ⌜ now (rows .exit) ≡ rowsAfter (now (file .entry)) (now (correction .entry)) (now (rows .entry)) ⌝ }
 {

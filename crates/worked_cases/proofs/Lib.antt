@@ -1,3 +1,4 @@
+pub mod Refusals
 pub mod MixedSettlements
 pub mod Settlements
 pub mod WorseCases

@@ -13,8 +13,8 @@ use Rattle.tariff.specs.Conduct.{increase, lowerTest, constrainedTest, percentT
 use Rattle.tariff.specs.Sanctions.{periodCounts}
 use Rattle.casefile.specs.Decode.{caseIn, offsetOf, lengthOf, sectionOf, recordAt, unitsIn, referencesIn, violationIn, pastIn, eventsIn, amountsIn, decode}
 use Rattle.casefile.specs.Lookup.{referenceKey, isUnit, isListed, placeOf, unitOf, groupOf, isReference, hasReference, levelOf, correctReferences, referenceOf, readsCorrect}
-use Rattle.casefile.specs.Refusal.{lengthFine, versionFine, sectionsFine, pairsFine, sizeFine, sizesFine, rises, unitFieldsFine, unitSpareFine, unitFine, unitsFine, referenceFieldsFine, referenceFine, referencesFine, correctionFine, violationFine, entryFine, pastFine, maskFine, quantitiesFine, fieldsFine, cellFine, hourFine, eventFine, eventsFine, eventKey, orderFine, eventListed, eventsListed, withinCapability, amountFine, amountsFine, referenceFound, referencesFound, rowsFine, headerRefusal, recordsRefusal, eventsRefusal, refusal}
-use Rattle.casefile.specs.Examples.{headed, fileOf, unitBytes, referenceBytes, entryBytes, eventBytes, units, withheld, listing}
+use Rattle.casefile.specs.Refusal.{lengthFine, versionFine, sectionsFine, pairsFine, sizeFine, sizesFine, rises, unitFieldsFine, unitSpareFine, unitFine, unitsFine, referenceFieldsFine, referenceFine, referencesFine, correctionFine, violationFine, entryFine, pastFine, maskFine, quantitiesFine, fieldsFine, cellFine, hourFine, eventFine, eventsFine, eventKey, orderFine, eventListed, eventsListed, withinCapability, amountFine, amountsFine, referenceFound, referencesFound, rowsFine, refusal}
+use Rattle.worked_cases.specs.Files.{headed, fileOf, unitBytes, referenceBytes, entryBytes, eventBytes, units, withheld, listing}
 use Rattle.conduct.specs.Flags.{tight, together, sumTogether, timeBid, timeTotal, bidFlag, groupCapability, groupSum, withheldFlag, dispatchFlag, fuelFlag, flagged}
 use Rattle.conduct.specs.Parties.{bidLevel}
 use Rattle.sanctions.specs.Penalties.{flaggedWithImpact, isInstance, countsHere, countsPast, instances, N3, N2}
@@ -71,7 +71,7 @@ pub record Workings : Type 0 where
   pub no-case : workingOf (replicate 35 0) [] 0 0 ≡ refused 1
 
 pub workings : Workings
-unfolding tightUnit areaUnits pastInstances sanctionedEvents sanctioned bidReferences bidEvents bids cellBytes eventOf headed fileOf unitBytes referenceBytes entryBytes eventBytes units withheld listing sumTo countTo anyTo allTo lastTo bitOf valueAt bytesOf positivePart negativePart within thresholdOf increase lowerTest constrainedTest percentTest timeTest maximumTest bidTest unitLimit groupLimit withheldTest dispatchTest periodCounts offsetOf lengthOf sectionOf recordAt unitsIn referencesIn violationIn pastIn eventsIn amountsIn decode caseIn isUnit isListed placeOf unitOf groupOf isReference hasReference levelOf correctReferences referenceOf lengthFine versionFine sectionsFine pairsFine sizeFine sizesFine rises unitFieldsFine unitSpareFine unitFine unitsFine referenceFieldsFine referenceKey referenceFine referencesFine correctionFine violationFine entryFine pastFine maskFine quantitiesFine fieldsFine referenceInRange bidInRange cellFine hourFine eventFine eventsFine eventKey orderFine eventListed eventsListed withinCapability amountFine amountsFine readsCorrect referenceFound referencesFound rowsFine headerRefusal recordsRefusal eventsRefusal refusal tight together sumTogether timeBid timeTotal bidFlag groupCapability groupSum withheldFlag dispatchFlag fuelFlag flagged flaggedWithImpact isInstance countsHere countsPast instances N3 N2 joinTo bidLevel compared noStep exceeds firstFailed stepsOf withheldSteps dispatchSteps fuelSteps lowerStep percentStep firstBidStep secondBidStep bidSteps fuelEvents sumsOf totalOf figuresWith figuresOf stepsFor decrease workingFrom countsOf workingAt refused workingOf
+unfolding tightUnit areaUnits pastInstances sanctionedEvents sanctioned bidReferences bidEvents bids cellBytes eventOf headed fileOf unitBytes referenceBytes entryBytes eventBytes units withheld listing sumTo countTo anyTo allTo lastTo bitOf valueAt bytesOf positivePart negativePart within thresholdOf increase lowerTest constrainedTest percentTest timeTest maximumTest bidTest unitLimit groupLimit withheldTest dispatchTest periodCounts offsetOf lengthOf sectionOf recordAt unitsIn referencesIn violationIn pastIn eventsIn amountsIn decode caseIn isUnit isListed placeOf unitOf groupOf isReference hasReference levelOf correctReferences referenceOf lengthFine versionFine sectionsFine pairsFine sizeFine sizesFine rises unitFieldsFine unitSpareFine unitFine unitsFine referenceFieldsFine referenceKey referenceFine referencesFine correctionFine violationFine entryFine pastFine maskFine quantitiesFine fieldsFine referenceInRange bidInRange cellFine hourFine eventFine eventsFine eventKey orderFine eventListed eventsListed withinCapability amountFine amountsFine readsCorrect referenceFound referencesFound rowsFine refusal tight together sumTogether timeBid timeTotal bidFlag groupCapability groupSum withheldFlag dispatchFlag fuelFlag flagged flaggedWithImpact isInstance countsHere countsPast instances N3 N2 joinTo bidLevel compared noStep exceeds firstFailed stepsOf withheldSteps dispatchSteps fuelSteps lowerStep percentStep firstBidStep secondBidStep bidSteps fuelEvents sumsOf totalOf figuresWith figuresOf stepsFor decrease workingFrom countsOf workingAt refused workingOf
 workings =
     record {
       listing-hour = refl;

@@ -1,29 +1,60 @@
 -- Every run of the call meets demands 1 and 2, and every two runs demand 3.
 use Prim.Native.Nat.{ℕ}
+use mathlib.Core.Bool.{Bool, true, false}
 use mathlib.Core.List.{List}
-use mathlib.Core.Path.{_≡_, refl, ap, _∙_}
-use borrow.Author.Tests.{eq-eqb, ne-eqb}
+use mathlib.Core.Logic.{_⊎_, inl, inr}
+use mathlib.Core.Path.{_≡_, refl, ap, _∙_, sym}
+use borrow.Author.Tests.{eqb-true, eqb-false, eq-eqb, ne-eqb}
+use lib.Dec.{eqb}
 use lib.ListN.{length}
-use Rattle.casefile.specs.Refusal.{refusal}
+use Rattle.casefile.specs.Refusal.{limits, refusal, MeetsAll, LowestBroken}
+use Rattle.casefile.proofs.LimitLaws.{accepted-meets, meets-accepted, refused-lowest, lowest-refused, lowest-number}
 use Rattle.settlement.specs.Row.{rowsOf}
 use Rattle.settlement.specs.Settled.{Answer, accepted, answerOf, settlementOf, answerOfSettlement, rowsAfter, settled}
 use Rattle.settlement.specs.declared.settle.Settlement.{Settlement}
-use Rattle.worse_conduct.specs.Demands.{Run, Demand1, Demand2, Demand3, WorseOfTwo}
+use Rattle.settlement.specs.declared.settle.Settlement.the-variants as settlement
+use Rattle.settlement.proofs.SettleLaws.{told-answer}
+use Rattle.worse_conduct.specs.Demands.{Run, Demand1, Demand2, Demand3}
 use Rattle.worse_conduct.proofs.WorseConduct.{worse-conduct}
 
 module _ (file correction rows : List ℕ) (answer : Settlement) (after : List ℕ) (run : Run file correction rows answer after) where
+  -- the answer's number and values
+  values : answerOfSettlement answer ≡ answerOf file correction (length rows)
+  values = ap answerOfSettlement (run .answered) ∙ told-answer file correction (length rows)
+
   is-accepted : refusal file correction (length rows) ≡ 0 → answerOfSettlement answer ≡ accepted file correction
   unfolding answerOf
-  is-accepted h = run .answered ∙ rw (eq-eqb _ _ h) refl
+  is-accepted h = values ∙ rw (eq-eqb _ _ h) refl
+
+  accepts : refusal file correction (length rows) ≡ 0 → answer ≡ settlementOf (accepted file correction)
+  unfolding answerOf
+  accepts h = run .answered ∙ rw (eq-eqb _ _ h) refl
+
+  refuses : (refusal file correction (length rows) ≡ 0 → ⊥) → answer ≡ settlement.Refused (refusal file correction (length rows))
+  unfolding answerOf settlementOf
+  refuses ne = run .answered ∙ rw (ne-eqb _ _ ne, ne-eqb _ _ ne) refl
+
+  untouched : (refusal file correction (length rows) ≡ 0 → ⊥) → after ≡ rows
+  unfolding rowsAfter
+  untouched ne = run .left ∙ rw (ne-eqb _ _ ne) refl
+
+  either : (b : Bool) → eqb (refusal file correction (length rows)) 0 ≡ b
+      → MeetsAll (limits file correction (length rows)) ⊎ ((m : ℕ) × LowestBroken (limits file correction (length rows)) m)
+  either true e = inl (accepted-meets file correction (length rows) (eqb-true _ 0 e))
+  either false e = inr (refusal file correction (length rows), refused-lowest file correction (length rows) (eqb-false _ 0 e))
+
+  -- a number that applies is not 0
+  applies : (m : ℕ) → LowestBroken (limits file correction (length rows)) m → refusal file correction (length rows) ≡ 0 → ⊥
+  applies m b = lowest-number file correction (length rows) m b
 
   pub demand-1 : Demand1 file correction rows answer after
-  unfolding accepted answerOf settlementOf rowsAfter
+  unfolding accepted settlementOf
   demand-1 =
       record {
-        accepts = λ h. ap (λ (a : Answer). a .number) (is-accepted h);
-        a-row-each = λ h. ap (λ (a : Answer). a .rowCount) (is-accepted h);
-        refuses = λ ne. run .told ∙ rw (ne-eqb _ _ ne, ne-eqb _ _ ne) refl;
-        untouched = λ ne. run .left ∙ rw (ne-eqb _ _ ne) refl;
+        either = either (eqb (refusal file correction (length rows)) 0) refl;
+        accepts = λ m. accepts (meets-accepted file correction (length rows) m);
+        refuses = λ m b. refuses (applies m b) ∙ ap settlement.Refused (lowest-refused file correction (length rows) m b);
+        untouched = λ m b. untouched (applies m b);
       }
 
   pub demand-2 : Demand2 file correction rows answer after
@@ -38,16 +69,12 @@ module _ (file correction rows : List ℕ) (answer : Settlement) (after : List �
   -- a run is the settlement of the definitions
   is-settled : settled file correction rows ≡ record { answer = answerOfSettlement answer; rows = after }
   unfolding settled
-  is-settled = rw (run .answered, run .left) refl
+  is-settled = rw (values, run .left) refl
 
-pub demand-3 : Demand3
-demand-3 file correction rows rows′ after after′ answer answer′ changes run run′ h h′ takes energy =
-    rw (← is-settled file correction rows answer after run, ← is-settled _ correction rows′ answer′ after′ run′)
-    (worse-conduct file correction rows rows′ changes h h′ takes energy)
-
-pub worse-of-two : (file worse correction rows worseRows : List ℕ) (answer worseAnswer : Settlement) (after worseAfter : List ℕ)
+pub demand-3 : (file worse correction rows worseRows : List ℕ) (answer worseAnswer : Settlement) (after worseAfter : List ℕ)
     → Run file correction rows answer after
     → Run worse correction worseRows worseAnswer worseAfter
-    → WorseOfTwo file worse correction rows worseRows answer worseAnswer after worseAfter
-worse-of-two file worse correction rows worseRows answer worseAnswer after worseAfter run run′ changes leads h h′ takes energy =
-    demand-3 file correction rows worseRows after worseAfter answer worseAnswer changes run (rw leads run′) h (rw leads h′) takes energy
+    → Demand3 file worse correction rows worseRows answer worseAnswer after worseAfter
+demand-3 file worse correction rows worseRows answer worseAnswer after worseAfter run run′ changes leads takes h h′ energy =
+    rw (← is-settled file correction rows answer after run, ← is-settled worse correction worseRows worseAnswer worseAfter run′, ← leads)
+    (worse-conduct file correction rows worseRows changes takes h (rw leads h′) energy)

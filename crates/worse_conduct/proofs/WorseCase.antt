@@ -17,6 +17,7 @@ use Rattle.casefile.specs.Lookup.{unitOf, groupOf, referenceOf}
 use Rattle.conduct.specs.Flags.{tight, together, sumTogether, timeBid, timeTotal, bidFlag, groupCapability, groupSum, withheldFlag, dispatchFlag, fuelFlag, flagged, flagMask}
 use Rattle.sanctions.specs.Penalties.{flaggedWithImpact, isInstance, countsHere, countsPast, instances, withheldMultiplier, withheldAmount, withheldPenaltyOf, dispatchMultiplier, dispatchRevenue, dispatchPenaltyOf, energyPart, gain, loss, tccChange, lowestUnit, countsFuel, pastFuel, fuelStands, fuelMultiplierAfter, fuelPenaltyUnder, priorFuel, fuelMultiplier, fuelPenaltyOf, multiplier, penalty, totalPenalty}
 use Rattle.sanctions.proofs.PenaltyBounds.{same-kind}
+use Rattle.sanctions.proofs.EnergyLaws.{loss-at-most}
 use Rattle.worse_conduct.specs.Promise.{EnergyNotNegative}
 use Rattle.tariff.proofs.RuleLaws.{increase-mono, bid-mono, withheld-mono, dispatch-mono, ladder-mono, withheld-penalty-mono, dispatch-penalty-mono, fuel-penalty-mono}
 
@@ -167,7 +168,7 @@ module _ (u : Units) (r : References) (p p′ : Past) (e : Events) (a a′ : ℕ
     under-mono : (i M M′ : ℕ) → i < e .count → e .kind i ≡ 3 → M ≤ M′ → fuelPenaltyUnder c i M ≤ fuelPenaltyUnder c′ i M′
     unfolding fuelPenaltyUnder tccChange sumTogether together groupOf unitOf
     under-mono i M M′ li k f =
-        rw (← gain-same i k, ← loss-same i k) (fuel-penalty-mono M M′ (gain c i) (loss c i) (tccChange c i) f (energy i li k))
+        rw (← gain-same i k, ← loss-same i k) (fuel-penalty-mono M M′ (gain c i) (loss c i) (tccChange c i) f (loss-at-most c i (energy i li k)))
 
     prior-kept : (n d g : ℕ) → n ≤ e .count → priorFuel c n d g ⇒ priorFuel c′ n d g
     unfolding priorFuel fuelStands lowestUnit together groupOf unitOf

@@ -13,13 +13,14 @@ use Rattle.casefile.specs.Layout.{longestFile}
 use Rattle.casefile.specs.Case.{References, Case}
 use Rattle.casefile.specs.Decode.{FollowOn, decode}
 use Rattle.casefile.specs.Lookup.{correctIn}
+use Rattle.casefile.specs.Refusal.{refusal}
 use Rattle.conduct.specs.Flags.{flagged, flagMask}
 use Rattle.sanctions.proofs.PenaltyBounds.{Ranges, multiplier-bound, penalty-bound}
 use Rattle.settlement.specs.Row.{rowsOf}
-use Rattle.settlement.specs.Settled.{accepted}
+use Rattle.settlement.specs.Settled.{accepted, settled}
 use Rattle.settlement.proofs.RowLaws.{rows-flags, rows-multiplier, rows-penalty, settled-accepted}
 use Rattle.worse_conduct.specs.Changes.{Change, cell, entry, cellWritten, entryPut, headerMoved, apply, applyAll, Takes, TakesAll}
-use Rattle.worse_conduct.specs.Promise.{NoSmaller, WorseConduct}
+use Rattle.worse_conduct.specs.Promise.{EnergyNotNegative, NoSmaller}
 use Rattle.worse_conduct.proofs.WorseCase.{Worse, worse-refl, worse-trans, Figures, worse-figures}
 use Rattle.worse_conduct.proofs.CellChange.{cell-follow, cell-worse}
 use Rattle.worse_conduct.proofs.EntryChange.{entry-follow, entry-worse}
@@ -112,13 +113,18 @@ rows-worse f f′ k rows rows′ r r′ w =
     later : (i : ℕ) → i < decode f .events .count → i < decode f′ .events .count
     later i l = let e = w .count in omega arith
 
--- demand 3
-pub worse-conduct : WorseConduct
-worse-conduct file correction rows rows′ changes before after takes energy =
+-- demand 3 of the definitions: what two cases settle into
+pub worse-conduct : (file correction rows worseRows : List ℕ) (changes : List Change)
+    → TakesAll file changes
+    → refusal file correction (length rows) ≡ 0
+    → refusal (applyAll changes file) correction (length worseRows) ≡ 0
+    → EnergyNotNegative (decode file)
+    → NoSmaller (settled file correction rows) (settled (applyAll changes file) correction worseRows)
+worse-conduct file correction rows worseRows changes takes before after energy =
     let p = accepted-case file correction (length rows) before in
-    let p′ = accepted-case (applyAll changes file) correction (length rows′) after in
+    let p′ = accepted-case (applyAll changes file) correction (length worseRows) after in
     let w = list-worse changes file (p .follow) takes (p′ .short) in
     subst₂ NoSmaller (sym (settled-accepted file correction rows before))
-    (sym (settled-accepted (applyAll changes file) correction rows′ after))
-    (rows-worse file (applyAll changes file) correction rows rows′ (p .ranges) (p′ .ranges)
+    (sym (settled-accepted (applyAll changes file) correction worseRows after))
+    (rows-worse file (applyAll changes file) correction rows worseRows (p .ranges) (p′ .ranges)
     (worse-figures (decode file) (decode (applyAll changes file)) w energy))

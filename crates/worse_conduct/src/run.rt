@@ -1,5 +1,5 @@
 // The runs of which specs/Demands speaks are those of the call: one run, and the runs before and after a list of changes.
-ghost use Rattle.worse_conduct.specs.Demands.{Run, Demand1, Demand2, WorseOfTwo};
+ghost use Rattle.worse_conduct.specs.Demands.{Run, Demand1, Demand2, Demand3};
 use settlement::settle::Settlement;
 use settlement::settle::settle;
 
@@ -22,12 +22,14 @@ pub fn settled_twice<'a>(
     file: &'a [u8],
     worse: &'a [u8],
     correction: &'a [u8],
-    rows: &mut [u8],
-    worse_rows: &mut [u8],
+    first: &mut [u8],
+    second: &mut [u8],
 ) -> Answers
-    ensures { λ r. ⌜ WorseOfTwo (now (file .entry)) (now (worse .entry)) (now (correction .entry)) (now (rows .entry)) (now («worse_rows» .entry)) (r .before) (r .after) (now (rows .exit)) (now («worse_rows» .exit)) ⌝ }
+    ensures { λ r. ⌜ Run (now (file .entry)) (now (correction .entry)) (now (first .entry)) (r .before) (now (first .exit)) ⌝ }
+    ensures { λ r. ⌜ Run (now (worse .entry)) (now (correction .entry)) (now (second .entry)) (r .after) (now (second .exit)) ⌝ }
+    ensures { λ r. ⌜ Demand3 (now (file .entry)) (now (worse .entry)) (now (correction .entry)) (now (first .entry)) (now (second .entry)) (r .before) (r .after) (now (first .exit)) (now (second .exit)) ⌝ }
 {
-    let before = settled_once(file, correction, rows);
-    let after = settled_once(worse, correction, worse_rows);
+    let before = settled_once(file, correction, first);
+    let after = settled_once(worse, correction, second);
     Answers { before, after }
 }

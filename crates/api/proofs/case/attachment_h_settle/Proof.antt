@@ -1,6 +1,7 @@
 use mathlib.Core.Path.{_∙_, ap, sym}
 use borrow.Author.Needs.{needs}
 use Rattle.settlement.specs.Settled.{answerOfSettlement}
+use Rattle.settlement.proofs.SettleLaws.{told-answer}
 use Rattle.api.specs.Exported.{exportedSettlement}
 use Rattle.api.proofs.case.attachment_h_settle.Statement.{statement}
 use Rattle.api.proofs.case.attachment_h_settle.Tie as tie
@@ -15,12 +16,12 @@ attachment-h-settle-spec =
     (λ c. search needs)
     (λ c.
     let s = c .before .before .before .before .before .settle in (
-      ap (λ x. exportedSettlement (answerOfSettlement x)) (sym (c .before .number .given .1)) ∙ ap exportedSettlement (s .ensures .0),
-      s .ensures .1 .1,
+      ap (λ x. exportedSettlement (answerOfSettlement x)) (sym (c .before .number .given .1)) ∙ ap (λ x. exportedSettlement (answerOfSettlement x)) (s .ensures .0) ∙ ap exportedSettlement (told-answer _ _ _),
+      s .ensures .1,
     ))
     (λ c. search needs)
     (λ c.
     let s = c .before .before .before .before .before .settle in (
-      ap (λ x. exportedSettlement (answerOfSettlement x)) (sym (c .before .rows2 .given .1)) ∙ ap exportedSettlement (s .ensures .0),
-      s .ensures .1 .1,
+      ap (λ x. exportedSettlement (answerOfSettlement x)) (sym (c .before .rows2 .given .1)) ∙ ap (λ x. exportedSettlement (answerOfSettlement x)) (s .ensures .0) ∙ ap exportedSettlement (told-answer _ _ _),
+      s .ensures .1,
     )))

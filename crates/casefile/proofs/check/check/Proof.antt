@@ -1,7 +1,7 @@
 use mathlib.Core.Path.{_≡_, sym, _∙_}
 use native.Mathlib.Omega.{arith}
 use Rattle.casefile.specs.Decode.{sectionOf}
-use Rattle.casefile.specs.Refusal.{headerRefusal, recordsRefusal}
+use Rattle.casefile.specs.StageRefusal.{headerRefusal, recordsRefusal}
 use Rattle.casefile.proofs.RangeLaws.{numbers-in-order, references-in-order, correct-in-order}
 use Rattle.casefile.proofs.RefusalLaws.{HeaderFine, RecordsFine, header-fine, records-fine, has-section, refusal-header, refusal-records, refusal-events}
 use Rattle.casefile.proofs.check.check.Statement.{statement}

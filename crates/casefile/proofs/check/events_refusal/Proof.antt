@@ -3,7 +3,8 @@ use mathlib.Core.Path.{_≡_, sym, _∙_}
 use borrow.Author.Needs.{needs}
 use borrow.Author.Tests.{not-true, not-false}
 use Rattle.casefile.specs.Decode.{unitsIn, eventsIn}
-use Rattle.casefile.specs.Refusal.{eventsFine, orderFine, eventsListed, rowsFine, eventsRefusal}
+use Rattle.casefile.specs.Refusal.{eventsFine, orderFine, eventsListed, rowsFine}
+use Rattle.casefile.specs.StageRefusal.{eventsRefusal}
 use Rattle.casefile.proofs.RefusalLaws.{passed, broken}
 use Rattle.casefile.proofs.check.events_refusal.Statement.{statement}
 use Rattle.casefile.proofs.check.events_refusal.Tie as tie

@@ -1,7 +1,8 @@
 use mathlib.Core.Bool.{true}
 use mathlib.Core.Path.{_≡_, sym, _∙_}
 use borrow.Author.Tests.{not-true, not-false}
-use Rattle.casefile.specs.Refusal.{unitsFine, recordsRefusal}
+use Rattle.casefile.specs.Refusal.{unitsFine}
+use Rattle.casefile.specs.StageRefusal.{recordsRefusal}
 use Rattle.casefile.proofs.RangeLaws.{numbers-in-order}
 use Rattle.casefile.proofs.check.records_refusal.Statement.{statement}
 use Rattle.casefile.proofs.check.records_refusal.Tie as tie

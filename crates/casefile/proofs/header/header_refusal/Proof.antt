@@ -1,6 +1,7 @@
 use borrow.Author.Needs.{needs}
 use borrow.Author.Tests.{le-leb, lt-leb}
-use Rattle.casefile.specs.Refusal.{lengthFine, versionFine, sectionsFine, headerRefusal}
+use Rattle.casefile.specs.Refusal.{lengthFine, versionFine, sectionsFine}
+use Rattle.casefile.specs.StageRefusal.{headerRefusal}
 use Rattle.casefile.proofs.header.header_refusal.Statement.{statement}
 use Rattle.casefile.proofs.header.header_refusal.Tie as tie
 

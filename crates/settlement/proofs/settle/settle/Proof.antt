@@ -19,11 +19,8 @@ settle-spec =
     (λ c.
     let a = c .before .before .before .before .before .args in
     let e = refused-answer (a .file .now) (a .correction .now) _ _ (c .before .check .ensures) (c .if1 .taken) in (
-      e,
-      (
-        refused-told _ _ e (c .if1 .taken),
-        refused-rows (a .file .now) (a .correction .now) (a .rows .now) _ (c .before .check .ensures) (c .if1 .taken),
-      ),
+      refused-told _ _ e (c .if1 .taken),
+      refused-rows (a .file .now) (a .correction .now) (a .rows .now) _ (c .before .check .ensures) (c .if1 .taken),
     ))
     (λ c κs. let a = c .before .before .before .before .before .args in case.has-section (a .file .now) (a .correction .now) _ (fine c) 0 (omega arith))
     (λ c κs. let a = c .before .before .before .before .before .before .args in case.has-section (a .file .now) (a .correction .now) _ (fine (c .before)) 1 (omega arith))
@@ -41,10 +38,7 @@ settle-spec =
     let e =
     settled-answer (a .file .now) (a .correction .now) _ _ _ _ _ (c .before .before .before .before .before .before .before .before .section .ensures) (c .before .before .before .before .before .before .before .section2 .ensures)
     (c .before .before .before .before .before .before .section3 .ensures) (c .before .before .before .before .correct-references .ensures) (c .before .before .before .before .before .section4 .ensures) _ _ (fine (c .before .before .before .before .before .before .before .before .before)) (s .0) in (
-      e,
-      (
-        settled-told _ _ _ _ e,
-        settled-rows (a .file .now) (a .correction .now) _ _ _ _ _ (c .before .before .before .before .before .before .before .before .section .ensures) (c .before .before .before .before .before .before .before .section2 .ensures)
+      settled-told _ _ _ _ e,
+      settled-rows (a .file .now) (a .correction .now) _ _ _ _ _ (c .before .before .before .before .before .before .before .before .section .ensures) (c .before .before .before .before .before .before .before .section2 .ensures)
             (c .before .before .before .before .before .before .section3 .ensures) (c .before .before .before .before .correct-references .ensures) (c .before .before .before .before .before .section4 .ensures) (a .rows .now) _ (fine (c .before .before .before .before .before .before .before .before .before)) (s .1),
-      ),
     )))

@@ -14,5 +14,5 @@ settled-once-spec =
     let s = c .before .before .settle .ensures in
     let a = c .before .before .before .before .before .before .before .args in
     let run : Run (a .file .now) (a .correction .now) (a .rows .now) (c .before .before .settle .result) _ =
-    record { answered = s .0; told = s .1 .0; left = s .1 .1 } in
+    record { answered = s .0; left = s .1 } in
     (run, (demand-1 _ _ _ _ _ run, demand-2 _ _ _ _ _ run))))

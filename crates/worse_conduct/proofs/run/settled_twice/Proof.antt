@@ -1,5 +1,5 @@
 use borrow.Author.Needs.{needs}
-use Rattle.worse_conduct.proofs.Demands.{worse-of-two}
+use Rattle.worse_conduct.proofs.Demands.{demand-3}
 use Rattle.worse_conduct.proofs.run.settled_twice.Statement.{statement}
 use Rattle.worse_conduct.proofs.run.settled_twice.Tie as tie
 
@@ -12,4 +12,6 @@ settled-twice-spec =
     (λ c. search needs)
     (λ c. search needs)
     (λ c.
-    worse-of-two _ _ _ _ _ _ _ _ _ (c .before .before .before .before .before .before .settled-once .ensures .0) (c .before .before .settled-once2 .ensures .0)))
+    let run = c .before .before .before .before .before .before .settled-once .ensures .0 in
+    let worse = c .before .before .settled-once2 .ensures .0 in
+    (run, (worse, demand-3 _ _ _ _ _ _ _ _ _ run worse))))

@@ -1,0 +1,66 @@
+-- The examples of the table What a case can break, the listing's case and the empty case, by computation; and the lowest number
+-- that applies, of one of them.
+use mathlib.Core.List.{[], _++_}
+use mathlib.Core.Path.{_≡_, refl}
+use lib.ListN.{replicate}
+use Rattle.binary.specs.Bounded.{anyTo, allTo, lastTo}
+use Rattle.binary.specs.Bytes.{valueAt, bytesOf}
+use Rattle.binary.specs.Word.{positivePart, negativePart, within}
+use Rattle.tariff.specs.Ranges.{referenceInRange, bidInRange}
+use Rattle.casefile.specs.Decode.{offsetOf, lengthOf, sectionOf, recordAt, unitsIn, referencesIn, violationIn, pastIn, eventsIn, amountsIn}
+use Rattle.casefile.specs.Lookup.{isUnit, isListed, placeOf, isReference, referenceKey, hasReference, correctReferences, readsCorrect}
+use Rattle.casefile.specs.Refusal.{lengthFine, versionFine, sectionsFine, pairsFine, sizeFine, sizesFine, rises, unitFieldsFine, unitSpareFine, unitFine, unitsFine, referenceFieldsFine, referenceFine, referencesFine, correctionFine, violationFine, entryFine, pastFine, maskFine, quantitiesFine, fieldsFine, cellFine, hourFine, eventFine, eventsFine, eventKey, orderFine, eventListed, eventsListed, withinCapability, amountFine, amountsFine, referenceFound, referencesFound, rowsFine, refusal}
+use Rattle.worked_cases.specs.Files.{headed, fileOf, unitBytes, referenceBytes, entryBytes, eventBytes, units, withheld, listing}
+
+-- accepted: the empty case, the listing's case, and one with every section and a correction; then the table's examples in number order, and four easy to get wrong
+pub record Examples : Type 0 where
+  pub empty-case : refusal (fileOf [] [] [] []) [] 0 ≡ 0
+  pub listing-case : refusal listing [] 128 ≡ 0
+  pub bids-case : refusal (fileOf units (referenceBytes 12 0 2000) (entryBytes 1 3 1 44 7000) (eventBytes 4 0 12 44 0 8000 2500 3000)) (referenceBytes 12 0 2100) 128 ≡ 0
+  pub length-broken : refusal (replicate 35 0) [] 0 ≡ 1
+  pub version-broken : refusal (headed 9 4 36 0 0 0 0 []) [] 0 ≡ 2
+  pub count-broken : refusal (headed 1 3 36 0 0 0 0 []) [] 0 ≡ 3
+  pub pairs-broken : refusal (headed 1 4 40 0 0 0 0 []) [] 0 ≡ 4
+  pub size-broken : refusal (fileOf (replicate 25 0) [] [] []) [] 0 ≡ 5
+  pub unit-broken : refusal (fileOf (unitBytes 12 1 2 5000) [] [] []) [] 0 ≡ 6
+  pub reference-broken : refusal (fileOf units (referenceBytes 12 9 0) [] []) [] 0 ≡ 7
+  pub correction-broken : refusal (fileOf units [] [] []) (replicate 7 0) 0 ≡ 8
+  pub past-broken : refusal (fileOf units [] (entryBytes 1 2 0 44 8000) []) [] 0 ≡ 9
+  pub event-broken : refusal (fileOf units [] [] (withheld 2 12 501)) [] 128 ≡ 10
+  pub order-broken : refusal (fileOf units [] [] (withheld 0 12 501 ++ withheld 0 12 501)) [] 256 ≡ 11
+  pub unlisted : refusal (fileOf units [] [] (withheld 0 99 501)) [] 128 ≡ 12
+  pub above-capability : refusal (fileOf units [] [] (withheld 0 12 5001)) [] 128 ≡ 13
+  pub no-references : refusal (fileOf units [] [] (eventBytes 4 0 12 44 0 8000 2500 3000)) [] 128 ≡ 14
+  pub rows-short : refusal listing [] 127 ≡ 15
+  pub wrapped-pairs : refusal (headed 1 4 36 4294967260 36 0 0 []) [] 0 ≡ 4
+  pub largest-amount : refusal (fileOf units [] [] (withheld 0 12 4294967295)) [] 128 ≡ 13
+  pub correction-first : refusal (fileOf units [] (entryBytes 1 2 0 44 8000) []) (replicate 7 0) 0 ≡ 8
+  pub reading-first : refusal (fileOf units [] [] (withheld 0 12 501 ++ withheld 0 12 501 ++ withheld 2 12 501)) [] 384 ≡ 10
+
+pub examples : Examples
+unfolding headed fileOf unitBytes referenceBytes entryBytes eventBytes units withheld listing anyTo allTo lastTo valueAt bytesOf positivePart negativePart within offsetOf lengthOf sectionOf recordAt unitsIn referencesIn violationIn pastIn eventsIn amountsIn isUnit isListed placeOf isReference hasReference correctReferences lengthFine versionFine sectionsFine pairsFine sizeFine sizesFine rises unitFieldsFine unitSpareFine unitFine unitsFine referenceFieldsFine referenceKey referenceFine referencesFine correctionFine violationFine entryFine pastFine maskFine quantitiesFine fieldsFine referenceInRange bidInRange cellFine hourFine eventFine eventsFine eventKey orderFine eventListed eventsListed withinCapability amountFine amountsFine readsCorrect referenceFound referencesFound rowsFine refusal
+examples =
+    record {
+      empty-case = refl;
+      listing-case = refl;
+      bids-case = refl;
+      length-broken = refl;
+      version-broken = refl;
+      count-broken = refl;
+      pairs-broken = refl;
+      size-broken = refl;
+      unit-broken = refl;
+      reference-broken = refl;
+      correction-broken = refl;
+      past-broken = refl;
+      event-broken = refl;
+      order-broken = refl;
+      unlisted = refl;
+      above-capability = refl;
+      no-references = refl;
+      rows-short = refl;
+      wrapped-pairs = refl;
+      largest-amount = refl;
+      correction-first = refl;
+      reading-first = refl;
+    }
