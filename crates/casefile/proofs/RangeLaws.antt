@@ -103,28 +103,6 @@ unit-range s i h =
       constrainedHours = leb-true (unitsIn s .constrainedHours i) 8784 (search (and-l, and-r) depth 10);
     }
 
-pub reference-range : (u : Units) (s : List ℕ) (i : ℕ) → referenceFine u s i ≡ true → ReferenceRange u (referencesIn s) i
-unfolding referenceFine referenceFieldsFine referenceInRange
-reference-range u s i h =
-    record {
-      component = leb-true (referencesIn s .component i) 8 (search (and-l, and-r) depth 10);
-      value = leb-true (referencesIn s .value i) (highestReference (referencesIn s .component i)) (search (and-l, and-r) depth 10);
-      listed = search (and-l, and-r) depth 10;
-    }
-
-pub violation-range : (v : Violation) → violationFine v ≡ true → ViolationRange v
-unfolding violationFine
-violation-range v h =
-    record {
-      kind = go (eqb (v .kind) 1) refl (search (and-l, and-r));
-      market = leb-true (v .market) 1 (search (and-l, and-r));
-      day = leb-true (v .day) 1000000 (search (and-l, and-r));
-    }
-  where
-    go : (t : Bool) → eqb (v .kind) 1 ≡ t → (eqb (v .kind) 1 || eqb (v .kind) 3) ≡ true → (v .kind ≡ 1) ⊎ (v .kind ≡ 3)
-    go true e o = inl (eqb-true (v .kind) 1 e)
-    go false e o = inr (eqb-true (v .kind) 3 (or-right (eqb (v .kind) 1) (eqb (v .kind) 3) o e))
-
 pub event-range : (e : Events) (a : ℕ → ℕ → ℕ) (i : ℕ) → eventFine e a i ≡ true → EventRange e i
 unfolding eventFine fieldsFine quantitiesFine maskFine
 event-range e a i h =
@@ -195,18 +173,6 @@ cell-range kind component a b m h =
           let t : (bidInRange component a && within 32 1000000 b && leb m 50000) ≡ true = of-kind 4 kind _ (search (and-l, and-r)) k in
           (bid-range component a (search (and-l, and-r)), within-is 1000000 b (search (and-l, and-r)), leb-true m 50000 (search (and-l, and-r)));
     }
-
--- a reference level that is there is in its component's range
-pub level-bound : (u : Units) (r : References) (unit component : ℕ) → ((j : ℕ) → j < r .count → ReferenceRange u r j)
-    → hasReference r unit component ≡ true → levelOf r unit component ≤ highestReference component
-unfolding hasReference levelOf isReference
-level-bound u r unit component ranges h =
-    let t = last-holds (r .count) (isReference r unit component) h in
-    let e : r .component place ≡ component = eqb-true _ _ (and-r (eqb (r .unit place) unit) (eqb (r .component place) component) t) in
-    subst (λ (x : ℕ). r .value place ≤ highestReference x) e (ranges place (last-below (r .count) (isReference r unit component) h) .value)
-  where
-    place : ℕ
-    place = lastTo (r .count) (isReference r unit component)
 
 -- ---- strict orders
 

@@ -1,14 +1,13 @@
 -- Parts of a section's bytes.
 use Prim.Native.Nat.{ℕ, _+_, _-_, _*_, _≤_, _<_}
 use mathlib.Core.List.{List}
-use mathlib.Core.Path.{_≡_, refl}
+use mathlib.Core.Path.{_≡_}
 use native.Mathlib.Omega.{arith}
 use lib.ListN.{length, getD, take, drop, length-drop}
 use lib.Seq.{take-all, getD-take, getD-drop}
 use Rattle.binary.specs.Bytes.{valueAt}
 use Rattle.binary.proofs.ByteLaws.{value-drop, value-take}
-use Rattle.casefile.specs.Layout.{hours}
-use Rattle.casefile.specs.Decode.{recordAt, eventsIn}
+use Rattle.casefile.specs.Decode.{recordAt}
 
 -- the part from byte a on
 pub rest : (a : ℕ) (s : List ℕ) → take (length s - a) (drop a s) ≡ drop a s
@@ -23,8 +22,3 @@ value-record w width s i p l = rw (value-take w width (drop (width * i) s) p l, 
 pub record-byte : (width : ℕ) (s : List ℕ) (i p : ℕ) → p < width → ((j : ℕ) → getD s j 0 < 256) → getD (recordAt width s i) p 0 < 256
 unfolding recordAt
 record-byte width s i p l bytes = rw (getD-take width (drop (width * i) s) p 0 l, getD-drop) (bytes (width * i + p))
-
--- in this version every day has the same hours
-pub day-hours : (s : List ℕ) (i : ℕ) → eventsIn s .hours i ≡ hours
-unfolding eventsIn
-day-hours s i = refl

@@ -1,13 +1,13 @@
 -- E is gain less loss.
 use Prim.Native.Nat.{ℕ, zero, suc, _+_, _*_, _≤_}
 use mathlib.Core.Bool.{Bool, true, false, cond}
-use mathlib.Core.Path.{_≡_, refl, sym, _∙_, ap, ap₂, subst}
+use mathlib.Core.Path.{_≡_, refl, _∙_, ap, ap₂, subst}
 use native.Mathlib.Omega.{arith}
 use lib.IntN.{ℤ, pos, subℕ, _+ℤ_, _*ℤ_}
 use Rattle.binary.specs.Bounded.{sumTo}
 use Rattle.binary.specs.Integers.{signed, sumℤTo, _≤ℤ_}
 use Rattle.binary.specs.Word.{positivePart, negativePart}
-use Rattle.binary.proofs.IntegerLaws.{less-plus, less-times, less-where, less-sum, not-negative, at-least}
+use Rattle.binary.proofs.IntegerLaws.{less-plus, less-times, less-where, less-sum, at-least}
 use Rattle.casefile.specs.Case.{Case}
 use Rattle.conduct.specs.Flags.{together, sumTogether, fuelFlag}
 use Rattle.sanctions.specs.Penalties.{partyDaySum, E, energyPart, gain, loss}

@@ -1,5 +1,4 @@
 -- Settlements of mixed kinds by computation, from the bytes of the file to the bytes of the rows.
-use Prim.Native.Nat.{_+_, _-_}
 use mathlib.Core.List.{[], _∷_, _++_}
 use mathlib.Core.Path.{_≡_, refl}
 use lib.ListN.{replicate}

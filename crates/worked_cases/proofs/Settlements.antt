@@ -1,6 +1,5 @@
 -- Settlements by computation, from the bytes of the file to the bytes of the rows: the listing's case, a rows buffer too short, and
 -- two cases of bids.
-use Prim.Native.Nat.{_+_, _-_}
 use mathlib.Core.List.{[], _∷_, _++_}
 use mathlib.Core.Path.{_≡_, refl}
 use lib.ListN.{replicate}

@@ -1,9 +1,9 @@
 -- Demand 3 at work: a case with events of every kind, eleven changes of it, and what they cost; the case that shows why E must
 -- not be negative; and the case that shows why mitigated hours are left out.
-use Prim.Native.Nat.{ℕ, zero, suc, _+_, _≤_, _<_}
+use Prim.Native.Nat.{ℕ, zero, suc, _≤_}
 use mathlib.Core.Bool.{Bool, true, false, Bool·beq}
 use mathlib.Core.List.{List, [], _∷_, _++_}
-use mathlib.Core.Path.{_≡_, refl, sym, _∙_, ap, subst}
+use mathlib.Core.Path.{_≡_, refl, sym, _∙_}
 use native.Mathlib.Omega.{arith}
 use Rattle.binary.proofs.BoundedLaws.{all-at}
 use Rattle.default_bids.proofs.SpanLaws.{mitigated-span, span-same}
