@@ -1,5 +1,6 @@
 pub mod Refusals
 pub mod MixedSettlements
 pub mod Settlements
+pub mod FuelMultipliers
 pub mod WorseCases
 pub mod Workings

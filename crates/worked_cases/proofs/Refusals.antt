@@ -1,7 +1,9 @@
 -- The examples of the table What a case can break, the listing's case and the empty case, by computation; and the lowest number
 -- that applies, of one of them.
+use Prim.Native.Nat.{ℕ}
 use mathlib.Core.List.{[], _++_}
-use mathlib.Core.Path.{_≡_, refl}
+use mathlib.Core.Path.{_≡_, refl, sym, _∙_, subst}
+use native.Mathlib.Omega.{arith}
 use lib.ListN.{replicate}
 use Rattle.binary.specs.Bounded.{anyTo, allTo, lastTo}
 use Rattle.binary.specs.Bytes.{valueAt, bytesOf}
@@ -9,7 +11,8 @@ use Rattle.binary.specs.Word.{positivePart, negativePart, within}
 use Rattle.tariff.specs.Ranges.{referenceInRange, bidInRange}
 use Rattle.casefile.specs.Decode.{offsetOf, lengthOf, sectionOf, recordAt, unitsIn, referencesIn, violationIn, pastIn, eventsIn, amountsIn}
 use Rattle.casefile.specs.Lookup.{isUnit, isListed, placeOf, isReference, referenceKey, hasReference, correctReferences, readsCorrect}
-use Rattle.casefile.specs.Refusal.{lengthFine, versionFine, sectionsFine, pairsFine, sizeFine, sizesFine, rises, unitFieldsFine, unitSpareFine, unitFine, unitsFine, referenceFieldsFine, referenceFine, referencesFine, correctionFine, violationFine, entryFine, pastFine, maskFine, quantitiesFine, fieldsFine, cellFine, hourFine, eventFine, eventsFine, eventKey, orderFine, eventListed, eventsListed, withinCapability, amountFine, amountsFine, referenceFound, referencesFound, rowsFine, refusal}
+use Rattle.casefile.specs.Refusal.{lengthFine, versionFine, sectionsFine, pairsFine, sizeFine, sizesFine, rises, unitFieldsFine, unitSpareFine, unitFine, unitsFine, referenceFieldsFine, referenceFine, referencesFine, correctionFine, violationFine, entryFine, pastFine, maskFine, quantitiesFine, fieldsFine, cellFine, hourFine, eventFine, eventsFine, eventKey, orderFine, eventListed, eventsListed, withinCapability, amountFine, amountsFine, referenceFound, referencesFound, rowsFine, refusal, limits, LowestBroken}
+use Rattle.casefile.proofs.LimitLaws.{refused-lowest}
 use Rattle.worked_cases.specs.Files.{headed, fileOf, unitBytes, referenceBytes, entryBytes, eventBytes, units, withheld, listing}
 
 -- accepted: the empty case, the listing's case, and one with every section and a correction; then the table's examples in number order, and four easy to get wrong
@@ -64,3 +67,10 @@ examples =
       correction-first = refl;
       reading-first = refl;
     }
+
+-- 15 is the lowest number that applies to the listing's case with a rows buffer of 127 bytes: every limit before it is met
+pub rows-short-lowest : LowestBroken (limits listing [] 127) 15
+rows-short-lowest = subst (LowestBroken (limits listing [] 127)) (examples .rows-short) (refused-lowest listing [] 127 not-accepted)
+  where
+    not-accepted : refusal listing [] 127 ≡ 0 → ⊥
+    not-accepted h = let z : _≡_ {A = ℕ} 15 0 = sym (examples .rows-short) ∙ h in omega arith
