@@ -1,6 +1,7 @@
 //! The command line.
 
 use std::ffi::{OsStr, OsString};
+use std::fmt;
 use std::path::PathBuf;
 
 use crate::help::Topic;
@@ -21,6 +22,15 @@ pub enum Source {
     Input,
     /// A file.
     File(PathBuf),
+}
+
+impl fmt::Display for Source {
+    fn fmt(&self, formatter: &mut fmt::Formatter<'_>) -> fmt::Result {
+        match self {
+            Source::Input => formatter.write_str("standard input"),
+            Source::File(path) => path.display().fmt(formatter),
+        }
+    }
 }
 
 /// What casetool is asked for.
@@ -45,6 +55,8 @@ pub struct Given {
     pub correction: Option<Source>,
     /// That what is written or shown is a correction.
     pub is_correction: bool,
+    /// That a text without an event, or a correction without a reference, is written.
+    pub allow_empty: bool,
     /// The event of a working.
     pub event: usize,
     /// The hour of a working.
@@ -58,6 +70,7 @@ struct Found {
     output: Option<PathBuf>,
     correction: Option<Source>,
     is_correction: bool,
+    allow_empty: bool,
     event: Option<usize>,
     hour: Option<usize>,
 }
@@ -124,6 +137,23 @@ fn command(topic: Topic, arguments: &[OsString]) -> Result<Request, Misuse> {
         .map_err(|problem| Misuse { problem, topic })
 }
 
+/// The files that a command line names as outputs, and all else that it may name: what there is to
+/// know of one that casetool does not take.
+pub fn outputs(arguments: &[OsString]) -> (Vec<PathBuf>, Vec<Source>) {
+    let (mut outputs, mut others) = (Vec::new(), vec![Source::Input]);
+    let is_command = arguments.first().is_some_and(|name| topic(name).is_ok());
+    let mut rest = arguments.iter().skip(1).filter(|_| is_command);
+    let mut only_files = false;
+    while let Some(argument) = rest.next() {
+        match argument.to_str() {
+            Some("-o" | "--output") if !only_files => outputs.extend(rest.next().map(Into::into)),
+            Some("--") => only_files = true,
+            _ => others.push(source(argument)),
+        }
+    }
+    (outputs, others)
+}
+
 impl Found {
     fn option<'a>(
         &mut self,
@@ -136,6 +166,7 @@ impl Found {
             "--correction" if takes_text => flag(&mut self.is_correction, option),
             "--correction" => once(&mut self.correction, option, source(value(option, rest)?)),
             "-o" | "--output" => once(&mut self.output, option, value(option, rest)?.into()),
+            "--allow-empty" if topic == Topic::Write => flag(&mut self.allow_empty, option),
             "--event" if topic == Topic::Working => {
                 let event = number(option, value(option, rest)?, usize::MAX)?;
                 once(&mut self.event, option, event)
@@ -174,6 +205,7 @@ impl Found {
             output: self.output,
             correction: self.correction,
             is_correction: self.is_correction,
+            allow_empty: self.allow_empty,
             event: self.event.unwrap_or(0),
             hour: self.hour.unwrap_or(0),
         })

@@ -30,8 +30,8 @@ fn days_of_month(year: u32, month: usize) -> u32 {
     MONTHS[month].1 + u32::from(month == 1 && is_leap(year))
 }
 
-/// The date of a day number, such as `26 November 2021`.
-pub fn date(day: u32) -> String {
+/// Year, month from 0 and day from 1 of a day number.
+fn parts(day: u32) -> (u32, usize, u32) {
     let mut year = 2000 + 400 * (day / CYCLE);
     let mut left = day % CYCLE;
     while left >= days_of_year(year) {
@@ -43,7 +43,25 @@ pub fn date(day: u32) -> String {
         left -= days_of_month(year, month);
         month += 1;
     }
-    format!("{} {} {year}", left + 1, MONTHS[month].0)
+    (year, month, left + 1)
+}
+
+/// The date of a day number, such as `26 November 2021`.
+pub fn date(day: u32) -> String {
+    let (year, month, day) = parts(day);
+    format!("{day} {} {year}", MONTHS[month].0)
+}
+
+/// May and November, in which a Summer and a Winter capability period begin, from 0.
+const SUMMER: usize = 4;
+const WINTER: usize = 10;
+
+/// The number of the capability period that a day is in. Period 0 is the Winter in which day 0 is,
+/// 1 the Summer from 1 May 2000, 2 the Winter from 1 November 2000, and so on.
+pub fn period(day: u32) -> u32 {
+    let (year, month, _) = parts(day);
+    let begun = u32::from(month >= SUMMER) + u32::from(month >= WINTER);
+    2 * (year - 2000) + begun
 }
 
 /// The day number of a date from 2000 to 9999 such as `2021-11-26`.

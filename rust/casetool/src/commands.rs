@@ -5,12 +5,14 @@ use std::io::{Read, Write};
 use attachment_h::{ROWS_LENGTH, check, settle, working};
 
 use crate::amounts;
-use crate::arguments::{Given, Source};
-use crate::blocks;
+use crate::arguments::Given;
+use crate::blocks::Settlement;
 use crate::event::Event;
 use crate::files;
 use crate::help::Topic;
 use crate::layout::{Section, Sections};
+use crate::notes::Correction;
+use crate::output;
 use crate::place;
 use crate::refusal::describe;
 use crate::text_show;
@@ -31,28 +33,45 @@ impl From<String> for Failure {
     }
 }
 
-/// What a command answers, and whether that is an acceptance.
+/// What came of a command.
+pub struct Done {
+    /// It was done and, of a check, the case is accepted.
+    pub accepted: bool,
+    /// What looks wrong, for standard error.
+    pub warnings: Vec<String>,
+}
+
+impl Default for Done {
+    fn default() -> Done {
+        Done {
+            accepted: true,
+            warnings: Vec::new(),
+        }
+    }
+}
+
+/// What a command answers.
 struct Answer {
     bytes: Vec<u8>,
-    accepted: bool,
+    done: Done,
 }
 
 impl Answer {
     fn done(bytes: impl Into<Vec<u8>>) -> Answer {
         Answer {
             bytes: bytes.into(),
-            accepted: true,
+            done: Done::default(),
         }
     }
 }
 
-/// Runs a command and writes its answer; whether it was done and, of a check, accepted.
+/// Runs a command and writes its answer.
 pub fn run(
     topic: Topic,
     given: &Given,
     input: &mut dyn Read,
     output: &mut dyn Write,
-) -> Result<bool, Failure> {
+) -> Result<Done, Failure> {
     if let Some(path) = &given.output {
         let sources = [Some(&given.source), given.correction.as_ref()];
         if sources
@@ -68,42 +87,63 @@ pub fn run(
         }
     }
     let file = files::read(&given.source, input)?;
-    let correction = match &given.correction {
-        Some(source) => files::read(source, input)?,
-        None => Vec::new(),
-    };
+    let correction = correction(given, input)?;
     let answer = match topic {
         Topic::Write => write(&file, given).map_err(Failure::from),
         Topic::Show => show(&file, given).map_err(Failure::from),
         Topic::Check => Ok(checked(&file, &correction)),
-        Topic::Settle => settled(&file, &correction).map_err(Failure::from),
+        Topic::Settle => settled(&file, &correction, given).map_err(Failure::from),
         Topic::Working => worked(&file, &correction, given),
         Topic::Casetool => Ok(Answer::done(topic.text())),
     }?;
-    files::write(&answer.bytes, given.output.as_deref(), output)?;
-    Ok(answer.accepted)
+    output::write(&answer.bytes, given.output.as_deref(), output)?;
+    Ok(answer.done)
+}
+
+/// The correction, empty where none is named. One that is named has something in it.
+fn correction(given: &Given, input: &mut dyn Read) -> Result<Vec<u8>, Failure> {
+    let Some(source) = &given.correction else {
+        return Ok(Vec::new());
+    };
+    let correction = files::read(source, input)?;
+    if correction.is_empty() {
+        let problem = format!("--correction {source}: it is empty, and corrects nothing");
+        return Err(Failure::Misuse(problem));
+    }
+    Ok(correction)
 }
 
 fn write(text: &[u8], given: &Given) -> Result<Answer, String> {
-    let bytes = if given.is_correction {
-        text_write::correction(text)
+    let name = &given.source;
+    let (written, lacking) = if given.is_correction {
+        (text_write::correction(text), "reference")
     } else {
-        text_write::case_file(text)
+        (text_write::case_file(text), "event")
     };
-    bytes
-        .map(Answer::done)
-        .map_err(|error| format!("{}: {error}", name(&given.source)))
-}
-
-fn name(source: &Source) -> String {
-    match source {
-        Source::Input => "standard input".to_string(),
-        Source::File(path) => path.display().to_string(),
+    let written = written.map_err(|error| format!("{name}: {error}"))?;
+    let is_empty = match Sections::of(&written.bytes) {
+        Some(sections) if !given.is_correction => sections.count(Section::Events) == 0,
+        _ => written.bytes.is_empty(),
+    };
+    if is_empty && !given.allow_empty {
+        return Err(format!(
+            "{name}: this text has no {lacking}; with --allow-empty it is written all the same"
+        ));
     }
+    let warnings = written.warnings.iter();
+    Ok(Answer {
+        bytes: written.bytes,
+        done: Done {
+            warnings: warnings
+                .map(|warning| format!("{name}: {warning}"))
+                .collect(),
+            ..Done::default()
+        },
+    })
 }
 
 fn show(file: &[u8], given: &Given) -> Result<Answer, String> {
-    let name = name(&given.source);
+    let name = &given.source;
     if given.is_correction {
         let (bytes, most) = (
             Section::References.record_bytes(),
@@ -142,18 +182,38 @@ fn checked(file: &[u8], correction: &[u8]) -> Answer {
         }
         Err(refused) => Answer {
             bytes: describe(refused, file, correction, ROWS_LENGTH).into(),
-            accepted: false,
+            done: Done {
+                accepted: false,
+                ..Done::default()
+            },
         },
     }
 }
 
-fn settled(file: &[u8], correction: &[u8]) -> Result<Answer, String> {
-    let mut rows = vec![0; ROWS_LENGTH];
-    let settled = settle(file, correction, &mut rows)
-        .map_err(|refused| describe(refused, file, correction, ROWS_LENGTH))?;
+fn settled(file: &[u8], correction: &[u8], given: &Given) -> Result<Answer, String> {
+    let settle_with = |correction: &[u8]| {
+        let mut rows = vec![0; ROWS_LENGTH];
+        settle(file, correction, &mut rows)
+            .map(|settled| (settled, rows))
+            .map_err(|refused| describe(refused, file, correction, ROWS_LENGTH))
+    };
+    let (settled, rows) = settle_with(correction)?;
+    let correction = match &given.correction {
+        Some(source) => Some(Correction {
+            name: source.to_string(),
+            references: correction.len() / Section::References.record_bytes(),
+            rows_without: settle_with(&[])?.1,
+        }),
+        None => None,
+    };
     let sections = Sections::of(file)
         .ok_or("casetool finds no sections in this settled case, which is a mistake of casetool")?;
-    Ok(Answer::done(blocks::settlement(&sections, &rows, &settled)))
+    let settlement = Settlement {
+        sections,
+        rows: &rows,
+        correction: correction.as_ref(),
+    };
+    Ok(Answer::done(settlement.text(&settled)))
 }
 
 fn worked(file: &[u8], correction: &[u8], given: &Given) -> Result<Answer, Failure> {

@@ -3,6 +3,7 @@
 use std::fmt;
 
 use crate::layout::{u16_at, u32_at};
+use crate::needs::Shape;
 use crate::words;
 
 /// An event record with the fields that events are sorted by.
@@ -32,6 +33,15 @@ impl<'a> Event<'a> {
             market: record[1],
             unit: u16_at(record, 2),
             component: record[6],
+        }
+    }
+
+    /// What says how its fields are read.
+    pub fn shape(&self) -> Shape {
+        Shape {
+            kind: self.kind,
+            market: self.market,
+            component: self.component,
         }
     }
 

@@ -1,7 +1,7 @@
-//! Reading what a command is given and writing its answer.
+//! Reading what a command is given.
 
 use std::fs::{self, File};
-use std::io::{self, ErrorKind, Read, Write};
+use std::io::{self, Read};
 use std::path::Path;
 
 use crate::amounts;
@@ -12,13 +12,10 @@ const MOST_BYTES: u64 = 16 << 20;
 
 /// All bytes of a source, or what went wrong.
 pub fn read(source: &Source, input: &mut dyn Read) -> Result<Vec<u8>, String> {
-    let (name, bytes) = match source {
-        Source::Input => ("standard input".to_string(), all(input)),
-        Source::File(path) => {
-            let name = path.display().to_string();
-            let bytes = File::open(path).and_then(|mut file| all(&mut file));
-            (name, bytes)
-        }
+    let name = source.to_string();
+    let bytes = match source {
+        Source::Input => all(input),
+        Source::File(path) => File::open(path).and_then(|mut file| all(&mut file)),
     };
     let bytes = bytes.map_err(|error| format!("can't read {name}: {error}"))?;
     if bytes.len() as u64 > MOST_BYTES {
@@ -46,18 +43,4 @@ pub fn is(source: &Source, path: &Path) -> bool {
         (Ok(source), Ok(path)) => source == path && source.is_file(),
         _ => false,
     }
-}
-
-/// Writes an answer to a file or to standard output. A reader of the output that has gone away is
-/// no mistake.
-pub fn write(answer: &[u8], path: Option<&Path>, output: &mut dyn Write) -> Result<(), String> {
-    let Some(path) = path else {
-        return match output.write_all(answer).and_then(|()| output.flush()) {
-            Err(error) if error.kind() != ErrorKind::BrokenPipe => {
-                Err(format!("can't write standard output: {error}"))
-            }
-            _ => Ok(()),
-        };
-    };
-    fs::write(path, answer).map_err(|error| format!("can't write {}: {error}", path.display()))
 }

@@ -71,15 +71,16 @@ casetool: cases of the Attachment H settlement, as text and in words
 
 casetool COMMAND --help has the options of a command; casetool --version the version.
 A file that is - or left out is standard input; -o FILE takes the answer, otherwise it goes
-to standard output. Events and other records are counted from 0, hours from 0 to 23.
+to standard output. Where a command fails, a FILE that was there is renamed FILE.old, so that
+nothing takes it for the answer. Events and other records are counted from 0, hours from 0 to 23.
 Every figure comes from the proved library. The text form is in docs/FORMAT.md.
 
 Exit status: 0 done, 1 refused, unreadable or not text of a case, 2 misuse.
 ";
 
 const WRITE: &str = "\
-casetool write [TEXT] [-o CASE]
-casetool write --correction [TEXT] [-o CORRECTION]
+casetool write [TEXT] [-o CASE] [--allow-empty]
+casetool write --correction [TEXT] [-o CORRECTION] [--allow-empty]
 
 Makes a case file of a text, or a correction, which has references alone. Of the limits only
 these are held: every value has room in its field, a case has at most 64 units, 256 references,
@@ -93,11 +94,16 @@ comment:
   event day 8000 kind withheld market day-ahead unit 12 period 44 impact 1
     hour 0 withheld 50.1 MW price $40.00
 
-A day is the number of days since 1 January 2000, or a date such as 2021-11-26.
+A key that an event reads has to be there, also where it is 0: what is left out is an error with
+its line. A text with no event is an error too, since a failed export looks like that.
+A day is the number of days since 1 January 2000, or a date such as 2021-11-26. Capability
+periods count from the winter in which that day is, 0: the summer from 1 May 2000 is 1, the
+winter from 1 November 2021 is 44. A period that is not its day's is warned of, and written.
 docs/FORMAT.md has every key.
 
   -o, --output FILE  writes to a file instead of standard output
   --correction       the text is that of a correction
+  --allow-empty      a text with no event, or a correction with no reference, is written
   -h, --help         this help
 ";
 
@@ -121,7 +127,8 @@ Checks a case by the proved library. An accepted case is answered with the numbe
 and status 0; a refused one with its number, what that means, and the first record and field
 that break it, and status 1. Records are counted from 0.
 
-  --correction FILE  the correction of the case, as a file of casetool write --correction
+  --correction FILE  the correction of the case, as a file of casetool write --correction; it may
+                     not be empty
   -o, --output FILE  writes to a file instead of standard output
   -h, --help         this help
 ";
@@ -129,12 +136,15 @@ that break it, and status 1. Records are counted from 0.
 const SETTLE: &str = "\
 casetool settle [CASE] [--correction FILE] [-o FILE]
 
-Settles a case by the proved library and prints a block for each plant, with its events in
-file order, counted from 0: flagged hours, multiplier and penalty, or mitigated hours, bids in
-force and make-up; then the totals. A refused case is described as by casetool check, on
-standard error.
+Settles a case by the proved library and prints which correction was used, then a block for each
+plant, with its events in file order, counted from 0: flagged hours, multiplier and penalty, or
+mitigated hours, bids in force and, for energy, make-up; then the totals. N3 counts the instances
+of an event's group and market in its own capability period and the two before, the event itself
+among them, N2 those in its own and the one before. A refused case is described as by casetool
+check, on standard error.
 
-  --correction FILE  the correction of the case, as a file of casetool write --correction
+  --correction FILE  the correction of the case, as a file of casetool write --correction; it may
+                     not be empty
   -o, --output FILE  writes to a file instead of standard output
   -h, --help         this help
 ";
@@ -149,7 +159,8 @@ settle and casetool show number them.
 
   --event N          the event, from 0
   --hour H           the hour, 0 to 23
-  --correction FILE  the correction of the case, as a file of casetool write --correction
+  --correction FILE  the correction of the case, as a file of casetool write --correction; it may
+                     not be empty
   -o, --output FILE  writes to a file instead of standard output
   -h, --help         this help
 ";

@@ -42,6 +42,16 @@ pub fn spoken(mask: u32) -> String {
     }
 }
 
+/// A mask with the word before it: `hour 0`, `hours 5–7`.
+pub fn named(mask: u32) -> String {
+    let word = if mask.count_ones() == 1 {
+        "hour"
+    } else {
+        "hours"
+    };
+    format!("{word} {}", spoken(mask))
+}
+
 /// Reads a mask in the text form, `none` for no hours.
 pub fn read_mask(word: &str) -> Result<u32, String> {
     match word {

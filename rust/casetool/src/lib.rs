@@ -9,15 +9,20 @@ pub mod blocks;
 pub mod calendar;
 mod commands;
 pub mod event;
+pub mod field;
 pub mod fields;
 pub mod files;
 pub mod help;
 pub mod hours;
 pub mod layout;
+pub mod needs;
+mod notes;
+pub mod output;
 pub mod place;
 pub mod refusal;
 pub mod row;
 pub mod text_line;
+mod text_needs;
 pub mod text_show;
 pub mod text_write;
 pub mod words;
@@ -27,46 +32,62 @@ use std::ffi::OsString;
 use std::io::{Read, Write};
 
 use arguments::{Misuse, Request};
-use commands::Failure;
+use commands::{Done, Failure};
 
 /// Runs casetool on its arguments without the name of the program; the exit status: 0 done, 1
-/// refused, unreadable or no text of a case, 2 misuse.
+/// refused, unreadable or no text of a case, 2 misuse. A command that fails leaves no old file where
+/// its answer was to go.
 pub fn run(
     arguments: &[OsString],
     input: &mut dyn Read,
     output: &mut dyn Write,
     errors: &mut dyn Write,
 ) -> u8 {
-    let request = match arguments::read(arguments) {
-        Ok(request) => request,
-        Err(misuse) => return say_misuse(errors, misuse),
-    };
-    let result = match request {
-        Request::Help(topic) => files::write(topic.text().as_bytes(), None, output).map(|()| true),
-        Request::Version => {
-            let version = format!("casetool {}\n", env!("CARGO_PKG_VERSION"));
-            files::write(version.as_bytes(), None, output).map(|()| true)
+    let (problem, status) = match answered(arguments, input, output) {
+        Ok(done) => {
+            for warning in &done.warnings {
+                say(errors, &format!("warning: {warning}"));
+            }
+            return u8::from(!done.accepted);
         }
-        Request::Run(topic, given) => match commands::run(topic, &given, input, output) {
-            Ok(accepted) => Ok(accepted),
-            Err(Failure::Message(message)) => Err(message),
-            Err(Failure::Misuse(problem)) => return say_misuse(errors, Misuse { problem, topic }),
-        },
+        Err(failed) => failed,
     };
-    match result {
-        Ok(accepted) => u8::from(!accepted),
-        Err(message) => {
-            say(errors, &message);
-            1
+    say(errors, &problem);
+    let (outputs, others) = arguments::outputs(arguments);
+    for path in outputs {
+        if others.iter().any(|source| files::is(source, &path)) {
+            continue;
+        }
+        if let Some(renamed) = output::set_aside(&path) {
+            say(errors, &renamed);
         }
     }
+    status
 }
 
-/// Says what was misused and where help is; the exit status.
-fn say_misuse(errors: &mut dyn Write, misuse: Misuse) -> u8 {
-    let help = misuse.topic.help_command();
-    say(errors, &format!("{}; see {help}", misuse.problem));
-    2
+/// Does what is asked for; otherwise a message and the exit status.
+fn answered(
+    arguments: &[OsString],
+    input: &mut dyn Read,
+    output: &mut dyn Write,
+) -> Result<Done, (String, u8)> {
+    let misused =
+        |Misuse { problem, topic }| (format!("{problem}; see {}", topic.help_command()), 2);
+    let mut text = |text: &str| {
+        output::write(text.as_bytes(), None, output)
+            .map(|()| Done::default())
+            .map_err(|message| (message, 1))
+    };
+    match arguments::read(arguments).map_err(misused)? {
+        Request::Help(topic) => text(topic.text()),
+        Request::Version => text(&format!("casetool {}\n", env!("CARGO_PKG_VERSION"))),
+        Request::Run(topic, given) => {
+            commands::run(topic, &given, input, output).map_err(|failure| match failure {
+                Failure::Message(message) => (message, 1),
+                Failure::Misuse(problem) => misused(Misuse { problem, topic }),
+            })
+        }
+    }
 }
 
 /// Puts a message on standard error; there is nobody left to tell where that fails.

@@ -7,7 +7,7 @@ mod header;
 mod records;
 
 use crate::amounts::Measure;
-use crate::fields::{Field, Form, Limit};
+use crate::field::{Field, Form, Limit};
 use crate::layout::{Section, Sections};
 
 /// What a place is in.

@@ -3,8 +3,10 @@
 use std::fmt::Write;
 
 use crate::calendar;
-use crate::fields::{self, Field};
-use crate::layout::{HOURS, Section, Sections, cell, u32_at};
+use crate::event::Event;
+use crate::field::Field;
+use crate::fields;
+use crate::layout::{HOURS, Section, Sections, cell, u16_at, u32_at};
 
 /// The text of a case.
 pub fn case_text(sections: &Sections<'_>) -> String {
@@ -16,10 +18,10 @@ pub fn case_text(sections: &Sections<'_>) -> String {
         }
         for (place, record) in sections.records(section).enumerate() {
             match section {
-                Section::Units => line(&mut text, "", &fields::UNIT, record),
+                Section::Units => unit(&mut text, sections, record),
                 Section::References => reference(&mut text, record),
                 Section::Past => past(&mut text, record),
-                Section::Events => event(&mut text, place, record),
+                Section::Events => event(&mut text, sections, place, record),
             }
         }
     }
@@ -65,6 +67,21 @@ fn put(text: &mut String, words: std::fmt::Arguments<'_>) {
     text.write_fmt(words).expect("a String takes every text");
 }
 
+/// A unit, with the keys that its events read.
+fn unit(text: &mut String, sections: &Sections<'_>, record: &[u8]) {
+    let (number, area) = (u16_at(record, 0), record[4]);
+    let read: Vec<&str> = sections
+        .records(Section::Events)
+        .map(Event::of)
+        .filter(|event| event.unit == number)
+        .flat_map(|event| event.shape().keys_of_unit(area))
+        .copied()
+        .collect();
+    let fields =
+        fields::UNIT.map(|field| field.needed_where(field.needed || read.contains(&field.key)));
+    line(text, "", &fields, record);
+}
+
 fn reference(text: &mut String, record: &[u8]) {
     line(text, "reference", &fields::reference(record[2]), record);
 }
@@ -77,25 +94,41 @@ fn past(text: &mut String, record: &[u8]) {
     );
 }
 
-/// An event with its number and date in a comment, then its hours: neighbours that are alike on
-/// one line, and none where all of a cell is 0.
-fn event(text: &mut String, place: usize, record: &[u8]) {
-    let (kind, component) = (record[0], record[6]);
-    words(text, "event", &fields::event(kind, 0), record);
-    let date = calendar::date(u32_at(record, 8));
+/// An event with its number and date in a comment, then its hours.
+fn event(text: &mut String, sections: &Sections<'_>, place: usize, record: &[u8]) {
+    let event = Event::of(record);
+    let units = sections.records(Section::Units);
+    let areas: Vec<u8> = units
+        .filter(|unit| u16_at(unit, 0) == event.unit)
+        .map(|unit| unit[4])
+        .collect();
+    let fields = fields::event(event.shape()).map(|field| {
+        let asked = |&area: &u8| event.shape().area_needs(area, &field);
+        field.needed_where(field.needed || areas.iter().any(asked))
+    });
+    words(text, "event", &fields, record);
+    let date = calendar::date(event.day);
     put(text, format_args!("  # event {place}, {date}\n"));
+    hours(text, &event);
+}
+
+/// The hours of an event: neighbours that are alike on one line, and none where all of a cell is 0,
+/// unless the event needs every hour.
+fn hours(text: &mut String, event: &Event<'_>) {
+    let record = event.record;
+    let fields = fields::cell(event.kind, event.component);
     let mut hour = 0;
     while hour < HOURS {
         let same = cell(record, hour);
         let alike = (hour..HOURS).take_while(|&next| cell(record, next) == same);
         let last = hour + alike.count() - 1;
-        if same.iter().any(|&byte| byte != 0) {
+        if event.shape().needs_every_hour() || same.iter().any(|&byte| byte != 0) {
             let start = if hour == last {
                 format!("  hour {hour}")
             } else {
                 format!("  hours {hour}-{last}")
             };
-            line(text, &start, &fields::cell(kind, component), same);
+            line(text, &start, &fields, same);
         }
         hour = last + 1;
     }

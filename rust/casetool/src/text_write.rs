@@ -1,51 +1,78 @@
 //! From text to the bytes of a case file or of a correction.
 
-use crate::fields::{self, Field};
+use crate::calendar;
+use crate::field::Field;
+use crate::fields;
 use crate::hours;
-use crate::layout::{self, CELL_BYTES, CELLS_AT, HEADER_BYTES, HOURS, LARGEST_FILE, Section};
+use crate::layout::{
+    self, CELL_BYTES, CELLS_AT, HEADER_BYTES, HOURS, LARGEST_FILE, Section, u16_at, u32_at,
+};
+use crate::needs::Shape;
 use crate::text_line::{Pair, TextError, Word, pairs, text_of, words};
+use crate::text_needs::{EventLine, UnitLine, units_and_events};
+
+/// What a text gives.
+#[derive(Clone, Debug, PartialEq, Eq)]
+pub struct Written {
+    /// The case file or the correction.
+    pub bytes: Vec<u8>,
+    /// What looks wrong in it, and is written all the same.
+    pub warnings: Vec<TextError>,
+}
 
 /// The case file of a text.
-pub fn case_file(text: &[u8]) -> Result<Vec<u8>, TextError> {
-    let sections = records(text, Writer::default())?;
-    Ok(layout::file_of(&sections))
+pub fn case_file(text: &[u8]) -> Result<Written, TextError> {
+    let writer = written(text, Writer::default())?;
+    units_and_events(&writer.units, &writer.events)?;
+    Ok(Written {
+        bytes: layout::file_of(&writer.sections),
+        warnings: writer.warnings,
+    })
 }
 
 /// The correction of a text: its references.
-pub fn correction(text: &[u8]) -> Result<Vec<u8>, TextError> {
+pub fn correction(text: &[u8]) -> Result<Written, TextError> {
     let writer = Writer {
         references_only: true,
         ..Writer::default()
     };
-    let [_, references, _, _] = records(text, writer)?;
-    Ok(references)
+    let Writer {
+        sections: [_, bytes, _, _],
+        warnings,
+        ..
+    } = written(text, writer)?;
+    Ok(Written { bytes, warnings })
 }
 
-/// The bytes of the four sections.
-fn records(text: &[u8], mut writer: Writer) -> Result<[Vec<u8>; 4], TextError> {
+/// A writer that has read a text.
+fn written<'a>(text: &'a [u8], mut writer: Writer<'a>) -> Result<Writer<'a>, TextError> {
     for (place, line) in text_of(text)?.split('\n').enumerate() {
         writer.line(&words(place + 1, line))?;
     }
-    Ok(writer.sections)
+    writer.close_event()?;
+    Ok(writer)
 }
 
-/// The sections as far as they are written.
+/// The sections as far as they are written, and the lines that they came from.
 #[derive(Default)]
-struct Writer {
+struct Writer<'a> {
     sections: [Vec<u8>; 4],
     references_only: bool,
-    event: Option<OpenEvent>,
+    event: Option<OpenEvent<'a>>,
+    units: Vec<UnitLine<'a>>,
+    events: Vec<EventLine<'a>>,
+    warnings: Vec<TextError>,
 }
 
 /// The event to which the next hours belong.
-struct OpenEvent {
-    kind: u8,
-    component: u8,
+struct OpenEvent<'a> {
+    first: Word<'a>,
+    shape: Shape,
     written: u32,
 }
 
-impl Writer {
-    fn line(&mut self, words: &[Word<'_>]) -> Result<(), TextError> {
+impl<'a> Writer<'a> {
+    fn line(&mut self, words: &[Word<'a>]) -> Result<(), TextError> {
         let Some(&first) = words.first() else {
             return Ok(());
         };
@@ -55,44 +82,95 @@ impl Writer {
         if matches!(first.text, "hour" | "hours") {
             return self.hours(first, &words[1..]);
         }
-        self.event = None;
+        self.close_event()?;
         match first.text {
-            "unit" => {
-                let pairs = pairs(words)?;
-                self.add(
-                    Section::Units,
-                    first,
-                    &record(first, &pairs, &fields::UNIT)?,
-                )
-            }
+            "unit" => self.unit(first, &pairs(words)?),
             "reference" => self.reference(first, &pairs(&words[1..])?),
-            "past" => {
-                let pairs = pairs(&words[1..])?;
-                self.add(Section::Past, first, &record(first, &pairs, &fields::PAST)?)
-            }
+            "past" => self.past(first, &pairs(&words[1..])?),
             "event" => self.event(first, &pairs(&words[1..])?),
             _ => Err(first.wrong("expected unit, reference, past, event, hour or hours")),
         }
     }
 
-    fn reference(&mut self, first: Word<'_>, pairs: &[Pair<'_>]) -> Result<(), TextError> {
+    fn unit(&mut self, first: Word<'a>, pairs: &[Pair<'a>]) -> Result<(), TextError> {
+        let record = record(first, pairs, &fields::UNIT)?;
+        self.units.push(UnitLine {
+            number: u16_at(&record, 0),
+            area: record[4],
+            keys: pairs.iter().map(|pair| pair.key.text).collect(),
+            last: last_word(first, pairs),
+        });
+        self.add(Section::Units, first, &record)
+    }
+
+    fn reference(&mut self, first: Word<'a>, pairs: &[Pair<'a>]) -> Result<(), TextError> {
         let component = early_value(first, pairs, &fields::COMPONENT_OF_REFERENCE)?;
         let record = record(first, pairs, &fields::reference(component))?;
         self.add(Section::References, first, &record)
     }
 
-    fn event(&mut self, first: Word<'_>, pairs: &[Pair<'_>]) -> Result<(), TextError> {
+    fn past(&mut self, first: Word<'a>, pairs: &[Pair<'a>]) -> Result<(), TextError> {
+        let record = record(first, pairs, &fields::PAST)?;
+        self.look_at_period(pairs, &record);
+        self.add(Section::Past, first, &record)
+    }
+
+    fn event(&mut self, first: Word<'a>, pairs: &[Pair<'a>]) -> Result<(), TextError> {
         let kind = early_value(first, pairs, &fields::KIND)?;
-        let component = early_value(first, pairs, &fields::component_of_event(kind))?;
-        let mut event = record(first, pairs, &fields::event(kind, 0))?;
+        let shape = Shape {
+            kind,
+            component: early_value(first, pairs, &fields::component_of_event(kind))?,
+            // Where it is missing, that is said in its turn.
+            market: early_value(first, pairs, &fields::MARKET.needed_where(false))?,
+        };
+        let mut event = record(first, pairs, &fields::event(shape))?;
+        self.look_at_period(pairs, &event);
+        self.events.push(EventLine {
+            shape,
+            unit: u16_at(&event, 2),
+            keys: pairs.iter().map(|pair| pair.key.text).collect(),
+            last: last_word(first, pairs),
+        });
         event.resize(Section::Events.record_bytes(), 0);
         self.add(Section::Events, first, &event)?;
         self.event = Some(OpenEvent {
-            kind,
-            component,
+            first,
+            shape,
             written: 0,
         });
         Ok(())
+    }
+
+    /// Warns of a period that is not its day's, in an event or a past entry: both have them at the
+    /// same offsets.
+    fn look_at_period(&mut self, pairs: &[Pair<'a>], record: &[u8]) {
+        let (period, day) = (u16_at(record, 4), u32_at(record, 8));
+        let of_day = calendar::period(day);
+        if of_day == u32::from(period) {
+            return;
+        }
+        let pair = pairs.iter().find(|pair| pair.key.text == "period");
+        self.warnings.extend(pair.map(|pair| {
+            let date = calendar::date(day);
+            pair.value.wrong(format!(
+                "day {day} ({date}) is in capability period {of_day}; {period} is written"
+            ))
+        }));
+    }
+
+    /// Ends the event to which hours may be added.
+    fn close_event(&mut self) -> Result<(), TextError> {
+        let Some(event) = self.event.take() else {
+            return Ok(());
+        };
+        let left_out = !event.written & ((1 << HOURS) - 1);
+        if left_out == 0 || !event.shape.needs_every_hour() {
+            return Ok(());
+        }
+        Err(event.first.wrong(format!(
+            "expected a bid in every hour, since one left out would be 0 and flagged: hours {} are missing",
+            hours::text(left_out)
+        )))
     }
 
     /// Adds a record to its section, if there is room for it.
@@ -109,7 +187,7 @@ impl Writer {
         Ok(())
     }
 
-    fn hours(&mut self, first: Word<'_>, words: &[Word<'_>]) -> Result<(), TextError> {
+    fn hours(&mut self, first: Word<'a>, words: &[Word<'a>]) -> Result<(), TextError> {
         let Some(event) = &mut self.event else {
             return Err(first.wrong("hours follow the line of their event"));
         };
@@ -122,8 +200,8 @@ impl Writer {
             return Err(which.wrong(format!("this event has hour {twice} already")));
         }
         event.written |= mask;
-        let fields = fields::cell(event.kind, event.component);
-        let cell = record(first, &pairs(&words[1..])?, &fields)?;
+        let fields = fields::cell(event.shape.kind, event.shape.component);
+        let cell = record(which, &pairs(&words[1..])?, &fields)?;
         let events = &mut self.sections[Section::Events as usize];
         let cells = events.len() - Section::Events.record_bytes() + CELLS_AT;
         for hour in (0..HOURS).filter(|hour| mask >> hour & 1 == 1) {
@@ -143,14 +221,17 @@ fn early_value(first: Word<'_>, pairs: &[Pair<'_>], field: &Field) -> Result<u8,
     }
 }
 
-/// That a key is missing, at the end of the line.
-fn missing(first: Word<'_>, pairs: &[Pair<'_>], field: &Field) -> TextError {
-    let last = pairs
+/// The last word of a line.
+fn last_word<'a>(first: Word<'a>, pairs: &[Pair<'a>]) -> Word<'a> {
+    pairs
         .last()
-        .map_or(first, |pair| pair.measure.unwrap_or(pair.value));
-    last.missing(format!("expected the key {}", field.key))
+        .map_or(first, |pair| pair.measure.unwrap_or(pair.value))
 }
 
+/// That a key is missing, at the end of the line.
+fn missing(first: Word<'_>, pairs: &[Pair<'_>], field: &Field) -> TextError {
+    last_word(first, pairs).missing(format!("expected the key {}", field.key))
+}
 /// The record that has these fields, with 0 in those that are left out.
 fn record(first: Word<'_>, pairs: &[Pair<'_>], fields: &[Field]) -> Result<Vec<u8>, TextError> {
     let length = fields.iter().map(|field| field.at + field.bytes).max();

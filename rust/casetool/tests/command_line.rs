@@ -2,7 +2,6 @@
 
 mod support;
 
-use std::fs::File;
 use std::io::{self, ErrorKind, Read, Write};
 use std::process::{Command, Stdio};
 
@@ -105,7 +104,8 @@ fn misuse() {
 #[test]
 fn misuse_of_working() {
     let case = written(
-        "unit 12 group 7 capability 1 MW\nevent day 1 kind fuel market day-ahead unit 12 period 0",
+        "unit 12 group 7 capability 1 MW\n\
+         event day 1 kind fuel market real-time unit 12 period 0 inaccurate-hours none guarantee-change $0",
     );
     for (arguments, message) in [
         (&[][..], "--event is missing"),
@@ -141,7 +141,8 @@ fn misuse_of_working() {
         );
     }
     let unit = "unit 12 group 7 capability 1 MW\n";
-    let event = |day| format!("event day {day} kind fuel market day-ahead unit 12 period 0\n");
+    let event =
+        |day| format!("event day {day} kind withheld market day-ahead unit 12 period 0 impact 0\n");
     for (text, events) in [
         (unit.to_string(), "no events"),
         (
@@ -172,7 +173,10 @@ fn files_that_cannot_be_read_or_written() {
         let ran = casetool(&[name, folder.to_str().expect("text")], b"");
         assert_eq!(ran.status, 1);
     }
-    let ran = casetool(&["write", "-o", "/no/such/folder/case"], b"");
+    let ran = casetool(
+        &["write", "--allow-empty", "-o", "/no/such/folder/case"],
+        b"",
+    );
     assert_eq!(ran.status, 1);
     assert!(
         ran.errors
@@ -291,47 +295,11 @@ fn a_text_given_as_a_case_or_a_correction() {
         )
     );
     // Bytes that are no text get no hint.
-    for (file, correction) in [
-        (&[][..], &[][..]),
-        (&[1; 35], &[]),
-        (&[0xC3; 40], &[]),
-        (&case, &[0; 7]),
-    ] {
-        let path = file_with("command-line.no-text", correction);
+    let path = file_with("command-line.no-text", &[0; 7]);
+    for file in [&[][..], &[1; 35], &[0xC3; 40], &case] {
         let ran = casetool(&["check", "--correction", &path], file);
         assert_eq!((ran.status, ran.text().contains("looks like")), (1, false));
     }
-}
-
-#[test]
-fn an_output_that_would_overwrite_what_is_read() {
-    let text = "unit 12 group 7 capability 1 MW\n";
-    let folder = env!("CARGO_TARGET_TMPDIR");
-    let path = file_with("command-line.same", text.as_bytes());
-    let around = format!("{folder}/../tmp/./command-line.same");
-    for (source, output) in [(&path, &path), (&path, &around), (&around, &path)] {
-        let ran = casetool(&["write", source, "-o", output], b"");
-        assert_eq!((ran.status, ran.output.len()), (2, 0));
-        let problem = format!("-o {output}: that file is read, and would be overwritten");
-        assert_eq!(
-            ran.errors,
-            format!("casetool: {problem}; see casetool write --help\n")
-        );
-    }
-    let case = file_with("command-line.same-case", &written(text));
-    let ran = casetool(&["settle", &case, "--correction", &path, "-o", &path], b"");
-    assert_eq!(ran.status, 2);
-    assert_eq!(std::fs::read(&path).expect("the text"), text.as_bytes());
-    let ran = Command::new(env!("CARGO_BIN_EXE_casetool"))
-        .args(["write", "-o", &path])
-        .stdin(File::open(&path).expect("the text"))
-        .output()
-        .expect("the program casetool");
-    assert_eq!(ran.status.code(), Some(2));
-    assert_eq!(std::fs::read(&path).expect("the text"), text.as_bytes());
-    // What is no file can be both.
-    let ran = casetool(&["write", "/dev/null", "-o", "/dev/null"], b"");
-    assert_eq!((ran.status, ran.errors.as_str()), (0, ""));
 }
 
 /// An output that takes some bytes and then fails.
@@ -389,7 +357,7 @@ fn program(arguments: &[&str], input: &[u8]) -> (i32, Vec<u8>, String) {
 #[test]
 fn the_program_itself() {
     let text = b"unit 12 group 7 capability 500.0 MW\n";
-    let (status, case, errors) = program(&["write"], text);
+    let (status, case, errors) = program(&["write", "--allow-empty"], text);
     assert_eq!((status, case.len(), errors.as_str()), (0, 60, ""));
     let (status, answer, errors) = program(&["check", "-"], &case);
     assert_eq!(

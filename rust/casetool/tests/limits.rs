@@ -4,7 +4,8 @@ mod support;
 
 use support::{Ran, casetool, file_with, written};
 
-const UNITS: &str = "unit 12 group 7 capability 500.0 MW\nunit 13 group 7 capability 1500.0 MW\n";
+const UNITS: &str = "unit 12 group 7 capability 500.0 MW response-rate 10.0 MW/min\n\
+                     unit 13 group 7 capability 1500.0 MW\n";
 
 fn text_of(ran: &Ran) -> &str {
     assert_eq!((ran.status, ran.errors.as_str()), (1, ""));
@@ -29,12 +30,12 @@ fn accepted() {
     for (text, answer) in [
         ("", "accepted, 0 events\n"),
         (
-            "event day 1 kind fuel market day-ahead unit 12 period 0\n",
+            "event day 1 kind withheld market day-ahead unit 12 period 0 impact 1\n",
             "accepted, 1 event\n",
         ),
         (
-            "event day 1 kind fuel market day-ahead unit 12 period 0\n\
-             event day 1 kind fuel market day-ahead unit 13 period 0\n",
+            "event day 1 kind withheld market day-ahead unit 12 period 0 impact 1\n\
+             event day 1 kind withheld market day-ahead unit 13 period 0 impact 0\n",
             "accepted, 2 events\n",
         ),
     ] {
@@ -204,23 +205,23 @@ fn refused_correction(correction: &[u8], place: &str) {
 fn number_9() {
     for (text, place) in [
         (
-            "kind dispatch market day-ahead period 1 day 2",
+            "kind dispatch market day-ahead period 0 day 2",
             "past, record 1 (group 7, dispatch, Day-Ahead): kind is 2 (dispatch); expected 1 (withheld) or 3 (fuel)",
         ),
         (
-            "kind fuel market 2 period 1 day 2",
+            "kind fuel market 2 period 0 day 2",
             "past, record 1 (group 7, fuel, market 2): market is 2; expected 0 (day-ahead) or 1 (real-time)",
         ),
         (
-            "kind fuel market day-ahead period 1 day 2 spare-7 1",
+            "kind fuel market day-ahead period 0 day 2 spare-7 1",
             "past, record 1 (group 7, fuel, Day-Ahead): spare-7 is 1; expected 0",
         ),
         (
-            "kind fuel market day-ahead period 1 day 1000001",
+            "kind fuel market day-ahead period 5476 day 1000001",
             "past, record 1 (group 7, fuel, Day-Ahead): day is 1,000,001; expected 0 to 1,000,000",
         ),
     ] {
-        let good = "past group 7 kind fuel market day-ahead period 1 day 1000000";
+        let good = "past group 7 kind fuel market day-ahead period 5476 day 1000000";
         refused(9, &format!("{good}\npast group 7 {text}"), place);
     }
 }
@@ -233,19 +234,19 @@ fn number_10_before_the_hours() {
             "kind 5, Day-Ahead, unit 12): kind is 5; expected 1 (withheld) to 4 (bids)",
         ),
         (
-            "kind withheld market 2",
+            "kind withheld market 2 impact 0",
             "withheld, market 2, unit 12): market is 2; expected 0 (day-ahead) or 1 (real-time)",
         ),
         (
-            "kind dispatch market day-ahead",
+            "kind dispatch market day-ahead impact 0",
             "dispatch, Day-Ahead, unit 12): market is 0 (day-ahead); expected 1 (real-time)",
         ),
         (
-            "kind fuel market day-ahead component maximum-parameter",
+            "kind fuel market day-ahead component maximum-parameter inaccurate-hours none guarantee-change 0 tcc-change 0",
             "fuel, Day-Ahead, unit 12, maximum parameter): component is 8 (maximum-parameter); expected 0 (energy)",
         ),
         (
-            "kind bids market day-ahead component 9",
+            "kind bids market day-ahead component 9 impact-hours none",
             "bids, Day-Ahead, unit 12, component 9): component is 9; expected 0 (energy) to 8 (maximum-parameter)",
         ),
         (
@@ -253,23 +254,23 @@ fn number_10_before_the_hours() {
             "withheld, Day-Ahead, unit 12): impact is 2; expected 0 or 1",
         ),
         (
-            "kind fuel market day-ahead impact 1",
+            "kind fuel market day-ahead impact 1 inaccurate-hours none guarantee-change 0 tcc-change 0",
             "fuel, Day-Ahead, unit 12): impact is 1; expected 0",
         ),
         (
-            "kind withheld market day-ahead shadow-price-hours 0,24",
+            "kind withheld market day-ahead impact 0 shadow-price-hours 0,24",
             "withheld, Day-Ahead, unit 12): P (shadow-price-hours) is 16,777,217 (0, 24); bits 24 to 31 of the mask have to be 0",
         ),
         (
-            "kind withheld market day-ahead Q 5 R 6",
+            "kind withheld market day-ahead impact 0 Q 5 R 6",
             "withheld, Day-Ahead, unit 12): Q is 5; expected 0",
         ),
         (
-            "kind fuel market day-ahead guarantee-change -$10000000.01",
+            "kind fuel market day-ahead inaccurate-hours none guarantee-change -$10000000.01 tcc-change 0",
             "fuel, Day-Ahead, unit 12): Q (guarantee-change) is -1,000,000,001 (-$10,000,000.01); expected -1,000,000,000 (-$10,000,000.00) to 1,000,000,000 ($10,000,000.00)",
         ),
         (
-            "kind fuel market real-time tcc-change $0.01",
+            "kind fuel market real-time inaccurate-hours none guarantee-change 0 tcc-change $0.01",
             "fuel, Real-Time, unit 12): R (tcc-change) is 1 ($0.01); expected 0 ($0.00)",
         ),
         (
@@ -277,7 +278,7 @@ fn number_10_before_the_hours() {
             "bids, Day-Ahead, unit 12, energy): Q (impact-hours) is 2,147,483,648 (31); bits 24 to 31 of the mask have to be 0",
         ),
         (
-            "kind bids market day-ahead component energy minimum-run-hours 25",
+            "kind bids market day-ahead component energy impact-hours none minimum-run-hours 25",
             "bids, Day-Ahead, unit 12, energy): R (minimum-run-hours) is 25; expected 0 to 24",
         ),
     ] {
@@ -289,8 +290,8 @@ fn number_10_before_the_hours() {
     }
     refused(
         10,
-        "event day 1000001 kind fuel market day-ahead unit 12 period 44",
-        "event 0 (day 1000001, fuel, Day-Ahead, unit 12): day is 1,000,001; expected 0 to 1,000,000",
+        "event day 1000001 kind withheld market day-ahead unit 12 period 5476 impact 0",
+        "event 0 (day 1000001, withheld, Day-Ahead, unit 12): day is 1,000,001; expected 0 to 1,000,000",
     );
 }
 
@@ -298,43 +299,43 @@ fn number_10_before_the_hours() {
 fn number_10_in_an_hour() {
     for (event, hour, place) in [
         (
-            "kind withheld market day-ahead",
-            "price $10000.01",
+            "kind withheld market day-ahead impact 0",
+            "withheld 0 price $10000.01",
             "withheld, Day-Ahead, unit 12), hour 7: b (price) is 1,000,001 ($10,000.01); expected -1,000,000 (-$10,000.00) to 1,000,000 ($10,000.00)",
         ),
         (
-            "kind withheld market day-ahead",
-            "m 1",
+            "kind withheld market day-ahead impact 0",
+            "withheld 0 price 0 m 1",
             "withheld, Day-Ahead, unit 12), hour 7: m is 1; expected 0",
         ),
         (
-            "kind dispatch market real-time",
-            "added-revenue $1000000.01",
+            "kind dispatch market real-time impact 0",
+            "undelivered 0 added-revenue $1000000.01",
             "dispatch, Real-Time, unit 12), hour 7: b (added-revenue) is 100,000,001 ($1,000,000.01); expected 0 ($0.00) to 100,000,000 ($1,000,000.00)",
         ),
         (
-            "kind fuel market day-ahead",
-            "energy 5000.1 MWh",
-            "fuel, Day-Ahead, unit 12), hour 7: a (energy) is 50,001 (5,000.1 MWh); expected 0 (0.0 MWh) to 50,000 (5,000.0 MWh)",
+            "kind fuel market real-time inaccurate-hours none guarantee-change 0",
+            "energy 5000.1 MWh price-change 0",
+            "fuel, Real-Time, unit 12), hour 7: a (energy) is 50,001 (5,000.1 MWh); expected 0 (0.0 MWh) to 50,000 (5,000.0 MWh)",
         ),
         (
-            "kind bids market day-ahead component energy",
-            "bid -$10000.01",
+            "kind bids market day-ahead component energy impact-hours none",
+            "bid -$10000.01 price 0 quantity 0",
             "bids, Day-Ahead, unit 12, energy), hour 7: a (bid) is -1,000,001 (-$10,000.01); expected -1,000,000 (-$10,000.00) to 1,000,000 ($10,000.00)",
         ),
         (
-            "kind bids market day-ahead component reserve-or-regulation",
+            "kind bids market day-ahead component reserve-or-regulation impact-hours none",
             "bid -$0.01",
             "bids, Day-Ahead, unit 12, reserve or regulation), hour 7: a (bid) is -1 (-$0.01); expected 0 ($0.00) to 1,000,000 ($10,000.00)",
         ),
         (
-            "kind bids market day-ahead component minimum-parameter",
+            "kind bids market day-ahead component minimum-parameter impact-hours none",
             "bid 1000000001",
             "bids, Day-Ahead, unit 12, minimum parameter), hour 7: a (bid) is 1,000,000,001; expected 0 to 1,000,000,000",
         ),
         (
-            "kind bids market day-ahead component energy",
-            "quantity 5000.1 MW",
+            "kind bids market day-ahead component energy impact-hours none",
+            "bid 0 price 0 quantity 5000.1 MW",
             "bids, Day-Ahead, unit 12, energy), hour 7: m (quantity) is 50,001 (5,000.1 MW); expected 0 (0.0 MW) to 50,000 (5,000.0 MW)",
         ),
     ] {
@@ -349,7 +350,9 @@ fn number_10_in_an_hour() {
 #[test]
 fn numbers_11_to_14() {
     let event = |unit: u16, rest: &str| {
-        format!("event day 8000 kind withheld market day-ahead unit {unit} period 44\n{rest}\n")
+        format!(
+            "event day 8000 kind withheld market day-ahead unit {unit} period 44 impact 0\n{rest}\n"
+        )
     };
     let rule = "events have to rise strictly by day, kind, market, unit, component";
     refused(
@@ -371,13 +374,14 @@ fn numbers_11_to_14() {
     );
     refused(
         13,
-        &(event(12, "hour 7 withheld 500.0 MW") + &event(13, "hour 8 withheld 1500.1")),
+        &(event(12, "hour 7 withheld 500.0 MW price 0")
+            + &event(13, "hour 8 withheld 1500.1 price 0")),
         "event 1 (day 8000, withheld, Day-Ahead, unit 13), hour 8: a (withheld) is 15,001 (1,500.1 MW); expected at most the capability, 15,000 (1,500.0 MW)",
     );
     refused(
         14,
         "reference unit 13 component energy value $1.00\n\
-         event day 8000 kind bids market day-ahead unit 12 period 44 component energy",
+         event day 8000 kind bids market day-ahead unit 12 period 44 component energy impact-hours none",
         "event 0 (day 8000, bids, Day-Ahead, unit 12, energy): the references have none for unit 12, component energy",
     );
 }
@@ -387,8 +391,8 @@ fn number_14_by_the_correction() {
     let case = written(&format!(
         "{UNITS}reference unit 12 component energy value $1.00\n\
          reference unit 12 component start-up-time value 1 minutes\n\
-         event day 8000 kind bids market day-ahead unit 12 period 44 component energy\n\
-         event day 8000 kind bids market day-ahead unit 12 period 44 component start-up-time"
+         event day 8000 kind bids market day-ahead unit 12 period 44 component energy impact-hours none\n\
+         event day 8000 kind bids market day-ahead unit 12 period 44 component start-up-time impact-hours none"
     ));
     let text = "reference unit 13 component energy value $1.00";
     let correction = casetool(&["write", "--correction"], text.as_bytes()).output;
@@ -404,7 +408,7 @@ fn number_14_by_the_correction() {
 #[test]
 fn number_15() {
     let file = written(&format!(
-        "{UNITS}event day 1 kind fuel market day-ahead unit 12 period 0"
+        "{UNITS}event day 1 kind withheld market day-ahead unit 12 period 0 impact 0"
     ));
     let refused = attachment_h::check(&file, &[], 127).expect_err("127 bytes are no row");
     assert_eq!(

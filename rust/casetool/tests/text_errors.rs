@@ -7,11 +7,11 @@ use cases::Random;
 use cases::generator::{Size, Wanted, case, random_bytes};
 use casetool::layout::Sections;
 use casetool::text_show::case_text;
-use casetool::text_write::{case_file, correction};
+use casetool::text_write::{Written, case_file, correction};
 use support::casetool;
 
 const UNIT: &str = "unit 12 group 7 capability 500.0 MW";
-const EVENT: &str = "event day 8000 kind bids market day-ahead unit 12 period 44 component energy";
+const EVENT: &str = "event day 8000 kind bids market day-ahead unit 12 period 44 component energy impact-hours none";
 
 /// That a text is turned away with this message.
 fn wrong(text: &str, message: &str) {
@@ -183,7 +183,7 @@ fn hours() {
         wrong(&format!("{UNIT}\n{EVENT}\n{text}"), &format!("line 3, {message}"));
     }
     wrong(
-        &format!("{EVENT}\nhours 0-5 bid 1\nhours 4-6 price 1"),
+        &format!("{EVENT}\nhours 0-5 bid 1 price 1 quantity 1\nhours 4-6 price 1"),
         "line 3, column 7, '4-6': this event has hour 4-5 already",
     );
     wrong(
@@ -191,7 +191,7 @@ fn hours() {
         "line 3, column 1, 'hour': hours follow the line of their event",
     );
     let masks = "expected hours from 0 to 31, as in 0,5-7, or none for no hours";
-    let event = format!("{EVENT} impact-hours 32");
+    let event = EVENT.replace("none", "32");
     wrong(
         &event,
         &format!("line 1, column {}, '32': {masks}", event.len() - 1),
@@ -299,9 +299,10 @@ fn noise_never_panics() {
     let mut random = Random::new(721);
     let (mut good, mut bad) = (0, 0);
     let mut seen = |text: &[u8]| match case_file(text) {
-        Ok(file) => {
+        Ok(Written { bytes: file, .. }) => {
             let sections = Sections::of(&file).expect("a file of sections");
-            assert_eq!(case_file(case_text(&sections).as_bytes()), Ok(file.clone()));
+            let again = case_file(case_text(&sections).as_bytes());
+            assert_eq!(again.map(|again| again.bytes).as_ref(), Ok(&file));
             good += 1;
         }
         Err(error) => {

@@ -28,12 +28,13 @@ fn works(text: &str, hour: usize, expected: &str) {
     assert_eq!(rest.join("\n"), expected);
 }
 
-const WITHHELD: &str = "event day 8000 kind withheld market day-ahead unit 12 period 44 impact 1";
+const WITHHELD: &str =
+    "event day 8000 kind withheld market day-ahead unit 12 period 44 impact 1 shadow-price-hours";
 
 #[test]
 fn withheld() {
     works(
-        &format!("{WITHHELD}\nhour 0 withheld 50.1 MW price $40.00"),
+        &format!("{WITHHELD} none\nhour 0 withheld 50.1 MW price $40.00"),
         0,
         "    a      501 (50.1 MW), withheld
     S      501 (50.1 MW), the group's a of this hour, added
@@ -48,7 +49,7 @@ fn withheld() {
 Step 1 failed: hour 0 is flagged",
     );
     works(
-        &format!("{WITHHELD}\nhour 0 withheld 50.0 MW price $40.00"),
+        &format!("{WITHHELD} none\nhour 0 withheld 50.0 MW price $40.00"),
         0,
         "    a      500 (50.0 MW), withheld
     S      500 (50.0 MW), the group's a of this hour, added
@@ -66,10 +67,11 @@ No step is exceeded: hour 0 is not flagged",
 
 #[test]
 fn withheld_by_the_group_and_in_a_tight_hour() {
-    let other =
-        "event day 8000 kind withheld market day-ahead unit 13 period 44 shadow-price-hours 9";
+    let other = "event day 8000 kind withheld market day-ahead unit 13 period 44 impact 0 shadow-price-hours 9";
     works(
-        &format!("{WITHHELD}\nhour 9 withheld 50 MW\n{other}\nhour 9 withheld 50.1 MW"),
+        &format!(
+            "{WITHHELD} none\nhour 9 withheld 50 MW price 0\n{other}\nhour 9 withheld 50.1 MW price 0"
+        ),
         9,
         "    a      501 (50.1 MW), withheld
     S      1,001 (100.1 MW), the group's a of this hour, added
@@ -84,7 +86,7 @@ fn withheld_by_the_group_and_in_a_tight_hour() {
 Step 3 failed: hour 9 is flagged",
     );
     works(
-        &format!("{WITHHELD} shadow-price-hours 9\nhour 9 withheld 50 MW"),
+        &format!("{WITHHELD} 9\nhour 9 withheld 50 MW price 0"),
         9,
         "    a      500 (50.0 MW), withheld
     S      500 (50.0 MW), the group's a of this hour, added
@@ -104,7 +106,7 @@ No step is exceeded: hour 9 is not flagged",
 fn dispatch_and_fuel() {
     works(
         "event day 8000 kind dispatch market real-time unit 12 period 44 impact 1 shadow-price-hours 23\n\
-         hour 23 undelivered 100.1 MW",
+         hour 23 undelivered 100.1 MW added-revenue 0",
         23,
         "    a      1,001 (100.1 MW), undelivered
     S      1,001 (100.1 MW), the group's a of this hour, added
@@ -114,9 +116,9 @@ fn dispatch_and_fuel() {
   3. S > 1,000: 1,001 > 1,000, exceeded
 Step 2 failed: hour 23 is flagged",
     );
-    let fuel = "event day 8000 kind fuel market day-ahead unit 12 period 44 inaccurate-hours 3\n\
-                event day 8000 kind fuel market day-ahead unit 13 period 44 inaccurate-hours 3,5\n\
-                hour 3 energy 1.5 MWh";
+    let fuel = "event day 8000 kind fuel market real-time unit 12 period 44 inaccurate-hours 3 guarantee-change 0\n\
+                event day 8000 kind fuel market real-time unit 13 period 44 inaccurate-hours 3,5 guarantee-change 0\n\
+                hour 3 energy 1.5 MWh price-change 0";
     works(
         fuel,
         3,
@@ -137,8 +139,9 @@ No step is exceeded: hour 4 is not flagged",
 fn bids(component: &str, reference: &str, market: &str, bid: &str) -> String {
     format!(
         "reference unit 12 component {component} value {reference}\n\
-         event day 8000 kind bids market {market} unit 12 period 44 component {component} shadow-price-hours 7\n\
-         hour 7 bid {bid}"
+         event day 8000 kind bids market {market} unit 12 period 44 component {component} \
+         shadow-price-hours 7 impact-hours none minimum-run-hours 0\n\
+         hours 0-23 bid {bid} price 0 quantity 0"
     )
 }
 
@@ -223,7 +226,7 @@ fn times() {
         }
         for (name, bid) in names.into_iter().zip([first, 180, 180]) {
             text += &format!(
-                "event day 8000 kind bids market day-ahead unit 12 period 44 component {name}\nhour 7 bid {bid} minutes\n"
+                "event day 8000 kind bids market day-ahead unit 12 period 44 component {name} shadow-price-hours none impact-hours none\nhour 7 bid {bid} minutes\n"
             );
         }
         text
@@ -291,18 +294,11 @@ fn generated_cases_beside_the_second_implementation() {
             let row = Row::read(&rows, event);
             let hour = random.below(24);
             let (event, hour_word) = (event.to_string(), hour.to_string());
-            let ran = casetool(
-                &[
-                    "working",
-                    "--event",
-                    &event,
-                    "--hour",
-                    &hour_word,
-                    "--correction",
-                    &path,
-                ],
-                &input.file,
-            );
+            let mut arguments = vec!["working", "--event", &event, "--hour", &hour_word];
+            if !input.correction.is_empty() {
+                arguments.extend(["--correction", &path]);
+            }
+            let ran = casetool(&arguments, &input.file);
             assert_eq!(ran.status, 0);
             let text = ran.text();
             let last = text.lines().last().expect("a verdict");

@@ -24,7 +24,7 @@ fn place(record: usize, at: usize, event: &Event<'_>, rest: &str) -> Place {
 /// Number 10: the first event with a field out of its limits, before its hours or in one.
 pub fn fields(sections: &Sections<'_>) -> Option<Place> {
     events(sections).find_map(|(number, event)| {
-        let head = fields::event(event.kind, event.market);
+        let head = fields::event(event.shape());
         match broken_field(&head, event.record) {
             Some(field) => {
                 let broken = format!(": {}", field_sentence(&field, event.record));

@@ -35,9 +35,9 @@ pub fn casetool(arguments: &[&str], mut input: &[u8]) -> Ran {
     }
 }
 
-/// The case file of a text that has nothing wrong.
+/// The case file of a text that has nothing wrong, with or without events.
 pub fn written(text: &str) -> Vec<u8> {
-    let ran = casetool(&["write"], text.as_bytes());
+    let ran = casetool(&["write", "--allow-empty"], text.as_bytes());
     assert_eq!((ran.status, ran.errors.as_str()), (0, ""));
     ran.output
 }

@@ -1,0 +1,101 @@
+//! What stands beside the figures of a settlement in words: why there is no multiplier or no penalty,
+//! and what a correction changed. All of it is told from the rows.
+
+use crate::amounts::dollars;
+use crate::event::Event;
+use crate::hours;
+use crate::layout::{HOURS, Section, Sections, cell, u16_at, u32_at};
+use crate::row::Row;
+
+/// The correction that a case was settled with.
+pub struct Correction {
+    /// Where it came from.
+    pub name: String,
+    /// How many references it has.
+    pub references: usize,
+    /// The rows of the same case settled without it.
+    pub rows_without: Vec<u8>,
+}
+
+impl Correction {
+    /// Which correction this is, or that there is none.
+    pub fn line(correction: Option<&Correction>) -> String {
+        match correction {
+            None => "Correction: none\n".to_string(),
+            Some(Correction {
+                name, references, ..
+            }) => format!(
+                "Correction: {name}, {}\n",
+                Section::References.count(*references)
+            ),
+        }
+    }
+
+    /// The mitigated hours in which the entered bid is in force and would not be without this
+    /// correction.
+    pub fn restored(&self, place: usize, event: &Event<'_>, row: &Row) -> u32 {
+        let without = Row::of(&self.rows_without, place);
+        (0..HOURS)
+            .filter(|&hour| row.mitigated >> hour & 1 == 1)
+            .filter(|&hour| {
+                let entered = u32_at(cell(event.record, hour), 0).cast_signed();
+                row.bids[hour] == entered && without.bids[hour] != entered
+            })
+            .fold(0, |mask, hour| mask | 1 << hour)
+    }
+}
+
+/// A multiplier from its halves, with the instances behind it, or why there is none.
+pub fn multiplier(sections: &Sections<'_>, rows: &[u8], event: &Event<'_>, row: &Row) -> String {
+    let half = if row.multiplier % 2 == 1 { ".5" } else { "" };
+    let without_impact = event.record[7] == 0;
+    let note = match (event.kind, row.multiplier) {
+        (1, 0) if row.flags == 0 => " (no instance: no hour is flagged)".to_string(),
+        (1, 0) => " (no instance: without impact)".to_string(),
+        (1, _) => format!(" (N3 {}, N2 {})", row.n3, row.n2),
+        (2, 0) if without_impact => " (without impact there is no penalty)".to_string(),
+        (2, 0) => " (no hour is flagged)".to_string(),
+        (3, 0) => match bearer(sections, rows, event) {
+            Some((place, unit)) => {
+                format!(" (this fuel day's penalty stands on event {place}, unit {unit})")
+            }
+            None => String::new(),
+        },
+        _ => String::new(),
+    };
+    format!("{}{half}{note}", row.multiplier / 2)
+}
+
+/// The event, with its unit, that bears the multiplier and the penalty of the fuel day of another: of
+/// the same day, market and group.
+fn bearer(sections: &Sections<'_>, rows: &[u8], of: &Event<'_>) -> Option<(usize, u16)> {
+    let group = |event: &Event<'_>| sections.unit(event.unit).map(|unit| u16_at(unit, 2));
+    let day = |event: &Event<'_>| (event.kind, event.day, event.market, group(event));
+    sections
+        .records(Section::Events)
+        .map(Event::of)
+        .enumerate()
+        .find(|(place, event)| day(event) == day(of) && Row::of(rows, *place).multiplier != 0)
+        .map(|(place, event)| (place, event.unit))
+}
+
+/// A penalty, and what is to be known of one of a fuel day.
+pub fn penalty(event: &Event<'_>, row: &Row) -> String {
+    let note = match (event.kind, row.multiplier, row.penalty, row.flags) {
+        (3, 1.., 0, _) => " (X, what this fuel day comes to, is below $5,000)",
+        (3, _, 1.., 0) if event.market == 0 => {
+            " (no hour is flagged: it comes from guarantee payments and TCC changes alone)"
+        }
+        (3, _, 1.., 0) => " (no hour is flagged: it comes from guarantee payments alone)",
+        _ => "",
+    };
+    format!("{}{note}", dollars(row.penalty))
+}
+
+/// Hours in which a correction put the entered bid back in force.
+pub fn restored(mask: u32) -> String {
+    format!(
+        "{}: by the correction, the bid entered is in force again",
+        hours::named(mask)
+    )
+}

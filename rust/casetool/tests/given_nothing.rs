@@ -1,0 +1,152 @@
+//! A correction that is named and empty, and a text that has no event: what a failed export or a failed
+//! `write` leaves behind must not settle as a good month.
+
+mod support;
+
+use support::{casetool, file_with, repository, written};
+
+const UNIT: &str = "unit 12 group 7 capability 500.0 MW\n";
+
+#[test]
+fn a_named_correction_that_is_empty() {
+    let text = std::fs::read_to_string(repository("examples/two-plants.txt")).expect("the example");
+    let case = file_with("given-nothing.case", &written(&text));
+    let empty = file_with("given-nothing.correction", b"");
+    for (command, more) in [
+        ("settle", &[][..]),
+        ("check", &[]),
+        ("working", &["--event", "0", "--hour", "0"]),
+    ] {
+        for (correction, name) in [(empty.as_str(), empty.as_str()), ("-", "standard input")] {
+            let arguments = [&[command, &case, "--correction", correction], more].concat();
+            let ran = casetool(&arguments, b"");
+            assert_eq!((ran.status, ran.output.len()), (2, 0), "{command}");
+            assert_eq!(
+                ran.errors,
+                format!(
+                    "casetool: --correction {name}: it is empty, and corrects nothing; see casetool {command} --help\n"
+                )
+            );
+        }
+        // Without the option there is none, and that is right.
+        let arguments = [&[command, case.as_str()], more].concat();
+        assert_eq!(casetool(&arguments, b"").status, 0);
+    }
+}
+
+#[test]
+fn the_settlement_says_which_correction_it_used() {
+    let text = std::fs::read_to_string(repository("examples/two-plants.txt")).expect("the example");
+    let case = file_with("given-nothing.settled", &written(&text));
+    let references = |count: usize| {
+        let lines = [
+            "reference unit 12 component energy value $30.00\n",
+            "reference unit 13 component energy value $20.00\n",
+            "reference unit 13 component minimum-generation value $30.00\n",
+            "reference unit 13 component maximum-parameter value 1\n",
+        ];
+        let ran = casetool(
+            &["write", "--correction"],
+            lines[..count].concat().as_bytes(),
+        );
+        assert_eq!((ran.status, ran.output.len()), (0, 8 * count));
+        ran.output
+    };
+    let first_line = |arguments: &[&str], input: &[u8]| {
+        let ran = casetool(&[&["settle", &case], arguments].concat(), input);
+        assert_eq!(ran.status, 0, "{}", ran.errors);
+        ran.text().lines().next().expect("a line").to_string()
+    };
+    assert_eq!(first_line(&[], b""), "Correction: none");
+    let path = file_with("given-nothing.corrected", &references(3));
+    assert_eq!(
+        first_line(&["--correction", &path], b""),
+        format!("Correction: {path}, 3 references")
+    );
+    assert_eq!(
+        first_line(&["--correction", "-"], &references(4)),
+        "Correction: standard input, 4 references"
+    );
+    let one = written(&format!(
+        "{UNIT}reference unit 12 component energy value $1.00\n\
+         event day 1 kind bids market day-ahead unit 12 period 0 component energy impact-hours none\n"
+    ));
+    let path = file_with("given-nothing.one", &references(1));
+    let ran = casetool(&["settle", "--correction", &path], &one);
+    let start = format!("Correction: {path}, 1 reference\n\nUnit 12, group 7\n");
+    assert!(ran.text().starts_with(&start), "{}", ran.text());
+}
+
+#[test]
+fn a_text_with_no_event() {
+    let past = "past group 7 kind fuel market day-ahead period 44 day 8000\n";
+    for text in [
+        String::new(),
+        "\n".to_string(),
+        "# export of November\r\n\r\n".to_string(),
+        UNIT.to_string(),
+        format!("{UNIT}{past}reference unit 12 component energy value $1.00\n"),
+    ] {
+        let ran = casetool(&["write"], text.as_bytes());
+        assert_eq!((ran.status, ran.output.len()), (1, 0), "{text}");
+        assert_eq!(
+            ran.errors,
+            "casetool: standard input: this text has no event; with --allow-empty it is written all the same\n"
+        );
+        for command in ["settle", "check"] {
+            let ran = casetool(&[command], text.as_bytes());
+            assert_eq!(ran.status, 1, "{command}: {text}");
+            let said = [ran.text(), ran.errors.as_str()].concat();
+            assert!(said.contains("refused "), "{said}");
+        }
+        let ran = casetool(&["write", "--allow-empty"], text.as_bytes());
+        assert_eq!((ran.status, ran.errors.as_str()), (0, ""));
+        let checked = casetool(&["check"], &ran.output);
+        assert_eq!(
+            (checked.status, checked.text()),
+            (0, "accepted, 0 events\n")
+        );
+    }
+    // What is wrong in a line is said first.
+    let ran = casetool(&["write"], b"unit 12");
+    let message = "casetool: standard input: line 1, column 8: expected the key group\n";
+    assert_eq!((ran.status, ran.errors.as_str()), (1, message));
+    // A file has its name in the message.
+    let path = file_with("given-nothing.text", UNIT.as_bytes());
+    let ran = casetool(&["write", &path], b"");
+    assert!(
+        ran.errors
+            .starts_with(&format!("casetool: {path}: this text has no event;"))
+    );
+}
+
+#[test]
+fn a_correction_with_no_reference() {
+    for text in ["", "# none this month\n"] {
+        let ran = casetool(&["write", "--correction"], text.as_bytes());
+        let message = "casetool: standard input: this text has no reference; with --allow-empty it is written all the same\n";
+        assert_eq!((ran.status, ran.errors.as_str()), (1, message));
+        let ran = casetool(&["write", "--correction", "--allow-empty"], text.as_bytes());
+        assert_eq!((ran.status, ran.output.len()), (0, 0));
+    }
+    // A long one looks like no case, whatever stands in it.
+    let text = "reference unit 12 component energy value $1.00\n".repeat(5);
+    assert_eq!(
+        casetool(&["write", "--correction"], text.as_bytes()).status,
+        0
+    );
+}
+
+#[test]
+fn a_case_file_of_36_bytes_is_accepted() {
+    let case = written("");
+    assert_eq!(case.len(), 36);
+    let checked = casetool(&["check"], &case);
+    assert_eq!(
+        (checked.status, checked.text()),
+        (0, "accepted, 0 events\n")
+    );
+    let settled = casetool(&["settle"], &case);
+    let expected = "Correction: none\n\nTotals of 0 events\n    penalties        $0.00\n    make-ups         $0.00\n";
+    assert_eq!((settled.status, settled.text()), (0, expected));
+}
