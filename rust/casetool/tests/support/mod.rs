@@ -2,6 +2,9 @@
 
 #![allow(dead_code)]
 
+#[cfg(unix)]
+pub mod fake;
+
 use std::ffi::OsString;
 use std::path::{Path, PathBuf};
 
