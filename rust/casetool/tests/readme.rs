@@ -104,3 +104,54 @@ fn commands_print_what_the_readme_shows() {
     println!("{} commands of README.md", shown.len());
     assert!(shown.len() >= 10);
 }
+
+/// Where a word first stands alone in a text.
+fn first_use(text: &str, word: &str) -> usize {
+    let letter = |byte: Option<&u8>| byte.is_some_and(u8::is_ascii_alphanumeric);
+    let bytes = text.as_bytes();
+    text.match_indices(word)
+        .map(|(at, _)| at)
+        .find(|&at| {
+            let before = at.checked_sub(1).and_then(|at| bytes.get(at));
+            !letter(before) && !letter(bytes.get(at + word.len()))
+        })
+        .unwrap_or_else(|| panic!("no {word}"))
+}
+
+#[test]
+fn words_are_explained_where_they_are_first_used() {
+    let readme = fs::read_to_string(repository("README.md")).expect("the README");
+    let readme = readme.replace('\n', " ");
+    for (word, explanation) in [
+        ("E", "E, what a party gained by inaccurate fuel data"),
+        (
+            "document 01",
+            "Document 01 is the paper by which this program was ordered",
+        ),
+        ("N3", "N3 and N2 are counts of instances"),
+        ("N2", "N3 and N2 are counts of instances"),
+    ] {
+        let (used, explained) = (first_use(&readme, word), readme.find(explanation));
+        let explained = explained.unwrap_or_else(|| panic!("no explanation of {word}"));
+        // Document 01's name and the counts are printed first, and explained in the next lines.
+        assert!(
+            explained.abs_diff(used) < 300,
+            "{word}: {used}, {explained}"
+        );
+    }
+}
+
+#[test]
+fn the_numbers_of_capability_periods_are_told() {
+    for name in ["README.md", "docs/FORMAT.md"] {
+        let text = fs::read_to_string(repository(name)).expect("the document");
+        let text = text.replace('\n', " ");
+        for sentence in [
+            "Summer of year Y is 2 × (Y − 2000) + 1",
+            "the Winter that begins on 1 November of Y is 2 × (Y − 1999)",
+            "44 is the Winter that begins on 1 November 2021",
+        ] {
+            assert!(text.contains(sentence), "{name}: {sentence}");
+        }
+    }
+}
