@@ -145,10 +145,15 @@ pub fn outputs(arguments: &[OsString]) -> (Vec<PathBuf>, Vec<Source>) {
     let mut rest = arguments.iter().skip(1).filter(|_| is_command);
     let mut only_files = false;
     while let Some(argument) = rest.next() {
-        match argument.to_str() {
-            Some("-o" | "--output") if !only_files => outputs.extend(rest.next().map(Into::into)),
+        let word = argument.to_str().filter(|_| !only_files);
+        let joined = |word: &str| Some(PathBuf::from(word.strip_prefix("--output=")?));
+        match word {
+            Some("-o" | "--output") => outputs.extend(rest.next().map(Into::into)),
             Some("--") => only_files = true,
-            _ => others.push(source(argument)),
+            word => match word.and_then(joined) {
+                Some(path) => outputs.push(path),
+                None => others.push(source(argument)),
+            },
         }
     }
     (outputs, others)

@@ -168,8 +168,8 @@ impl<'a> Writer<'a> {
             return Ok(());
         }
         Err(event.first.wrong(format!(
-            "expected a bid in every hour, since one left out would be 0 and flagged: hours {} are missing",
-            hours::text(left_out)
+            "expected a bid in every hour, since one left out would be a bid of 0: there is none for {}",
+            hours::named(left_out)
         )))
     }
 

@@ -174,18 +174,18 @@ fn a_maximum_parameter_in_every_hour() {
     };
     let late = "past group 7 kind fuel market day-ahead period 44 day 8000";
     for (hours, missing) in [
-        ("", "0-23"),
-        ("hours 1-23 bid 90", "0"),
-        ("hours 0-22 bid 90", "23"),
-        ("hours 0-4 bid 90\nhours 8-22 bid 0", "5-7,23"),
+        ("", "hours 0–23"),
+        ("hours 1-23 bid 90", "hour 0"),
+        ("hours 0-22 bid 90", "hour 23"),
+        ("hours 0-4 bid 90\nhours 8-22 bid 0", "hours 5–7, 23"),
         (
             "hours 0-22 bid 90\npast group 7 kind fuel market day-ahead period 44 day 8000",
-            "23",
+            "hour 23",
         ),
     ] {
         let ran = casetool(&["write"], text(hours).as_bytes());
         let message = format!(
-            "casetool: standard input: line 3, column 1, 'event': expected a bid in every hour, since one left out would be 0 and flagged: hours {missing} are missing\n"
+            "casetool: standard input: line 3, column 1, 'event': expected a bid in every hour, since one left out would be a bid of 0: there is none for {missing}\n"
         );
         assert_eq!((ran.status, ran.errors), (1, message));
     }

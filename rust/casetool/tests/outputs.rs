@@ -67,6 +67,7 @@ fn a_failed_write_leaves_no_old_file() {
     let folder = folder("outputs-failed");
     let case = name_in(&folder, "F");
     let missing = name_in(&folder, "no-such-text");
+    let joined = format!("--output={case}");
     for (arguments, text, status) in [
         (vec!["write", "-o", &case], BAD, 1),
         (vec!["write", "-o", &case], "", 1),
@@ -80,6 +81,7 @@ fn a_failed_write_leaves_no_old_file() {
         (vec!["write", "--fast", "-o", &case], GOOD, 2),
         (vec!["write", "one", "two", "-o", &case], GOOD, 2),
         (vec!["write", "-o", &case, "-o"], GOOD, 2),
+        (vec!["write", &joined], GOOD, 2),
         (vec!["settle", "-o", &case], GOOD, 1),
         (vec!["show", &missing, "-o", &case], "", 1),
         (vec!["working", "-o", &case, "--event", "0"], "", 2),

@@ -4,7 +4,7 @@
 mod support;
 
 use cases::Random;
-use cases::case::{Input, file_of};
+use cases::case::{Input, file_of, section_place};
 use cases::faults::FAULTS;
 use cases::generator::{Generated, Size, Wanted, case, random_bytes};
 use casetool::layout::Sections;
@@ -97,17 +97,30 @@ fn noise(random: &mut Random) -> Vec<u8> {
     file_of(&sections)
 }
 
+/// Gives the units and events of a file of noise mostly what document 01 has: units of three numbers, so
+/// that events find none, one or two of them, areas, kinds, markets and components.
+fn liken(file: &mut [u8], random: &mut Random) {
+    let (units, length) = section_place(file, 0);
+    let (events, _) = section_place(file, 3);
+    for unit in file[units..units + length].chunks_exact_mut(24) {
+        unit[..2].copy_from_slice(&[random.below(3) as u8, 0]);
+        unit[4] = random.below(3) as u8;
+    }
+    for event in file[events..].chunks_exact_mut(312) {
+        event[0] = random.below(6) as u8;
+        event[1] = random.below(3) as u8;
+        event[2..4].copy_from_slice(&[random.below(3) as u8, 0]);
+        event[6] = random.below(10) as u8;
+    }
+}
+
 #[test]
 fn any_content() {
     let mut random = Random::new(703);
     let mut shown = 0;
     for _ in 0..3_000 {
         let mut file = noise(&mut random);
-        if let Some(event) = file.len().checked_sub(312).filter(|&event| event > 36) {
-            // Mostly a kind and a component that document 01 has, so that the fields have their forms.
-            file[event] = random.below(6) as u8;
-            file[event + 6] = random.below(10) as u8;
-        }
+        liken(&mut file, &mut random);
         assert!(comes_back(&file));
         let Input { file, .. } = random_bytes(&mut random);
         shown += usize::from(comes_back(&file));
