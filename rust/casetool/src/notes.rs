@@ -31,12 +31,10 @@ impl Correction {
         }
     }
 
-    /// The mitigated hours in which the entered bid is in force and would not be without this
-    /// correction.
+    /// The hours in which the entered bid is in force and would not be without this correction.
     pub fn restored(&self, place: usize, event: &Event<'_>, row: &Row) -> u32 {
         let without = Row::of(&self.rows_without, place);
         (0..HOURS)
-            .filter(|&hour| row.mitigated >> hour & 1 == 1)
             .filter(|&hour| {
                 let entered = u32_at(cell(event.record, hour), 0).cast_signed();
                 row.bids[hour] == entered && without.bids[hour] != entered

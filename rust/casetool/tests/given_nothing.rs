@@ -129,12 +129,13 @@ fn a_correction_with_no_reference() {
         let ran = casetool(&["write", "--correction", "--allow-empty"], text.as_bytes());
         assert_eq!((ran.status, ran.output.len()), (0, 0));
     }
-    // A long one looks like no case, whatever stands in it.
-    let text = "reference unit 12 component energy value $1.00\n".repeat(5);
-    assert_eq!(
-        casetool(&["write", "--correction"], text.as_bytes()).status,
-        0
-    );
+    // Six references whose bytes could be those of a case with a past entry and no event.
+    let bytes = written("past group 7 kind fuel market day-ahead period 0 day 1");
+    assert_eq!(bytes.len(), 48);
+    let shown = casetool(&["show", "--correction"], &bytes);
+    assert!(shown.text().starts_with("# correction: 6 references\n"));
+    let ran = casetool(&["write", "--correction"], &shown.output);
+    assert_eq!((ran.status, ran.output), (0, bytes));
 }
 
 #[test]

@@ -93,6 +93,20 @@ fn what_is_younger_than_the_tool_is_built_again() {
 }
 
 #[test]
+fn what_changes_during_a_build_is_built_again() {
+    let folder = folder("script-meanwhile", true);
+    mark(&folder, "meanwhile");
+    assert_eq!(run(&folder, "casetool").1, ARGUMENTS);
+    fs::remove_file(folder.join("meanwhile")).expect("a file of the test");
+    assert_eq!(run(&folder, "casetool").2, TOOL);
+    assert_eq!(run(&folder, "casetool").2, "");
+    assert_eq!(
+        calls(&folder),
+        ["rt staticlib", "cargo build", "cargo build"]
+    );
+}
+
+#[test]
 fn a_library_that_cannot_be_built() {
     for (name, with_flock) in [("script-broken", true), ("script-broken-mkdir", false)] {
         let folder = folder(name, with_flock);

@@ -9,7 +9,8 @@ use support::{casetool, file_with, written};
 
 const UNITS: &str = "unit 12 group 7 capability 500.0 MW response-rate 10.0 MW/min\n\
                      unit 13 group 7 capability 500.0 MW response-rate 10.0 MW/min\n\
-                     unit 14 group 8 capability 500.0 MW\n";
+                     unit 14 group 8 capability 500.0 MW\n\
+                     unit 15 group 8 capability 500.0 MW\n";
 
 /// The settlement of events beside the units, and of a correction where there is one.
 fn settled(text: &str, correction: &str) -> String {
@@ -99,6 +100,8 @@ fn fuel_days() {
         event(1, "day-ahead", 12, "none", "$5000.00"),
         event(1, "day-ahead", 13, "none", "$0.00"),
         event(1, "day-ahead", 14, "none", "$4999.99"),
+        event(1, "day-ahead", 15, "none", "$0.00"),
+        event(1, "real-time", 12, "none", "$0.00"),
         event(1, "real-time", 13, "none", "$6000.00"),
         event(2, "day-ahead", 12, "3", "$3333.32"),
         event(2, "day-ahead", 13, "none", "$0.00"),
@@ -109,29 +112,25 @@ fn fuel_days() {
     let from_both = " (no hour is flagged: it comes from guarantee payments and TCC changes alone)";
     let from_one = " (no hour is flagged: it comes from guarantee payments alone)";
     let below = " (X, what this fuel day comes to, is below $5,000)";
+    let on = |place: u8, unit: u8| {
+        format!("0 (this fuel day's penalty stands on event {place}, unit {unit})")
+    };
+    let plain = str::to_string;
     for (place, flagged, multiplier, penalty) in [
-        (0, "none", "1", format!("$5,000.00{from_both}")),
-        (
-            1,
-            "none",
-            "0 (this fuel day's penalty stands on event 0, unit 12)",
-            "$0.00".to_string(),
-        ),
-        (2, "none", "1", format!("$0.00{below}")),
-        (3, "none", "1", format!("$6,000.00{from_one}")),
-        (4, "3", "1.5", format!("$0.00{below}")),
-        (
-            5,
-            "3",
-            "0 (this fuel day's penalty stands on event 4, unit 12)",
-            "$0.00".to_string(),
-        ),
-        (6, "3", "1.5", "$13,500.00".to_string()),
-        (7, "none", "1", format!("$0.00{below}")),
+        (0, "none", plain("1"), format!("$5,000.00{from_both}")),
+        (1, "none", on(0, 12), plain("$0.00")),
+        (2, "none", plain("1"), format!("$0.00{below}")),
+        (3, "none", on(2, 14), plain("$0.00")),
+        (4, "none", plain("1"), format!("$6,000.00{from_one}")),
+        (5, "none", on(4, 12), plain("$0.00")),
+        (6, "3", plain("1.5"), format!("$0.00{below}")),
+        (7, "3", on(6, 12), plain("$0.00")),
+        (8, "3", plain("1.5"), plain("$13,500.00")),
+        (9, "none", plain("1"), format!("$0.00{below}")),
     ] {
         let expected = [
             ("flagged hours", flagged),
-            ("multiplier", multiplier),
+            ("multiplier", multiplier.as_str()),
             ("penalty", penalty.as_str()),
         ];
         assert_eq!(figures(&text, place), expected, "event {place}");

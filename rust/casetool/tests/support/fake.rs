@@ -41,12 +41,14 @@ ci) echo "3 passed, 0 failed" ;;
 esac
 "#;
 
-/// Leaves a tool that prints its arguments where it is to build; or fails, where a file says so.
+/// Leaves a tool that prints its arguments where it is to build; or fails, or has a source changed
+/// meanwhile, where a file says so.
 const CARGO: &str = r#"#!/bin/sh
 root=$(dirname "$0")/..
 echo "cargo $*" >>"$root/calls"
 [ ! -f "$root/broken-cargo" ] || { echo "error: no such thing" >&2; exit 101; }
 [ "$1" = build ] || exit 0
+[ ! -f "$root/meanwhile" ] || { sleep 0.1; touch "$root/rust/casetool/src/main.rs"; }
 while [ "$1" != --target-dir ]; do shift; done
 printf '#!/bin/sh\nprintf "%%s|" "$@"\n' >"$2/release/casetool"
 chmod +x "$2/release/casetool"
