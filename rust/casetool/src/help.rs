@@ -96,9 +96,9 @@ comment:
 
 A key that an event reads has to be there, also where it is 0: what is left out is an error with
 its line. A text with no event is an error too, since a failed export looks like that.
-A day is the number of days since 1 January 2000, or a date such as 2021-11-26. Capability
-periods count from the winter in which that day is, 0: the summer from 1 May 2000 is 1, the
-winter from 1 November 2021 is 44. A period that is not its day's is warned of, and written.
+A day is the number of days since 1 January 2000, or a date such as 2021-11-26. Of the
+capability periods 0 is the Winter in which 1 January 2000 is, 1 the Summer from 1 May 2000, 44
+the Winter from 1 November 2021. A period that is not its day's is warned of, and written.
 docs/FORMAT.md has every key.
 
   -o, --output FILE  writes to a file instead of standard output

@@ -25,13 +25,19 @@ pub fn write(answer: &[u8], path: Option<&Path>, output: &mut dyn Write) -> Resu
     written.map_err(|error| format!("can't write {}: {error}", path.display()))
 }
 
+/// The names, and folders of names, that stand for what a process has open already.
+const OPEN_ALREADY: [&str; 5] = [
+    "/dev/stdin",
+    "/dev/stdout",
+    "/dev/stderr",
+    "/dev/fd",
+    "/proc",
+];
+
 /// Whether a path names a file that a next command could read as an old answer: no folder, pipe or
-/// terminal, and none of the names under /dev and /proc that stand for what is open already.
+/// terminal, and nothing that is open already.
 fn is_file(path: &Path) -> bool {
-    let stands_for_another = ["/dev", "/proc"]
-        .iter()
-        .any(|folder| path.starts_with(folder));
-    path.is_file() && !stands_for_another
+    path.is_file() && !OPEN_ALREADY.iter().any(|name| path.starts_with(name))
 }
 
 /// Writes a file beside the path and renames it onto it.

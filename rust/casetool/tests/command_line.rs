@@ -173,10 +173,8 @@ fn files_that_cannot_be_read_or_written() {
         let ran = casetool(&[name, folder.to_str().expect("text")], b"");
         assert_eq!(ran.status, 1);
     }
-    let ran = casetool(
-        &["write", "--allow-empty", "-o", "/no/such/folder/case"],
-        b"",
-    );
+    let arguments = ["write", "--allow-empty", "-o", "/no/such/folder/case"];
+    let ran = casetool(&arguments, b"");
     assert_eq!(ran.status, 1);
     assert!(
         ran.errors

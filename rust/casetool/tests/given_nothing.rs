@@ -34,44 +34,40 @@ fn a_named_correction_that_is_empty() {
     }
 }
 
+/// A correction of the first references of the example, or of one more.
+fn correction(count: usize) -> Vec<u8> {
+    let lines = [
+        "reference unit 12 component energy value $30.00\n",
+        "reference unit 13 component energy value $20.00\n",
+        "reference unit 13 component minimum-generation value $30.00\n",
+        "reference unit 13 component maximum-parameter value 1\n",
+    ];
+    let text = lines[..count].concat();
+    let ran = casetool(&["write", "--correction"], text.as_bytes());
+    assert_eq!((ran.status, ran.output.len()), (0, 8 * count));
+    ran.output
+}
+
 #[test]
 fn the_settlement_says_which_correction_it_used() {
     let text = std::fs::read_to_string(repository("examples/two-plants.txt")).expect("the example");
     let case = file_with("given-nothing.settled", &written(&text));
-    let references = |count: usize| {
-        let lines = [
-            "reference unit 12 component energy value $30.00\n",
-            "reference unit 13 component energy value $20.00\n",
-            "reference unit 13 component minimum-generation value $30.00\n",
-            "reference unit 13 component maximum-parameter value 1\n",
-        ];
-        let ran = casetool(
-            &["write", "--correction"],
-            lines[..count].concat().as_bytes(),
-        );
-        assert_eq!((ran.status, ran.output.len()), (0, 8 * count));
-        ran.output
-    };
     let first_line = |arguments: &[&str], input: &[u8]| {
         let ran = casetool(&[&["settle", &case], arguments].concat(), input);
         assert_eq!(ran.status, 0, "{}", ran.errors);
         ran.text().lines().next().expect("a line").to_string()
     };
     assert_eq!(first_line(&[], b""), "Correction: none");
-    let path = file_with("given-nothing.corrected", &references(3));
-    assert_eq!(
-        first_line(&["--correction", &path], b""),
-        format!("Correction: {path}, 3 references")
-    );
-    assert_eq!(
-        first_line(&["--correction", "-"], &references(4)),
-        "Correction: standard input, 4 references"
-    );
+    let path = file_with("given-nothing.corrected", &correction(3));
+    let named = format!("Correction: {path}, 3 references");
+    assert_eq!(first_line(&["--correction", &path], b""), named);
+    let from_input = first_line(&["--correction", "-"], &correction(4));
+    assert_eq!(from_input, "Correction: standard input, 4 references");
     let one = written(&format!(
         "{UNIT}reference unit 12 component energy value $1.00\n\
          event day 1 kind bids market day-ahead unit 12 period 0 component energy impact-hours none\n"
     ));
-    let path = file_with("given-nothing.one", &references(1));
+    let path = file_with("given-nothing.one", &correction(1));
     let ran = casetool(&["settle", "--correction", &path], &one);
     let start = format!("Correction: {path}, 1 reference\n\nUnit 12, group 7\n");
     assert!(ran.text().starts_with(&start), "{}", ran.text());
@@ -80,6 +76,7 @@ fn the_settlement_says_which_correction_it_used() {
 #[test]
 fn a_text_with_no_event() {
     let past = "past group 7 kind fuel market day-ahead period 44 day 8000\n";
+    let message = "casetool: standard input: this text has no event; with --allow-empty it is written all the same\n";
     for text in [
         String::new(),
         "\n".to_string(),
@@ -89,10 +86,7 @@ fn a_text_with_no_event() {
     ] {
         let ran = casetool(&["write"], text.as_bytes());
         assert_eq!((ran.status, ran.output.len()), (1, 0), "{text}");
-        assert_eq!(
-            ran.errors,
-            "casetool: standard input: this text has no event; with --allow-empty it is written all the same\n"
-        );
+        assert_eq!(ran.errors, message);
         for command in ["settle", "check"] {
             let ran = casetool(&[command], text.as_bytes());
             assert_eq!(ran.status, 1, "{command}: {text}");
@@ -107,6 +101,10 @@ fn a_text_with_no_event() {
             (0, "accepted, 0 events\n")
         );
     }
+}
+
+#[test]
+fn what_else_is_wrong_in_a_text_with_no_event() {
     // What is wrong in a line is said first.
     let ran = casetool(&["write"], b"unit 12");
     let message = "casetool: standard input: line 1, column 8: expected the key group\n";
@@ -114,10 +112,8 @@ fn a_text_with_no_event() {
     // A file has its name in the message.
     let path = file_with("given-nothing.text", UNIT.as_bytes());
     let ran = casetool(&["write", &path], b"");
-    assert!(
-        ran.errors
-            .starts_with(&format!("casetool: {path}: this text has no event;"))
-    );
+    let start = format!("casetool: {path}: this text has no event;");
+    assert!(ran.errors.starts_with(&start));
 }
 
 #[test]

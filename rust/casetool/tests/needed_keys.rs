@@ -44,50 +44,44 @@ const COMPONENTS: [&str; 9] = [
     "maximum-parameter",
 ];
 
+const MARKETS: [&str; 2] = ["day-ahead", "real-time"];
+
 /// Every kind, market and component in area 0 (unit 12) and area 1 (unit 13).
 fn wholes() -> Vec<Whole> {
     let mut found = Vec::new();
     for area in [0, 1] {
-        let unit = |keys| (12 + area, keys);
-        let tight = |keys: [&'static str; 2]| keys[usize::from(area)];
-        for market in ["day-ahead", "real-time"] {
-            found.push(whole(
-                unit(""),
-                (
-                    &format!("kind withheld market {market}"),
-                    tight(["impact 0", "impact 0 shadow-price-hours none"]),
-                ),
+        let impact = ["impact 0", "impact 0 shadow-price-hours none"][usize::from(area)];
+        found.extend(MARKETS.map(|market| {
+            let event = format!("kind withheld market {market}");
+            whole(
+                (12 + area, ""),
+                (&event, impact),
                 ("hour 3", "withheld 0 price 0"),
-            ));
-        }
+            )
+        }));
         found.push(whole(
-            unit("response-rate 0"),
-            (
-                "kind dispatch market real-time",
-                tight(["impact 0", "impact 0 shadow-price-hours none"]),
-            ),
+            (12 + area, "response-rate 0"),
+            ("kind dispatch market real-time", impact),
             ("hour 3", "undelivered 0 added-revenue 0"),
         ));
-        for (market, keys) in [
-            (
-                "day-ahead",
-                "inaccurate-hours none guarantee-change 0 tcc-change 0",
-            ),
-            ("real-time", "inaccurate-hours none guarantee-change 0"),
-        ] {
-            found.push(whole(
-                unit(""),
-                (&format!("kind fuel market {market}"), keys),
-                ("hour 3", "energy 0 price-change 0"),
-            ));
-        }
+        found.extend(MARKETS.map(|market| fuel(area, market)));
         for (number, component) in COMPONENTS.into_iter().enumerate() {
-            found.extend(
-                ["day-ahead", "real-time"].map(|market| bids(area, market, number, component)),
-            );
+            found.extend(MARKETS.map(|market| bids(area, market, number, component)));
         }
     }
     found
+}
+
+fn fuel(area: u8, market: &str) -> Whole {
+    let keys = match market {
+        "day-ahead" => "inaccurate-hours none guarantee-change 0 tcc-change 0",
+        _ => "inaccurate-hours none guarantee-change 0",
+    };
+    whole(
+        (12 + area, ""),
+        (&format!("kind fuel market {market}"), keys),
+        ("hour 3", "energy 0 price-change 0"),
+    )
 }
 
 fn bids(area: u8, market: &str, number: usize, component: &str) -> Whole {

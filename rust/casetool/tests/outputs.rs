@@ -97,7 +97,15 @@ fn a_failed_write_leaves_no_old_file() {
         );
         assert_eq!(names(&folder), ["F.old"]);
     }
-    // The next line of a script settles nothing.
+}
+
+#[test]
+fn the_next_command_finds_nothing_to_settle() {
+    let folder = folder("outputs-next");
+    let case = name_in(&folder, "F");
+    assert_eq!(casetool(&["write", "-o", &case], GOOD.as_bytes()).status, 0);
+    assert_eq!(casetool(&["settle", &case], b"").status, 0);
+    assert_eq!(casetool(&["write", "-o", &case], BAD.as_bytes()).status, 1);
     assert_eq!(casetool(&["settle", &case], b"").status, 1);
     // A named correction that is empty keeps no old settlement either.
     fs::write(&case, OLD).expect("a file of the test");

@@ -40,101 +40,106 @@ fn figures<'a>(text: &'a str, event: usize) -> Vec<(&'a str, &'a str)> {
         .collect()
 }
 
+/// That an event has these figures: flagged hours, multiplier and penalty.
+fn has(text: &str, place: usize, flagged: &str, multiplier: &str, penalty: &str) {
+    let expected = [
+        ("flagged hours", flagged),
+        ("multiplier", multiplier),
+        ("penalty", penalty),
+    ];
+    assert_eq!(figures(text, place), expected, "event {place}");
+}
+
+/// Flagged hours, multiplier and penalty, in turn of a withheld and a dispatch event.
+const WITHHELD_AND_DISPATCH: [(&str, &str, &str); 8] = [
+    ("none", "0 (no instance: no hour is flagged)", "$0.00"),
+    ("none", "0 (without impact there is no penalty)", "$0.00"),
+    ("none", "0 (no instance: no hour is flagged)", "$0.00"),
+    ("none", "0 (no hour is flagged)", "$0.00"),
+    ("0", "0 (no instance: without impact)", "$0.00"),
+    ("0", "0 (without impact there is no penalty)", "$0.00"),
+    ("0", "1 (N3 1, N2 1)", "$2,004.00"),
+    ("0", "1.5", "$150.00"),
+];
+
 #[test]
 fn withheld_and_dispatch() {
-    let event = |kind: &str, day: u16, impact: u8, hour: &str| {
-        let market = if kind == "withheld" {
-            "day-ahead"
-        } else {
-            "real-time"
-        };
-        format!(
-            "event day {day} kind {kind} market {market} unit 12 period 0 impact {impact}\n{hour}\n"
-        )
-    };
-    let withheld = "hour 0 withheld 50.1 MW price $40.00";
-    let dispatch = "hour 0 undelivered 150.1 MW added-revenue $100.00";
-    let text = [
-        event("withheld", 1, 0, ""),
-        event("dispatch", 1, 0, ""),
-        event("withheld", 2, 1, ""),
-        event("dispatch", 2, 1, ""),
-        event("withheld", 3, 0, withheld),
-        event("dispatch", 3, 0, dispatch),
-        event("withheld", 4, 1, withheld),
-        event("dispatch", 4, 1, dispatch),
-    ];
-    let text = settled(&text.concat(), "");
-    for (place, flagged, multiplier, penalty) in [
-        (0, "none", "0 (no instance: no hour is flagged)", "$0.00"),
-        (1, "none", "0 (without impact there is no penalty)", "$0.00"),
-        (2, "none", "0 (no instance: no hour is flagged)", "$0.00"),
-        (3, "none", "0 (no hour is flagged)", "$0.00"),
-        (4, "0", "0 (no instance: without impact)", "$0.00"),
-        (5, "0", "0 (without impact there is no penalty)", "$0.00"),
-        (6, "0", "1 (N3 1, N2 1)", "$2,004.00"),
-        (7, "0", "1.5", "$150.00"),
+    let mut text = String::new();
+    for (day, impact, withheld, dispatch) in [
+        (1, 0, "", ""),
+        (2, 1, "", ""),
+        (
+            3,
+            0,
+            "50.1 MW price $40.00",
+            "150.1 MW added-revenue $100.00",
+        ),
+        (
+            4,
+            1,
+            "50.1 MW price $40.00",
+            "150.1 MW added-revenue $100.00",
+        ),
     ] {
-        let expected = [
-            ("flagged hours", flagged),
-            ("multiplier", multiplier),
-            ("penalty", penalty),
-        ];
-        assert_eq!(figures(&text, place), expected, "event {place}");
+        for (kind, market, key, hour) in [
+            ("withheld", "day-ahead", "withheld", withheld),
+            ("dispatch", "real-time", "undelivered", dispatch),
+        ] {
+            text += &format!(
+                "event day {day} kind {kind} market {market} unit 12 period 0 impact {impact}\n"
+            );
+            if !hour.is_empty() {
+                text += &format!("hour 0 {key} {hour}\n");
+            }
+        }
     }
+    let text = settled(&text, "");
+    for (place, (flagged, multiplier, penalty)) in WITHHELD_AND_DISPATCH.into_iter().enumerate() {
+        has(&text, place, flagged, multiplier, penalty);
+    }
+}
+
+fn fuel(day: u16, market: &str, unit: u8, hours: &str, guarantee: &str) -> String {
+    let tcc = match market {
+        "day-ahead" => " tcc-change 0",
+        _ => "",
+    };
+    format!(
+        "event day {day} kind fuel market {market} unit {unit} period 0 inaccurate-hours {hours} guarantee-change {guarantee}{tcc}\n"
+    )
 }
 
 #[test]
 fn fuel_days() {
-    let event = |day: u16, market: &str, unit: u8, hours: &str, guarantee: &str| {
-        let tcc = if market == "day-ahead" {
-            " tcc-change 0"
-        } else {
-            ""
-        };
-        format!(
-            "event day {day} kind fuel market {market} unit {unit} period 0 inaccurate-hours {hours} guarantee-change {guarantee}{tcc}\n"
-        )
-    };
     let text = [
-        event(1, "day-ahead", 12, "none", "$5000.00"),
-        event(1, "day-ahead", 13, "none", "$0.00"),
-        event(1, "day-ahead", 14, "none", "$4999.99"),
-        event(1, "day-ahead", 15, "none", "$0.00"),
-        event(1, "real-time", 12, "none", "$0.00"),
-        event(1, "real-time", 13, "none", "$6000.00"),
-        event(2, "day-ahead", 12, "3", "$3333.32"),
-        event(2, "day-ahead", 13, "none", "$0.00"),
-        event(3, "day-ahead", 13, "3", "$9000.00"),
-        event(3, "day-ahead", 14, "none", "-$9000.00"),
+        fuel(1, "day-ahead", 12, "none", "$5000.00"),
+        fuel(1, "day-ahead", 13, "none", "$0.00"),
+        fuel(1, "day-ahead", 14, "none", "$4999.99"),
+        fuel(1, "day-ahead", 15, "none", "$0.00"),
+        fuel(1, "real-time", 12, "none", "$0.00"),
+        fuel(1, "real-time", 13, "none", "$6000.00"),
+        fuel(2, "day-ahead", 12, "3", "$3333.32"),
+        fuel(2, "day-ahead", 13, "none", "$0.00"),
+        fuel(3, "day-ahead", 13, "3", "$9000.00"),
+        fuel(3, "day-ahead", 14, "none", "-$9000.00"),
     ];
     let text = settled(&text.concat(), "");
-    let from_both = " (no hour is flagged: it comes from guarantee payments and TCC changes alone)";
-    let from_one = " (no hour is flagged: it comes from guarantee payments alone)";
-    let below = " (X, what this fuel day comes to, is below $5,000)";
-    let on = |place: u8, unit: u8| {
-        format!("0 (this fuel day's penalty stands on event {place}, unit {unit})")
-    };
-    let plain = str::to_string;
-    for (place, flagged, multiplier, penalty) in [
-        (0, "none", plain("1"), format!("$5,000.00{from_both}")),
-        (1, "none", on(0, 12), plain("$0.00")),
-        (2, "none", plain("1"), format!("$0.00{below}")),
-        (3, "none", on(2, 14), plain("$0.00")),
-        (4, "none", plain("1"), format!("$6,000.00{from_one}")),
-        (5, "none", on(4, 12), plain("$0.00")),
-        (6, "3", plain("1.5"), format!("$0.00{below}")),
-        (7, "3", on(6, 12), plain("$0.00")),
-        (8, "3", plain("1.5"), plain("$13,500.00")),
-        (9, "none", plain("1"), format!("$0.00{below}")),
-    ] {
-        let expected = [
-            ("flagged hours", flagged),
-            ("multiplier", multiplier.as_str()),
-            ("penalty", penalty.as_str()),
-        ];
-        assert_eq!(figures(&text, place), expected, "event {place}");
-    }
+    let below = "$0.00 (X, what this fuel day comes to, is below $5,000)";
+    let from_both =
+        "$5,000.00 (no hour is flagged: it comes from guarantee payments and TCC changes alone)";
+    let from_one = "$6,000.00 (no hour is flagged: it comes from guarantee payments alone)";
+    let on =
+        |event, unit| format!("0 (this fuel day's penalty stands on event {event}, unit {unit})");
+    has(&text, 0, "none", "1", from_both);
+    has(&text, 1, "none", &on(0, 12), "$0.00");
+    has(&text, 2, "none", "1", below);
+    has(&text, 3, "none", &on(2, 14), "$0.00");
+    has(&text, 4, "none", "1", from_one);
+    has(&text, 5, "none", &on(4, 12), "$0.00");
+    has(&text, 6, "3", "1.5", below);
+    has(&text, 7, "3", &on(6, 12), "$0.00");
+    has(&text, 8, "3", "1.5", "$13,500.00");
+    has(&text, 9, "none", "1", below);
 }
 
 /// A bids event of unit 12 with its reference, mitigated in hour 10 and, by two hours of minimum run, 11.
@@ -150,90 +155,61 @@ fn correction(component: &str, value: &str) -> String {
     format!("reference unit 12 component {component} value {value}\n")
 }
 
+/// That with this correct reference these bids are in force, and what is said of restored ones.
+fn corrects(case: &str, component: &str, correct: &str, in_force: &str, restored: Option<&str>) {
+    let text = settled(case, &correction(component, correct));
+    let found = figures(&text, 0);
+    assert_eq!(found[2], ("bids in force", in_force), "{correct}");
+    let line = restored.map(|hours| {
+        let words = "by the correction, the bid entered is in force again";
+        ("restored".to_string(), format!("{hours}: {words}"))
+    });
+    let rest = found[3..]
+        .iter()
+        .map(|&(name, figure)| (name.to_string(), figure.to_string()));
+    assert_eq!(rest.collect::<Vec<_>>(), Vec::from_iter(line), "{correct}");
+    // Without a correction nothing is restored.
+    assert!(!settled(case, "").contains("restored"));
+}
+
 #[test]
 fn a_bid_that_a_correction_restored() {
-    let restored = |hours: &'static str| ("restored", hours);
-    let one = "hour 10: by the correction, the bid entered is in force again";
-    let two = "hours 10–11: by the correction, the bid entered is in force again";
-    for (component, reference, bid, next, correct, in_force, note) in [
-        // Passes the test with c, though it is above c; the next hour too.
-        (
-            "minimum-generation",
-            "$30.00",
-            "$150.00",
-            "$35.00",
-            "$100.00",
-            "$150.00 in hour 10, $35.00 in hour 11",
-            two,
-        ),
-        // The next hour's bid was in force without the correction.
-        (
-            "minimum-generation",
-            "$30.00",
-            "$150.00",
-            "$29.00",
-            "$100.00",
-            "$150.00 in hour 10, $29.00 in hour 11",
-            one,
-        ),
-        // Fails the test with c too: c is in force, and nothing is restored.
-        (
-            "minimum-generation",
-            "$30.00",
-            "$150.00",
-            "$29.00",
-            "$40.00",
-            "$40.00 in hour 10, $29.00 in hour 11",
-            "",
-        ),
-        // c is r.
-        (
-            "minimum-generation",
-            "$30.00",
-            "$150.00",
-            "$29.00",
-            "$30.00",
-            "$30.00 in hour 10, $29.00 in hour 11",
-            "",
-        ),
-        (
-            "start-up-cost",
-            "$100.00",
-            "$301.00",
-            "$0.00",
-            "$101.00",
-            "$301.00 in hour 10",
-            one,
-        ),
-        (
-            "start-up-cost",
-            "$100.00",
-            "$304.00",
-            "$0.00",
-            "$101.00",
-            "$101.00 in hour 10",
-            "",
-        ),
-    ] {
-        let case = bids(component, reference, bid, next);
-        let text = settled(&case, &correction(component, correct));
-        let mitigated = if component == "start-up-cost" {
-            "10"
-        } else {
-            "10–11"
-        };
-        let mut expected = vec![
-            ("flagged hours", "10"),
-            ("mitigated hours", mitigated),
-            ("bids in force", in_force),
-        ];
-        if !note.is_empty() {
-            expected.push(restored(note));
-        }
-        assert_eq!(figures(&text, 0), expected, "{component}, {correct}");
-        // Without a correction nothing is restored.
-        assert!(!settled(&case, "").contains("restored"));
-    }
+    let name = "minimum-generation";
+    let above = bids(name, "$30.00", "$150.00", "$35.00");
+    // Passes the test with c, though it is above c; the next hour too.
+    let both = "$150.00 in hour 10, $35.00 in hour 11";
+    corrects(&above, name, "$100.00", both, Some("hours 10–11"));
+    // The next hour's bid was in force without the correction.
+    let below = bids(name, "$30.00", "$150.00", "$29.00");
+    let first = "$150.00 in hour 10, $29.00 in hour 11";
+    corrects(&below, name, "$100.00", first, Some("hour 10"));
+    // Fails the test with c too: c is in force, and nothing is restored.
+    corrects(
+        &below,
+        name,
+        "$40.00",
+        "$40.00 in hour 10, $29.00 in hour 11",
+        None,
+    );
+    // c is r.
+    corrects(
+        &below,
+        name,
+        "$30.00",
+        "$30.00 in hour 10, $29.00 in hour 11",
+        None,
+    );
+    let name = "start-up-cost";
+    let case = bids(name, "$100.00", "$303.00", "$0.00");
+    corrects(
+        &case,
+        name,
+        "$101.00",
+        "$303.00 in hour 10",
+        Some("hour 10"),
+    );
+    let case = bids(name, "$100.00", "$303.01", "$0.00");
+    corrects(&case, name, "$101.00", "$101.00 in hour 10", None);
 }
 
 #[test]

@@ -4,6 +4,7 @@
 
 #[cfg(unix)]
 pub mod fake;
+pub mod refused;
 
 use std::ffi::OsString;
 use std::path::{Path, PathBuf};

@@ -1,0 +1,22 @@
+//! Cases that are refused with a number, at a place.
+
+use super::{Ran, casetool, written};
+
+/// Two units of one group.
+pub const UNITS: &str = "unit 12 group 7 capability 500.0 MW response-rate 10.0 MW/min\n\
+                     unit 13 group 7 capability 1500.0 MW\n";
+
+/// What a refused check says.
+pub fn text_of(ran: &Ran) -> &str {
+    assert_eq!((ran.status, ran.errors.as_str()), (1, ""));
+    ran.text()
+}
+
+/// That a text beside two units is refused with this number at this place.
+pub fn refused(number: u8, text: &str, place: &str) {
+    let file = written(&format!("{UNITS}{text}"));
+    let ran = casetool(&["check"], &file);
+    let (first, rest) = text_of(&ran).split_once('\n').expect("two lines");
+    assert!(first.starts_with(&format!("refused {number}: ")), "{first}");
+    assert_eq!(rest, format!("{place}\n"));
+}
