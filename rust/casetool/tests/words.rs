@@ -30,7 +30,7 @@ fn settled(text: &str, correction: &str) -> String {
 }
 
 /// The figures of an event, by their names.
-fn figures<'a>(text: &'a str, event: usize) -> Vec<(&'a str, &'a str)> {
+fn figures(text: &str, event: usize) -> Vec<(&str, &str)> {
     let start = format!("  event {event}: ");
     let lines = text.lines().skip_while(|line| !line.starts_with(&start));
     lines
