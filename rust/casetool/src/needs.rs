@@ -33,8 +33,8 @@ impl Shape {
         area == 1 && matches!(self.kind, 1 | 2 | 4) && field.name == "P"
     }
 
-    /// Whether an hour that is left out would be flagged: a maximum parameter of 0 is below every
-    /// line.
+    /// Whether every hour has to be there: a maximum parameter that is left out would be a bid of 0,
+    /// which is flagged where its reference is above 0.
     pub fn needs_every_hour(self) -> bool {
         self.kind == 4 && self.component == 8
     }

@@ -5,6 +5,7 @@ mod support;
 
 use cases::Random;
 use cases::Row;
+use cases::case::{Input, sections_of, u32_at};
 use cases::generator::any_case;
 use casetool::amounts::{Measure, dollars};
 use casetool::{calendar, hours};
@@ -126,10 +127,39 @@ fn mitigated_bids(row: &Row) -> Vec<(u32, i32)> {
         .collect()
 }
 
+/// The mitigated hours in which a bid of component 1 or 3 is in force though it is above the case's own
+/// reference: what a correction restored.
+fn restored(input: &Input, event: usize, row: &Row) -> u32 {
+    let sections = sections_of(&input.file);
+    let record = &sections[3][312 * event..312 * (event + 1)];
+    let reference = sections[1]
+        .chunks_exact(8)
+        .find(|reference| reference[..3] == [record[2], record[3], record[6]]);
+    let Some(reference) = reference.filter(|_| record[0] == 4 && [1, 3].contains(&record[6]))
+    else {
+        return 0;
+    };
+    let r = u32_at(reference, 4) as i32;
+    let a = |hour: usize| u32_at(record, 24 + 12 * hour) as i32;
+    (0..24)
+        .filter(|&hour| row.mitigated >> hour & 1 == 1 && row.bids[hour] == a(hour) && a(hour) > r)
+        .fold(0, |mask, hour| mask | 1 << hour)
+}
+
+/// Hours of a line such as `hours 10–11: by the correction, ..`.
+fn restored_in(line: &str) -> u32 {
+    let (hours, _) = line.split_once(": ").expect("hours");
+    mask_of(
+        hours
+            .trim_start_matches("hours ")
+            .trim_start_matches("hour "),
+    )
+}
+
 #[test]
 fn generated_cases_beside_the_second_implementation() {
     let mut random = Random::new(731);
-    let (mut events, mut mitigated) = (0, 0);
+    let (mut events, mut mitigated, mut with_restored) = (0, 0, 0);
     for place in 0..400 {
         let generated = any_case(&mut random);
         let input = generated.input();
@@ -180,13 +210,18 @@ fn generated_cases_beside_the_second_implementation() {
                 assert_eq!(bids_of(list, record.component()), mitigated_bids(&row));
                 mitigated += 1;
             }
+            let expected = restored(&input, event, &row);
+            let said = figure(&lines, "restored").map_or(0, restored_in);
+            assert_eq!(said, expected, "case {place}, event {event}");
+            with_restored += usize::from(said != 0);
             events += 1;
         }
         let totals = text.split_once("Totals of ").expect("totals").1;
         let sums: Vec<u64> = totals.lines().skip(1).map(cents_of).collect();
         assert_eq!(sums, [penalties, make_ups]);
     }
-    println!("400 cases of {events} events, {mitigated} of them mitigated");
+    println!("400 cases of {events} events, {mitigated} mitigated, {with_restored} restored");
+    assert!(with_restored > 20);
 }
 
 #[test]
