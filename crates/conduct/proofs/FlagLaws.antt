@@ -1,6 +1,6 @@
 -- The flags that are found from the tables are the flags of the case.
 use Prim.Native.Nat.{ℕ, zero, suc, _+_, _-_, _*_, _/_, _≤_, _<_}
-use mathlib.Core.Bool.{Bool, true, false, cond, _&&_, _||_}
+use mathlib.Core.Bool.{Bool, true, false, cond, _&&_}
 use mathlib.Core.List.{List, []}
 use mathlib.Core.Path.{_≡_, refl, sym, ap, ap₂, _∙_}
 use native.Mathlib.Nat.{add-sub-cancel-left}
@@ -15,8 +15,8 @@ use Rattle.binary.proofs.Implies.{and-l, and-r}
 use Rattle.binary.proofs.BoundedLaws.{sum-same}
 use Rattle.binary.proofs.MaskLaws.{mask-same}
 use Rattle.binary.proofs.ByteLaws.{stretch-byte, stretch-length}
-use Rattle.tariff.specs.Conduct.{increase, lowerTest, constrainedTest, percentTest, timeTest, maximumTest, bidTest}
-use Rattle.tariff.specs.Threshold.{thresholdOf}
+use Rattle.tariff.specs.Conduct.{increase}
+use Rattle.tariff.proofs.ComparisonLaws.{bid-total}
 use Rattle.casefile.specs.Layout.{eventWidth}
 use Rattle.casefile.specs.Case.{Units, Case}
 use Rattle.casefile.specs.Decode.{recordAt, unitsIn, referencesIn, eventsIn, amountsIn, caseIn}
@@ -173,26 +173,6 @@ unfolding fuelIn partySum sumTogether
 fuel-mask-is c i x row k r e = e ∙ mask-same 24 _ _ (λ h l. ap (ltb 0) (r .each h l) ∙ sum-union c i h k)
 
 -- ---- bids
-
--- the total is read by the time components alone
-time-part : (w : Bool) (t : ℕ → Bool) (total : ℕ) → (w && t (cond w total 0)) ≡ (w && t total)
-time-part true t total = refl
-time-part false t total = refl
-
-bid-total : (component r a market : ℕ) (tight : Bool) (averagePrice H total : ℕ)
-    → bidTest component r a market tight averagePrice H (cond (leb 4 component && leb component 6) total 0)
-    ≡ bidTest component r a market tight averagePrice H total
-unfolding bidTest
-bid-total component r a market tight averagePrice H total =
-    ap
-    (λ (b : Bool).
-    (leb component 1 && (lowerTest (thresholdOf component) r a || constrainedTest (increase r a) market tight averagePrice H))
-    || (eqb component 2 && lowerTest (thresholdOf component) r a)
-    || (eqb component 3 && percentTest (thresholdOf component) r (increase r a))
-    || b
-    || (eqb component 7 && percentTest (thresholdOf component) r (increase r a))
-    || (eqb component 8 && maximumTest (thresholdOf component) r a))
-    (time-part (leb 4 component && leb component 6) (timeTest (thresholdOf component) (increase r a)) total)
 
 bid-at : (c : Case) (cells totals levels : List ℕ) (i h : ℕ) (bid : Bid) → cellOf cells h .a ≡ c .a i h
     → bid .component ≡ c .events .component i → bid .reference ≡ getD levels i 0 → bid .market ≡ c .events .market i

@@ -1,2 +1,4 @@
+pub mod ComparisonLaws
+pub mod PercentLaws
 pub mod RangeLaws
 pub mod RuleLaws

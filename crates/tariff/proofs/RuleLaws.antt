@@ -12,7 +12,7 @@ use Rattle.binary.specs.Word.{positivePart}
 use Rattle.binary.proofs.Implies.{_⇒_, mono, and-given, or-mono, and-right, and-l, and-r}
 use Rattle.tariff.specs.Threshold.{thresholdOf}
 use Rattle.tariff.specs.declared.threshold.Threshold.{Threshold}
-use Rattle.tariff.specs.Conduct.{increase, lowerTest, constrainedTest, percentTest, timeTest, maximumTest, bidTest, withheldTest, dispatchTest}
+use Rattle.tariff.specs.Conduct.{exceeds, increase, lowerTest, constrainedTest, percentTest, timeTest, minimumComparison, maximumTest, bidTest, withheldTest, dispatchTest}
 use Rattle.tariff.specs.Sanctions.{cents, periodCounts, ladder, withheldPenalty, dispatchPenalty, fuelDayCounts, fuelCharge, fuelPenalty}
 
 -- ---- conduct tests
@@ -39,9 +39,12 @@ module _ (t : Threshold) (r a a′ : ℕ) (h : positivePart 32 a ≤ positivePar
   unfolding timeTest
   time-mono total total′ g = search (mono, increase-mono)
 
-maximum-mono : (t : Threshold) (r a a′ : ℕ) → positivePart 32 a′ ≤ positivePart 32 a → maximumTest t r a ⇒ maximumTest t r a′
-unfolding maximumTest
-maximum-mono t r a a′ f = record { give = λ s. omega (arith, ltb→lt, lt→ltb) }
+  minimum-mono : exceeds (minimumComparison t r a) ⇒ exceeds (minimumComparison t r a′)
+  minimum-mono = search mono
+
+maximum-mono : (k r a a′ : ℕ) → k ≡ 8 → positivePart 32 a′ ≤ positivePart 32 a → maximumTest (thresholdOf k) r a ⇒ maximumTest (thresholdOf k) r a′
+unfolding maximumTest thresholdOf
+maximum-mono k r a a′ e f = rw e (record { give = λ s. omega (arith, ltb→lt, lt→ltb) })
 
 -- a bid that moved further to the side that its test looks at
 pub bid-mono : (k r a a′ market : ℕ) (tight : Bool) (averagePrice H total total′ : ℕ) → total ≤ total′
@@ -63,8 +66,8 @@ bid-mono k r a a′ market tight averagePrice H total total′ g up down =
     (and-given (eqb k 3) (λ s. percent-mono t r a a′ (up (omega (arith, eqb→eq))))))
     (and-given (leb 4 k && leb k 6)
     (λ s. let n : k ≤ 6 = leb→le k 6 (search and-right) in time-mono t r a a′ (up (omega arith)) total total′ g)))
-    (and-given (eqb k 7) (λ s. percent-mono t r a a′ (up (omega (arith, eqb→eq))))))
-    (and-given (eqb k 8) (λ s. maximum-mono t r a a′ (down (eqb→eq k 8 s))))
+    (and-given (eqb k 7) (λ s. minimum-mono t r a a′ (up (omega (arith, eqb→eq))))))
+    (and-given (eqb k 8) (λ s. let e = eqb→eq k 8 s in maximum-mono k r a a′ e (down e)))
 
 pub withheld-mono : (a a′ capability S S′ G : ℕ) (tight : Bool) → a ≤ a′ → S ≤ S′
     → withheldTest a capability S G tight ⇒ withheldTest a′ capability S′ G tight

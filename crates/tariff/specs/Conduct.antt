@@ -1,11 +1,25 @@
--- The conduct tests on plain numbers (document 01, Flags; tariff 23.3.1). Every threshold must be exceeded. A bid a is its
--- signed word of 32 bits.
-use Prim.Native.Nat.{ℕ, _-_, _*_, min}
-use mathlib.Core.Bool.{Bool, cond, _&&_, _||_}
+-- The conduct tests on plain numbers (document 01, Flags; tariff 23.3.1), each by its comparisons. A bid a is its signed word of
+-- 32 bits.
+use Prim.Native.Nat.{ℕ, _+_, _-_, _*_, _/_, min}
+use mathlib.Core.Bool.{Bool, true, cond, _&&_, _||_}
 use lib.Dec.{ltb, leb, eqb}
 use Rattle.binary.specs.Word.{positivePart}
 use Rattle.tariff.specs.declared.threshold.Threshold.{Threshold}
+use Rattle.tariff.specs.declared.comparisons.Comparison.{Comparison}
 use Rattle.tariff.specs.Threshold.{thresholdOf}
+
+-- ---- one comparison
+
+-- it counts where it is taken
+abbrev pub comparedWhere : (taken : Bool) (left right : ℕ) → Comparison
+comparedWhere t l r = record { taken = t; left = l; right = r }
+
+abbrev pub compared : (left right : ℕ) → Comparison
+compared l r = comparedWhere true l r
+
+-- "Every threshold must be exceeded"
+abbrev pub exceeds : Comparison → Bool
+exceeds c = c .taken && ltb (c .right) (c .left)
 
 -- ---- Bids
 
@@ -13,31 +27,69 @@ use Rattle.tariff.specs.Threshold.{thresholdOf}
 unfoldable pub increase : (r a : ℕ) → ℕ
 increase r a = positivePart 32 a - r
 
--- components 0 to 2: a is at least the floor, and d is above the lower of the percent of r and the step
+-- a percent is of 100
+abbrev pub whole : ℕ
+whole = 100
+
+-- exact: the percents of components 0 to 3 and 7 are hundreds
+abbrev pub percentOf : Threshold → (r : ℕ) → ℕ
+percentOf t r = t .percent * r / whole
+
+-- components 0 to 2: where a is at least the floor, d is above the lower of the percent of r (3 × r) and the step
+abbrev pub lowerComparison : Threshold → (r a : ℕ) → Comparison
+lowerComparison t r a = comparedWhere (leb (t .floor) (positivePart 32 a)) (increase r a) (min (percentOf t r) (t .step))
+
 unfoldable pub lowerTest : Threshold → (r a : ℕ) → Bool
-lowerTest t r a =
-    leb (t .floor) (positivePart 32 a) && ltb (min (t .percent * r) (100 * t .step)) (100 * increase r a)
+lowerTest t r a = exceeds (lowerComparison t r a)
 
--- components 0 and 1, Real-Time, tight, H at least 1: 10 × d × H > 1,752 × Average Price
+-- "10 × d × H": H in tenths of an hour
+abbrev pub hourTenths : ℕ
+hourTenths = 10
+
+-- "1,752 × Average Price": 2% of a year's 8,760 hours, in tenths
+abbrev pub yearShare : ℕ
+yearShare = 1752
+
+-- components 0 and 1, where Real-Time, tight and H ≥ 1
+abbrev pub constrainedComparison : (d market : ℕ) (tight : Bool) (averagePrice H : ℕ) → Comparison
+constrainedComparison d market tight averagePrice H =
+    comparedWhere (eqb market 1 && tight && leb 1 H) (hourTenths * (d * H)) (yearShare * averagePrice)
+
 unfoldable pub constrainedTest : (d market : ℕ) (tight : Bool) (averagePrice H : ℕ) → Bool
-constrainedTest d market tight averagePrice H =
-    eqb market 1 && tight && leb 1 H && ltb (1752 * averagePrice) (10 * (d * H))
+constrainedTest d market tight averagePrice H = exceeds (constrainedComparison d market tight averagePrice H)
 
--- components 3 and 7: d is above the percent of r (7: a > 2 × r says that d > r)
+-- component 3: d is above the percent of r (2 × r)
+abbrev pub percentComparison : Threshold → (r d : ℕ) → Comparison
+percentComparison t r d = compared d (percentOf t r)
+
 unfoldable pub percentTest : Threshold → (r d : ℕ) → Bool
-percentTest t r d = ltb (t .percent * r) (100 * d)
+percentTest t r d = exceeds (percentComparison t r d)
+
+-- components 4 to 6: d is above the step
+abbrev pub stepComparison : Threshold → (d : ℕ) → Comparison
+stepComparison t d = compared d (t .step)
 
 -- "the positive d of that unit, day, market and hour add to over 360"
 abbrev pub timeLimit : ℕ
 timeLimit = 360
 
--- components 4 to 6: d is above the step; or d > 0 and the three positive d add to over 360
-unfoldable pub timeTest : Threshold → (d total : ℕ) → Bool
-timeTest t d total = ltb (t .step) d || (ltb 0 d && ltb timeLimit total)
+-- or, where d > 0, the three positive d add to over the limit
+abbrev pub totalComparison : (d total : ℕ) → Comparison
+totalComparison d total = comparedWhere (ltb 0 d) total timeLimit
 
--- component 8, whose bids are not negative: a is below the percent of r (2 × a < r)
+unfoldable pub timeTest : Threshold → (d total : ℕ) → Bool
+timeTest t d total = exceeds (stepComparison t d) || exceeds (totalComparison d total)
+
+-- component 7: a is above r by more than the percent of it (2 × r)
+abbrev pub minimumComparison : Threshold → (r a : ℕ) → Comparison
+minimumComparison t r a = compared (positivePart 32 a) (r + percentOf t r)
+
+-- component 8, whose bids are not negative: r is above what a is the percent of (2 × a)
+abbrev pub maximumComparison : Threshold → (r a : ℕ) → Comparison
+maximumComparison t r a = compared r (whole * positivePart 32 a / t .percent)
+
 unfoldable pub maximumTest : Threshold → (r a : ℕ) → Bool
-maximumTest t r a = ltb (100 * positivePart 32 a) (t .percent * r)
+maximumTest t r a = exceeds (maximumComparison t r a)
 
 -- total is the sum of the positive time increases, 0 for the single test
 unfoldable pub bidTest : (component r a market : ℕ) (tight : Bool) (averagePrice H total : ℕ) → Bool
@@ -47,10 +99,22 @@ bidTest component r a market tight averagePrice H total =
     || (eqb component 2 && lowerTest (thresholdOf component) r a)
     || (eqb component 3 && percentTest (thresholdOf component) r (increase r a))
     || (leb 4 component && leb component 6 && timeTest (thresholdOf component) (increase r a) total)
-    || (eqb component 7 && percentTest (thresholdOf component) r (increase r a))
+    || (eqb component 7 && exceeds (minimumComparison (thresholdOf component) r a))
     || (eqb component 8 && maximumTest (thresholdOf component) r a)
 
 -- ---- Withheld and dispatch
+
+-- "10 × a > capability"
+abbrev pub unitShare : ℕ
+unitShare = 10
+
+-- "20 × S > G"
+abbrev pub groupShare : ℕ
+groupShare = 20
+
+-- "a > 15 × rate"
+abbrev pub responseMinutes : ℕ
+responseMinutes = 15
 
 -- "in a tight hour 500 and 1,000 replace 1,000 and 2,000"
 unfoldable pub unitLimit : (tight : Bool) → ℕ
@@ -59,10 +123,27 @@ unitLimit tight = cond tight 500 1000
 unfoldable pub groupLimit : (tight : Bool) → ℕ
 groupLimit tight = cond tight 1000 2000
 
+abbrev pub capabilityComparison : (a capability : ℕ) → Comparison
+capabilityComparison a capability = compared (unitShare * a) capability
+
+abbrev pub rateComparison : (a rate : ℕ) → Comparison
+rateComparison a rate = compared a (responseMinutes * rate)
+
+abbrev pub unitComparison : (a : ℕ) (tight : Bool) → Comparison
+unitComparison a tight = compared a (unitLimit tight)
+
 -- S is the group's sum of a, G its listed capability
+abbrev pub shareComparison : (S G : ℕ) → Comparison
+shareComparison S G = compared (groupShare * S) G
+
+abbrev pub groupComparison : (S : ℕ) (tight : Bool) → Comparison
+groupComparison S tight = compared S (groupLimit tight)
+
 unfoldable pub withheldTest : (a capability S G : ℕ) (tight : Bool) → Bool
 withheldTest a capability S G tight =
-    ltb capability (10 * a) || ltb (unitLimit tight) a || ltb G (20 * S) || ltb (groupLimit tight) S
+    exceeds (capabilityComparison a capability) || exceeds (unitComparison a tight) || exceeds (shareComparison S G)
+    || exceeds (groupComparison S tight)
 
 unfoldable pub dispatchTest : (a rate S : ℕ) (tight : Bool) → Bool
-dispatchTest a rate S tight = ltb (15 * rate) a || ltb (unitLimit tight) a || ltb (groupLimit tight) S
+dispatchTest a rate S tight =
+    exceeds (rateComparison a rate) || exceeds (unitComparison a tight) || exceeds (groupComparison S tight)

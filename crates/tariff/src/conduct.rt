@@ -1,6 +1,7 @@
 // The conduct tests (tariff 23.3.1).
 ghost use mathlib.Core.Path.{_≡_};
 ghost use Prim.Native.Nat.{_≤_};
+ghost use Rattle.tariff.specs.Threshold.{thresholdOf};
 ghost use Rattle.tariff.specs.Conduct.{increase, lowerTest, constrainedTest, percentTest, timeTest, maximumTest, bidTest, unitLimit, groupLimit, withheldTest, dispatchTest};
 use crate::threshold::Threshold;
 use binary::numbers::choose_u32;
@@ -8,6 +9,21 @@ use binary::numbers::choose_u64;
 use binary::numbers::product;
 use binary::numbers::smaller;
 use binary::words::positive_part;
+
+// The numbers of the tests, as specs/Conduct has them.
+pub const WHOLE: u64 = 100;
+
+pub const HOUR_TENTHS: u64 = 10;
+
+pub const YEAR_SHARE: u64 = 1752;
+
+pub const TIME_LIMIT: u64 = 360;
+
+pub const UNIT_SHARE: u64 = 10;
+
+pub const GROUP_SHARE: u64 = 20;
+
+pub const RESPONSE_MINUTES: u64 = 15;
 
 // d = a - r, or 0 if negative.
 pub fn increase(reference: u32, bid: u32) -> u32
@@ -26,8 +42,8 @@ fn lower_test(t: Threshold, reference: u32, bid: u32) -> bool
     let floor = t.floor;
     let a = positive_part(bid);
     let d = increase(reference, bid);
-    let lower = smaller(product(percent, reference), 100 * (step as u64));
-    (floor <= a) & (lower < 100 * (d as u64))
+    let lower = smaller(product(percent, reference), WHOLE * (step as u64));
+    (floor <= a) & (lower < WHOLE * (d as u64))
 }
 
 // Components 0 and 1 in Real-Time.
@@ -40,8 +56,9 @@ fn constrained_test(
 ) -> bool
     ensures { λ r. ⌜ r ≡ constrainedTest d market tight «average_price» «constrained_hours» ⌝ }
 {
-    let exceeds = 1752 * (average_price as u64) < 10 * ((d as u64) * (constrained_hours as u64));
-    (market == 1) & tight & (1 <= constrained_hours) & exceeds
+    let left = HOUR_TENTHS * ((d as u64) * (constrained_hours as u64));
+    let right = YEAR_SHARE * (average_price as u64);
+    (market == 1) & tight & (1 <= constrained_hours) & (right < left)
 }
 
 // Components 3 and 7.
@@ -49,7 +66,7 @@ fn percent_test(t: Threshold, reference: u32, d: u32) -> bool
     ensures { λ r. ⌜ r ≡ percentTest t reference d ⌝ }
 {
     let percent = t.percent;
-    product(percent, reference) < 100 * (d as u64)
+    product(percent, reference) < WHOLE * (d as u64)
 }
 
 // Components 4 to 6; total is the sum of the positive increases of the three.
@@ -57,16 +74,17 @@ pub fn time_test(t: Threshold, d: u32, total: u64) -> bool
     ensures { λ r. ⌜ r ≡ timeTest t d total ⌝ }
 {
     let step = t.step;
-    (step < d) | ((0 < d) & (360 < total))
+    (step < d) | ((0 < d) & (TIME_LIMIT < total))
 }
 
 // Component 8.
-fn maximum_test(t: Threshold, reference: u32, bid: u32) -> bool
-    ensures { λ r. ⌜ r ≡ maximumTest t reference bid ⌝ }
+fn maximum_test(reference: u32, bid: u32) -> bool
+    ensures { λ r. ⌜ r ≡ maximumTest (thresholdOf 8) reference bid ⌝ }
 {
+    let t = Threshold::MAXIMUM_PARAMETER;
     let percent = t.percent;
     let a = positive_part(bid);
-    100 * (a as u64) < product(percent, reference)
+    WHOLE * (a as u64) < product(percent, reference)
 }
 
 // Whether a bid fails the test of its component; total is the sum of the positive time increases.
@@ -88,7 +106,7 @@ pub fn bid_test(
     let constrained = constrained_test(d, market, tight, average_price, constrained_hours);
     let percent = percent_test(t, reference, d);
     let time = time_test(t, d, total);
-    let maximum = maximum_test(t, reference, bid);
+    let maximum = maximum_test(reference, bid);
     ((component <= 1) & (lower | constrained))
         | ((component == 2) & lower)
         | ((component == 3) & percent)
@@ -116,7 +134,10 @@ pub fn withheld_test(a: u32, capability: u32, s: u64, g: u64, tight: bool) -> bo
 {
     let unit = unit_limit(tight);
     let group = group_limit(tight);
-    ((capability as u64) < 10 * (a as u64)) | (unit < a) | (g < 20 * s) | (group < s)
+    ((capability as u64) < UNIT_SHARE * (a as u64))
+        | (unit < a)
+        | (g < GROUP_SHARE * s)
+        | (group < s)
 }
 
 // Whether undelivered megawatts fail; rate is the unit's response rate.
@@ -125,5 +146,5 @@ pub fn dispatch_test(a: u32, rate: u32, s: u64, tight: bool) -> bool
 {
     let unit = unit_limit(tight);
     let group = group_limit(tight);
-    (15 * (rate as u64) < (a as u64)) | (unit < a) | (group < s)
+    (RESPONSE_MINUTES * (rate as u64) < (a as u64)) | (unit < a) | (group < s)
 }

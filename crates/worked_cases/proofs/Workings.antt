@@ -10,6 +10,7 @@ use Rattle.binary.specs.Word.{positivePart, negativePart, within}
 use Rattle.tariff.specs.Ranges.{referenceInRange, bidInRange}
 use Rattle.tariff.specs.Threshold.{thresholdOf}
 use Rattle.tariff.specs.Conduct.{increase, lowerTest, constrainedTest, percentTest, timeTest, maximumTest, bidTest, unitLimit, groupLimit, withheldTest, dispatchTest}
+use Rattle.tariff.specs.Comparisons.{firstFailed, comparisonsOf, firstBidComparison, secondBidComparison, bidComparisons, withheldComparisons, dispatchComparisons, fuelComparisons}
 use Rattle.tariff.specs.Sanctions.{periodCounts}
 use Rattle.casefile.specs.Decode.{caseIn, offsetOf, lengthOf, sectionOf, recordAt, unitsIn, referencesIn, violationIn, pastIn, eventsIn, amountsIn, decode}
 use Rattle.casefile.specs.Lookup.{referenceKey, isUnit, isListed, placeOf, unitOf, groupOf, isReference, hasReference, levelOf, correctReferences, referenceOf, readsCorrect}
@@ -20,8 +21,7 @@ use Rattle.conduct.specs.Parties.{bidLevel}
 use Rattle.sanctions.specs.Penalties.{flaggedWithImpact, isInstance, countsHere, countsPast, instances, N3, N2}
 use Rattle.binary.specs.Lists.{joinTo}
 use Rattle.working.specs.declared.figures.Working.{Working}
-use Rattle.working.specs.Steps.{compared, noStep, exceeds, firstFailed, stepsOf, withheldSteps, dispatchSteps, fuelSteps, lowerStep, percentStep, firstBidStep, secondBidStep, bidSteps}
-use Rattle.working.specs.Working.{fuelEvents, sumsOf, totalOf, figuresWith, figuresOf, stepsFor, decrease, workingFrom, countsOf, workingAt, refused, workingOf}
+use Rattle.working.specs.Working.{fuelEvents, sumsOf, totalOf, figuresWith, figuresOf, comparisonsFor, decrease, workingFrom, countsOf, workingAt, refusedWorking, workingOf}
 use Rattle.worked_cases.specs.Cases.{tightUnit, cellBytes, eventOf, areaUnits, pastInstances, sanctionedEvents, sanctioned, bidReferences, bidEvents, bids}
 
 abbrev shown : (flagged tight : Bool) (failed taken a reference increase decrease s g total n3 n2 : ℕ) (left right : List ℕ) → Working
@@ -66,12 +66,12 @@ pub record Workings : Type 0 where
   pub bid-time : workingOf bids [] 2 0 ≡ shown true false 2 3 220 100 120 0 0 0 361 0 0 (120 ∷ 361 ∷ 0 ∷ 0 ∷ []) (180 ∷ 360 ∷ 0 ∷ 0 ∷ [])
   -- 2 × 49 is below r
   pub bid-maximum : workingOf bids [] 4 0 ≡ shown true false 1 1 49 100 0 51 0 0 0 0 0 (100 ∷ 0 ∷ 0 ∷ 0 ∷ []) (98 ∷ 0 ∷ 0 ∷ 0 ∷ [])
-  pub no-event : workingOf listing [] 1 0 ≡ refused 10
-  pub no-hour : workingOf listing [] 0 24 ≡ refused 10
-  pub no-case : workingOf (replicate 35 0) [] 0 0 ≡ refused 1
+  pub no-event : workingOf listing [] 1 0 ≡ refusedWorking 10
+  pub no-hour : workingOf listing [] 0 24 ≡ refusedWorking 10
+  pub no-case : workingOf (replicate 35 0) [] 0 0 ≡ refusedWorking 1
 
 pub workings : Workings
-unfolding tightUnit areaUnits pastInstances sanctionedEvents sanctioned bidReferences bidEvents bids cellBytes eventOf headed fileOf unitBytes referenceBytes entryBytes eventBytes units withheld listing sumTo countTo anyTo allTo lastTo bitOf valueAt bytesOf positivePart negativePart within thresholdOf increase lowerTest constrainedTest percentTest timeTest maximumTest bidTest unitLimit groupLimit withheldTest dispatchTest periodCounts offsetOf lengthOf sectionOf recordAt unitsIn referencesIn violationIn pastIn eventsIn amountsIn decode caseIn isUnit isListed placeOf unitOf groupOf isReference hasReference levelOf correctReferences referenceOf lengthFine versionFine sectionsFine pairsFine sizeFine sizesFine rises unitFieldsFine unitSpareFine unitFine unitsFine referenceFieldsFine referenceKey referenceFine referencesFine correctionFine violationFine entryFine pastFine maskFine quantitiesFine fieldsFine referenceInRange bidInRange cellFine hourFine eventFine eventsFine eventKey orderFine eventListed eventsListed withinCapability amountFine amountsFine readsCorrect referenceFound referencesFound rowsFine refusal tight together sumTogether timeBid timeTotal bidFlag groupCapability groupSum withheldFlag dispatchFlag fuelFlag flagged flaggedWithImpact isInstance countsHere countsPast instances N3 N2 joinTo bidLevel compared noStep exceeds firstFailed stepsOf withheldSteps dispatchSteps fuelSteps lowerStep percentStep firstBidStep secondBidStep bidSteps fuelEvents sumsOf totalOf figuresWith figuresOf stepsFor decrease workingFrom countsOf workingAt refused workingOf
+unfolding tightUnit areaUnits pastInstances sanctionedEvents sanctioned bidReferences bidEvents bids cellBytes eventOf headed fileOf unitBytes referenceBytes entryBytes eventBytes units withheld listing sumTo countTo anyTo allTo lastTo bitOf valueAt bytesOf positivePart negativePart within thresholdOf increase lowerTest constrainedTest percentTest timeTest maximumTest bidTest unitLimit groupLimit withheldTest dispatchTest periodCounts offsetOf lengthOf sectionOf recordAt unitsIn referencesIn violationIn pastIn eventsIn amountsIn decode caseIn isUnit isListed placeOf unitOf groupOf isReference hasReference levelOf correctReferences referenceOf lengthFine versionFine sectionsFine pairsFine sizeFine sizesFine rises unitFieldsFine unitSpareFine unitFine unitsFine referenceFieldsFine referenceKey referenceFine referencesFine correctionFine violationFine entryFine pastFine maskFine quantitiesFine fieldsFine referenceInRange bidInRange cellFine hourFine eventFine eventsFine eventKey orderFine eventListed eventsListed withinCapability amountFine amountsFine readsCorrect referenceFound referencesFound rowsFine refusal tight together sumTogether timeBid timeTotal bidFlag groupCapability groupSum withheldFlag dispatchFlag fuelFlag flagged flaggedWithImpact isInstance countsHere countsPast instances N3 N2 joinTo bidLevel firstFailed comparisonsOf withheldComparisons dispatchComparisons fuelComparisons firstBidComparison secondBidComparison bidComparisons fuelEvents sumsOf totalOf figuresWith figuresOf comparisonsFor decrease workingFrom countsOf workingAt refusedWorking workingOf
 workings =
     record {
       listing-hour = refl;

@@ -29,7 +29,7 @@ use Rattle.working.specs.declared.figures.Sums.{Sums}
 use Rattle.working.specs.declared.figures.Figures.{Figures}
 use Rattle.working.specs.declared.figures.Counts.{Counts}
 use Rattle.working.specs.declared.figures.Working.{Working}
-use Rattle.working.specs.Working.{fuelEvents, sumsOf, totalOf, figuresWith, figuresOf, workingFrom, countsOf, workingAt, refused, mostRows, workingOf}
+use Rattle.working.specs.Working.{fuelEvents, sumsOf, totalOf, figuresWith, figuresOf, workingFrom, countsOf, workingAt, refusedWorking, mostRows, workingOf}
 use Rattle.working.specs.Stages.{AcceptedCase}
 
 -- ---- sums of a party-day
@@ -182,7 +182,7 @@ working-full c i h f flag counts w e ef eg ec = e ∙ rw (ef, eg, ec)
 pub inside : (i n h : ℕ) → (ltb i n && ltb h 24) ≡ true → (i < n) × (h < 24)
 inside i n h t = (ltb-true i n (and-l (ltb i n) (ltb h 24) t), ltb-true h 24 (and-r (ltb i n) (ltb h 24) t))
 
-pub refused-is : (f k : List ℕ) (i h number : ℕ) → number ≡ refusal f k mostRows → (number ≡ 0 → ⊥) → refused number ≡ workingOf f k i h
+pub refused-is : (f k : List ℕ) (i h number : ℕ) → number ≡ refusal f k mostRows → (number ≡ 0 → ⊥) → refusedWorking number ≡ workingOf f k i h
 unfolding workingOf
 refused-is f k i h number e n = rw (← e, ne-eqb number 0 n) refl
 
@@ -207,6 +207,6 @@ module _ (f k u r p e : List ℕ) (u-is : u ≡ sectionOf f 0) (r-is : r ≡ sec
   unfolding workingOf
   working-is i h t = let q = rw count-is at t in rw (eq-eqb _ _ fine, same-case, q)
 
-  pub outside-is : (i h : ℕ) → (ltb i (length e / eventWidth) && ltb h 24) ≡ false → refused 10 ≡ workingOf f k i h
+  pub outside-is : (i h : ℕ) → (ltb i (length e / eventWidth) && ltb h 24) ≡ false → refusedWorking 10 ≡ workingOf f k i h
   unfolding workingOf
   outside-is i h t = let q = rw count-is at t in rw (eq-eqb _ _ fine, q)

@@ -8,7 +8,9 @@ use lib.Dec.{ltb, leb, eqb}
 use lib.ListN.{replicate}
 use Rattle.binary.specs.Bounded.{bitOf}
 use Rattle.binary.specs.Word.{positivePart, negativePart}
+use Rattle.tariff.specs.declared.comparisons.Comparisons.{Comparisons}
 use Rattle.tariff.specs.Conduct.{increase}
+use Rattle.tariff.specs.Comparisons.{noComparison, comparisonsOf, withheldComparisons, dispatchComparisons, fuelComparisons, bidComparisons}
 use Rattle.casefile.specs.Layout.{hours, mostEvents, rowWidth}
 use Rattle.casefile.specs.Case.{Case}
 use Rattle.casefile.specs.Decode.{decode}
@@ -21,8 +23,6 @@ use Rattle.working.specs.declared.figures.Sums.{Sums}
 use Rattle.working.specs.declared.figures.Figures.{Figures}
 use Rattle.working.specs.declared.figures.Counts.{Counts}
 use Rattle.working.specs.declared.figures.Working.{Working}
-use Rattle.working.specs.declared.steps.Steps.{Steps}
-use Rattle.working.specs.Steps.{noStep, stepsOf, withheldSteps, dispatchSteps, fuelSteps, bidSteps}
 
 -- ---- the figures
 
@@ -67,14 +67,14 @@ unfoldable pub figuresOf : Case → (i h : ℕ) → Figures
 figuresOf c i h = figuresWith c i h (bidLevel (c .references) (c .events) i) (sumsOf c i h) (totalOf c i h)
 
 -- the comparisons of the test, by kind
-unfoldable pub stepsFor : Figures → Steps
-stepsFor f =
-    cond (eqb (f .kind) 1) (withheldSteps (f .a) (f .capability) (f .s) (f .g) (f .tight))
-    (cond (eqb (f .kind) 2) (dispatchSteps (f .a) (f .rate) (f .s) (f .tight))
-    (cond (eqb (f .kind) 3) (fuelSteps (f .«fuel_events»))
+unfoldable pub comparisonsFor : Figures → Comparisons
+comparisonsFor f =
+    cond (eqb (f .kind) 1) (withheldComparisons (f .a) (f .capability) (f .s) (f .g) (f .tight))
+    (cond (eqb (f .kind) 2) (dispatchComparisons (f .a) (f .rate) (f .s) (f .tight))
+    (cond (eqb (f .kind) 3) (fuelComparisons (f .«fuel_events»))
     (cond (eqb (f .kind) 4)
-    (bidSteps (f .component) (f .reference) (f .a) (f .market) (f .tight) (f .«average_price») (f .«constrained_hours») (f .total))
-    (stepsOf noStep noStep noStep noStep))))
+    (bidComparisons (f .component) (f .reference) (f .a) (f .market) (f .tight) (f .«average_price») (f .«constrained_hours») (f .total))
+    (comparisonsOf noComparison noComparison noComparison noComparison))))
 
 -- ---- the working
 
@@ -88,8 +88,8 @@ workingFrom f flagged counts =
       number = 0;
       flagged = flagged;
       tight = f .tight;
-      failed = stepsFor f .failed;
-      taken = stepsFor f .taken;
+      failed = comparisonsFor f .failed;
+      taken = comparisonsFor f .taken;
       a = f .a;
       reference = f .reference;
       increase = cond (eqb (f .kind) 4) (increase (f .reference) (f .a)) 0;
@@ -99,8 +99,8 @@ workingFrom f flagged counts =
       total = f .total;
       n3 = counts .n3;
       n2 = counts .n2;
-      left = stepsFor f .left;
-      right = stepsFor f .right;
+      left = comparisonsFor f .left;
+      right = comparisonsFor f .right;
     }
 
 unfoldable pub countsOf : Case → ℕ → Counts
@@ -109,8 +109,8 @@ countsOf c i = record { n3 = N3 c i; n2 = N2 c i }
 unfoldable pub workingAt : Case → (i h : ℕ) → Working
 workingAt c i h = workingFrom (figuresOf c i h) (flagged c i h) (countsOf c i)
 
-unfoldable pub refused : (number : ℕ) → Working
-refused n =
+unfoldable pub refusedWorking : (number : ℕ) → Working
+refusedWorking n =
     record {
       number = n;
       flagged = false;
@@ -138,8 +138,8 @@ mostRows = rowWidth * mostEvents
 unfoldable pub workingOf : (file correction : List ℕ) (event hour : ℕ) → Working
 workingOf f k i h =
     cond (eqb (refusal f k mostRows) 0)
-    (cond (ltb i (decode f .events .count) && ltb h hours) (workingAt (decode f) i h) (refused 10))
-    (refused (refusal f k mostRows))
+    (cond (ltb i (decode f .events .count) && ltb h hours) (workingAt (decode f) i h) (refusedWorking 10))
+    (refusedWorking (refusal f k mostRows))
 
 -- a working shows why its hour is flagged: the hour is flagged exactly where a comparison fails
 abbrev pub FlaggedWhereFailed : Type 0

@@ -1,4 +1,3 @@
 // The pencil working of one hour of one event: its figures, and the comparisons of its conduct test.
 pub mod figures;
-pub mod steps;
 pub mod working;

@@ -12,17 +12,11 @@ ghost use Rattle.conduct.specs.Stages.{Below, ledSum, totalRead};
 ghost use Rattle.sanctions.specs.Found.{Accepted, Found};
 ghost use Rattle.settlement.specs.Stages.{FoundFlags};
 ghost use Rattle.working.specs.Stages.{AcceptedCase};
-ghost use Rattle.working.specs.Working.{sumsOf, figuresWith, stepsFor, decrease, workingFrom, countsOf, workingAt, refused, workingOf};
+ghost use Rattle.working.specs.Working.{sumsOf, figuresWith, comparisonsFor, decrease, workingFrom, countsOf, workingAt, refusedWorking, workingOf};
 use crate::figures::Counts;
 use crate::figures::Figures;
 use crate::figures::Sums;
 use crate::figures::Working;
-use crate::steps::Steps;
-use crate::steps::bid_steps;
-use crate::steps::dispatch_steps;
-use crate::steps::fuel_steps;
-use crate::steps::no_steps;
-use crate::steps::withheld_steps;
 use binary::bytes::load_u8;
 use binary::bytes::load_u16;
 use binary::bytes::load_u32;
@@ -45,6 +39,12 @@ use conduct::sums::party_sums;
 use conduct::sums::time_increases;
 use conduct::sums::time_keys;
 use sanctions::penalties::find_penalties;
+use tariff::comparisons::Comparisons;
+use tariff::comparisons::bid_comparisons;
+use tariff::comparisons::dispatch_comparisons;
+use tariff::comparisons::fuel_comparisons;
+use tariff::comparisons::no_comparisons;
+use tariff::comparisons::withheld_comparisons;
 use tariff::conduct::increase;
 
 // Limit 15 never applies: rows for every case.
@@ -88,7 +88,7 @@ fn party_figures(
 }
 
 // The positive d of event i's unit, day and market in hour h, added, where its component reads them.
-fn time_total(events: &[u8], levels: &[u32], i: usize, h: usize) -> u64
+fn total_read(events: &[u8], levels: &[u32], i: usize, h: usize) -> u64
     requires { ⌜ (i < length (now events) / eventWidth) × (h < hours) × (length (now events) / eventWidth ≤ mostEvents) × (length (now events) / eventWidth ≤ length (now levels)) ⌝ }
     ensures { λ r. ⌜ r ≡ totalRead (caseIn [] [] [] (now (events .entry))) (now (levels .entry)) i h ⌝ }
 {
@@ -185,22 +185,22 @@ fn figures_at(
 }
 
 // The comparisons of the hour's test, by its kind.
-fn steps_for(f: Figures) -> Steps
+fn comparisons_for(f: Figures) -> Comparisons
     requires { ⌜ f .s ≤ 1099511627776 ⌝ }
-    ensures { λ r. ⌜ r ≡ stepsFor f ⌝ }
+    ensures { λ r. ⌜ r ≡ comparisonsFor f ⌝ }
 {
     let kind = f.kind;
     if kind == 1 {
-        return withheld_steps(f.a, f.capability, f.s, f.g, f.tight);
+        return withheld_comparisons(f.a, f.capability, f.s, f.g, f.tight);
     }
     if kind == 2 {
-        return dispatch_steps(f.a, f.rate, f.s, f.tight);
+        return dispatch_comparisons(f.a, f.rate, f.s, f.tight);
     }
     if kind == 3 {
-        return fuel_steps(f.fuel_events);
+        return fuel_comparisons(f.fuel_events);
     }
     if kind == 4 {
-        return bid_steps(
+        return bid_comparisons(
             f.component,
             f.reference,
             f.a,
@@ -211,7 +211,7 @@ fn steps_for(f: Figures) -> Steps
             f.total,
         );
     }
-    no_steps()
+    no_comparisons()
 }
 
 // r - a, or 0 if negative.
@@ -227,18 +227,18 @@ fn working_from(f: Figures, flagged: bool, counts: Counts) -> Working
     requires { ⌜ f .s ≤ 1099511627776 ⌝ }
     ensures { λ r. ⌜ r ≡ workingFrom f flagged counts ⌝ }
 {
-    let steps = steps_for(f);
+    let comparisons = comparisons_for(f);
     let bid = f.kind == 4;
     let up = increase(f.reference, f.a);
     let down = decrease(f.reference, f.a);
-    let left = steps.left;
-    let right = steps.right;
+    let left = comparisons.left;
+    let right = comparisons.right;
     Working {
         number: 0,
         flagged,
         tight: f.tight,
-        failed: steps.failed,
-        taken: steps.taken,
+        failed: comparisons.failed,
+        taken: comparisons.taken,
         a: f.a,
         reference: f.reference,
         increase: choose_u32(bid, up, 0),
@@ -253,8 +253,8 @@ fn working_from(f: Figures, flagged: bool, counts: Counts) -> Working
     }
 }
 
-fn refused(number: u8) -> Working
-    ensures { λ r. ⌜ r ≡ refused number ⌝ }
+fn refused_working(number: u8) -> Working
+    ensures { λ r. ⌜ r ≡ refusedWorking number ⌝ }
 {
     Working {
         number,
@@ -298,7 +298,7 @@ fn working_found(
     let flagged = bit_of(masks[i], h);
     let counts = row_counts(units, references, past, events, groups, leaders, masks, i);
     let sums = party_figures(units, events, groups, leaders, i, h);
-    let total = time_total(events, levels, i, h);
+    let total = total_read(events, levels, i, h);
     let figures = figures_at(units, events, places[i], levels[i], sums, total, i, h);
     working_from(figures, flagged, counts)
 }
@@ -354,7 +354,7 @@ pub fn working<'a>(file: &'a [u8], correction: &'a [u8], event: usize, hour: usi
 {
     let number = check(file, correction, MOST_ROWS);
     if number != 0 {
-        return refused(number);
+        return refused_working(number);
     }
     let units = section(file, 0);
     let references = section(file, 1);
@@ -363,5 +363,5 @@ pub fn working<'a>(file: &'a [u8], correction: &'a [u8], event: usize, hour: usi
     if (event < events.len() / layout::EVENT_WIDTH) & (hour < layout::HOURS) {
         return working_at(units, references, past, events, event, hour);
     }
-    refused(10)
+    refused_working(10)
 }

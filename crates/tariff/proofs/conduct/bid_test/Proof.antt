@@ -1,4 +1,5 @@
 use Rattle.tariff.specs.Conduct.{bidTest}
+use Rattle.tariff.proofs.PercentLaws.{minimum-is, at-maximum}
 use Rattle.tariff.proofs.conduct.bid_test.Statement.{statement}
 use Rattle.tariff.proofs.conduct.bid_test.Tie as tie
 
@@ -14,4 +15,4 @@ bid-test-spec =
     (λ c κs. tt)
     (λ c κs. tt)
     (λ c κs. tt)
-    (λ c. rw (c .maximum-test .ensures, c .before .time-test .ensures, c .before .before .percent-test .ensures, c .before .before .before .constrained-test .ensures, c .before .before .before .before .lower-test .ensures, c .before .before .before .before .before .increase .ensures, c .before .before .before .before .before .before .of .ensures)))
+    (λ c. rw (c .maximum-test .ensures, c .before .time-test .ensures, c .before .before .percent-test .ensures, c .before .before .before .constrained-test .ensures, c .before .before .before .before .lower-test .ensures, c .before .before .before .before .before .increase .ensures, c .before .before .before .before .before .before .of .ensures, at-maximum, ← minimum-is)))

@@ -15,7 +15,7 @@ unfolding constrainedTest
 constrained-test-spec =
     tie.close
     (tie.spec
+    (λ c. omega (arith, small c))
+    (λ c. omega (arith, small c))
     (λ c. search needs)
-    (λ c. omega (arith, small c))
-    (λ c. omega (arith, small c))
     (λ c. refl))

@@ -1,5 +1,6 @@
 use borrow.Author.Needs.{needs}
 use Rattle.tariff.specs.Conduct.{lowerTest}
+use Rattle.tariff.proofs.PercentLaws.{hundredths}
 use Rattle.tariff.proofs.conduct.lower_test.Statement.{statement}
 use Rattle.tariff.proofs.conduct.lower_test.Tie as tie
 
@@ -16,4 +17,4 @@ lower-test-spec =
     (λ c κs. tt)
     (λ c. search needs)
     (λ c. search needs)
-    (λ c. rw (c .smaller .ensures, c .before .product .ensures .0, c .before .before .increase .ensures, c .before .before .before .positive-part .ensures)))
+    (λ c. rw (c .smaller .ensures, c .before .product .ensures .0, c .before .before .increase .ensures, c .before .before .before .positive-part .ensures, hundredths)))

@@ -1,5 +1,6 @@
 use borrow.Author.Needs.{needs}
 use Rattle.tariff.specs.Conduct.{percentTest}
+use Rattle.tariff.proofs.PercentLaws.{hundredth}
 use Rattle.tariff.proofs.conduct.percent_test.Statement.{statement}
 use Rattle.tariff.proofs.conduct.percent_test.Tie as tie
 
@@ -10,4 +11,4 @@ percent-test-spec =
     (tie.spec
     (λ c κs. tt)
     (λ c. search needs)
-    (λ c. rw (c .product .ensures .0)))
+    (λ c. rw (c .product .ensures .0, hundredth)))

@@ -18,7 +18,7 @@ working-spec =
     (λ c κs. tt)
     (λ c.
     let a = c .before .before .before .before .before .args in
-    c .refused .ensures ∙ refused-is (a .file .now) (a .correction .now) _ _ _ (c .before .before .check .ensures) (c .before .if1 .taken))
+    c .refused-working .ensures ∙ refused-is (a .file .now) (a .correction .now) _ _ _ (c .before .before .check .ensures) (c .before .if1 .taken))
     (λ c κs. let a = c .before .before .before .before .args in case.has-section (a .file .now) (a .correction .now) _ (fine c) 0 (omega arith))
     (λ c κs. let a = c .before .before .before .before .before .args in case.has-section (a .file .now) (a .correction .now) _ (fine (c .before)) 1 (omega arith))
     (λ c κs. let a = c .before .before .before .before .before .before .args in case.has-section (a .file .now) (a .correction .now) _ (fine (c .before .before)) 2 (omega arith))
@@ -36,6 +36,4 @@ working-spec =
     (λ c κs. tt)
     (λ c.
     let a = c .before .before .before .before .before .before .before .before .before .before .args in
-    c .refused2 .ensures
-    ∙ outside-is (a .file .now) (a .correction .now) _ _ _ _ (c .before .before .before .before .before .section .ensures) (c .before .before .before .before .section2 .ensures) (c .before .before .before .section3 .ensures) (c .before .before .section4 .ensures) (fine (c .before .before .before .before .before .before))
-    (a .event) (a .hour) (c .before .if2 .left)))
+    rw (c .refused-working2 .ensures, ← outside-is (a .file .now) (a .correction .now) _ _ _ _ (c .before .before .before .before .before .section .ensures) (c .before .before .before .before .section2 .ensures) (c .before .before .before .section3 .ensures) (c .before .before .section4 .ensures) (fine (c .before .before .before .before .before .before)) (a .event) (a .hour) (c .before .if2 .left))))

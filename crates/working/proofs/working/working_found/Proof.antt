@@ -39,7 +39,7 @@ returns c =
     let found = s .pre .1 .0 in
     working-full (caseIn (a .units .now) (a .references .now) (a .past .now) (a .events .now)) (a .i) (a .h) _ _ _ _ (c .working-from .ensures)
     (figures-full (a .units .now) (a .references .now) (a .past .now) (a .events .now) (a .levels .now) (found .level-held) (a .i) (a .h) _ _ _ l (c .before .figures-at .ensures)
-    (c .before .before .before .before .before .party-figures .ensures .0) (c .before .before .before .before .time-total .ensures))
+    (c .before .before .before .before .before .party-figures .ensures .0) (c .before .before .before .before .total-read .ensures))
     (c .before .before .before .before .before .before .before .bit-of .ensures ∙ flag-is (a .units .now) (a .references .now) (a .past .now) (a .events .now) (a .masks .now) (a .i) (a .h) (found .found .mask-held _ l) (s .pre .1 .1 .1))
     (c .before .before .before .before .before .before .row-counts .ensures)
 

@@ -13,4 +13,4 @@ working-from-spec =
     (λ c κs. search needs)
     (λ c κs. search needs)
     (λ c κs. search needs)
-    (λ c. rw (c .choose-u64 .ensures, c .before .choose-u32 .ensures, c .before .before .before .before .decrease .ensures, c .before .before .before .before .before .increase .ensures, c .before .before .before .before .before .before .before .steps-for .ensures)))
+    (λ c. rw (c .choose-u64 .ensures, c .before .choose-u32 .ensures, c .before .before .before .before .decrease .ensures, c .before .before .before .before .before .increase .ensures, c .before .before .before .before .before .before .before .comparisons-for .ensures)))
