@@ -1,17 +1,20 @@
 -- The exported structs, from the answers of the public calls.
-use Rattle.tariff.specs.Answer as tariff
+use mathlib.Core.Bool.{false}
+use Rattle.calls.specs.Answers as calls
 use Rattle.settlement.specs.Settled as settled
-use Rattle.api.specs.declared.answer.Answer.{Answer}
-use Rattle.api.specs.declared.answer.TimeAnswer.{TimeAnswer}
+use Rattle.api.specs.declared.exported_answers.Answer.{Answer}
+use Rattle.api.specs.declared.exported_answers.TimeAnswer.{TimeAnswer}
 use Rattle.api.specs.declared.case.Outcome.{Outcome}
 
--- document 01's number and the figure, as they stand
-abbrev pub exported : tariff.Answer → Answer
-exported a = record { number = a .number; figure = a .figure }
+-- document 01's number, and 0 for no figure; or 0 and the figure
+abbrev pub exported : calls.Answer → Answer
+exported (calls.refused n) = record { number = n; figure = 0 }
+exported (calls.given x) = record { number = 0; figure = x }
 
-abbrev pub exportedTimes : tariff.TimeAnswer → TimeAnswer
-exportedTimes t =
-    record { number = t .number; «start_up» = t .startUp; «minimum_run» = t .minimumRun; «minimum_down» = t .minimumDown }
+abbrev pub exportedTimes : calls.TimeAnswer → TimeAnswer
+exportedTimes (calls.timesRefused n) =
+    record { number = n; «start_up» = false; «minimum_run» = false; «minimum_down» = false }
+exportedTimes (calls.timesGiven x y z) = record { number = 0; «start_up» = x; «minimum_run» = y; «minimum_down» = z }
 
 abbrev pub exportedSettlement : settled.Answer → Outcome
 exportedSettlement a =

@@ -1,8 +1,8 @@
 // What other languages call. include/attachment_h.h and rust/attachment_h declare these functions again.
-pub mod answer;
-pub mod calls;
 pub mod case;
+pub mod exported_answers;
+pub mod smaller_calls;
 
-pub use answer::Answer;
-pub use answer::TimeAnswer;
 pub use case::Outcome;
+pub use exported_answers::Answer;
+pub use exported_answers::TimeAnswer;

@@ -1,23 +1,23 @@
 // The pencil sheet of document 01, run on the small public calls: each line with its answer.
-mod conduct;
-mod default_bids;
+mod conduct_lines;
+mod default_bid_lines;
 mod lines;
 mod print;
-mod refusals;
-mod sanctions;
+mod refused_lines;
+mod sanction_lines;
 
 fn main() {
-    conduct::withheld();
-    conduct::bids();
-    conduct::times();
-    sanctions::penalties();
-    sanctions::windows();
-    default_bids::spans();
-    default_bids::in_force();
-    refusals::reference_refusals();
-    refusals::bid_refusals();
-    refusals::withheld_refusals();
-    refusals::sanction_refusals();
-    refusals::fuel_refusals();
-    refusals::default_bid_refusals();
+    conduct_lines::withheld();
+    conduct_lines::bids();
+    conduct_lines::times();
+    sanction_lines::penalties();
+    sanction_lines::windows();
+    default_bid_lines::spans();
+    default_bid_lines::in_force();
+    refused_lines::reference_refusals();
+    refused_lines::bid_refusals();
+    refused_lines::withheld_refusals();
+    refused_lines::sanction_refusals();
+    refused_lines::fuel_refusals();
+    refused_lines::default_bid_refusals();
 }

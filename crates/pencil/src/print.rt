@@ -1,8 +1,8 @@
 // Text, numbers and answers on standard output.
 use binary::masks::bit_of;
-use tariff::Figure;
-use tariff::TimeVerdict;
-use tariff::Verdict;
+use calls::Figure;
+use calls::TimeVerdict;
+use calls::Verdict;
 
 pub fn text(s: &[u8]) {
     io::write_all(libc::STDOUT_FILENO, s);

@@ -1,4 +1,3 @@
 pub mod ComparisonLaws
 pub mod PercentLaws
-pub mod RangeLaws
 pub mod RuleLaws

@@ -1,9 +1,6 @@
-pub mod Answer
 pub mod Ranges
 pub mod Threshold
 pub mod Conduct
 pub mod Comparisons
 pub mod Sanctions
 pub mod DefaultBids
-pub mod Calls
-pub mod Pencil

@@ -1,6 +1,4 @@
-// The rules of document 01 on plain numbers, and the smaller public calls over them.
-pub mod answer;
-pub mod calls;
+// The rules of document 01 on plain numbers.
 pub mod comparisons;
 pub mod conduct;
 pub mod default_bids;
@@ -8,7 +6,4 @@ pub mod ranges;
 pub mod sanctions;
 pub mod threshold;
 
-pub use answer::Figure;
-pub use answer::TimeVerdict;
-pub use answer::Verdict;
 pub use threshold::Threshold;

@@ -1,0 +1,70 @@
+// The answers that cross to other languages, which take no enum.
+ghost use mathlib.Core.Path.{_≡_};
+ghost use Rattle.calls.specs.Answers.{verdictAnswer, figureAnswer, timeAnswer};
+ghost use Rattle.api.specs.Exported.{exported, exportedTimes};
+use calls::answers::Figure;
+use calls::answers::TimeVerdict;
+use calls::answers::Verdict;
+
+// The refusal's number, or 0 and the figure; a question's figure is 1 for yes.
+#[repr(C)]
+pub struct Answer {
+    pub number: u8,
+    pub figure: u64,
+}
+
+// The refusal's number, or 0 and which of the three times fail.
+#[repr(C)]
+pub struct TimeAnswer {
+    pub number: u8,
+    pub start_up: bool,
+    pub minimum_run: bool,
+    pub minimum_down: bool,
+}
+
+pub fn of_verdict(verdict: Verdict) -> Answer
+    ensures { λ r. ⌜ r ≡ exported (verdictAnswer verdict) ⌝ }
+{
+    match verdict {
+        Verdict::Refused(number) => Answer { number, figure: 0 },
+        Verdict::No => Answer {
+            number: 0,
+            figure: 0,
+        },
+        Verdict::Yes => Answer {
+            number: 0,
+            figure: 1,
+        },
+    }
+}
+
+pub fn of_figure(figure: Figure) -> Answer
+    ensures { λ r. ⌜ r ≡ exported (figureAnswer figure) ⌝ }
+{
+    match figure {
+        Figure::Refused(number) => Answer { number, figure: 0 },
+        Figure::Value(value) => Answer {
+            number: 0,
+            figure: value,
+        },
+    }
+}
+
+pub fn of_times(times: TimeVerdict) -> TimeAnswer
+    ensures { λ r. ⌜ r ≡ exportedTimes (timeAnswer times) ⌝ }
+{
+    match times {
+        TimeVerdict::Refused(number) => TimeAnswer {
+            number,
+            start_up: false,
+            minimum_run: false,
+            minimum_down: false,
+        },
+        TimeVerdict::Fails(start_up, minimum_run, minimum_down) => TimeAnswer {
+            number: 0,
+            start_up,
+            minimum_run,
+            minimum_down,
+        },
+    }
+}

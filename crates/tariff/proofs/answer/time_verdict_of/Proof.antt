@@ -1,9 +1,0 @@
-use Rattle.tariff.proofs.answer.time_verdict_of.Statement.{statement}
-use Rattle.tariff.proofs.answer.time_verdict_of.Tie as tie
-
-pub time-verdict-of-spec : {M : Type 1} → statement M
-time-verdict-of-spec =
-    tie.close
-    (tie.spec
-    (λ c. rw (c .if1 .taken))
-    (λ c. rw (c .if1 .left)))
