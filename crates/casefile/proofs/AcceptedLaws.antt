@@ -97,7 +97,7 @@ module _ (f k : List ℕ) (n : ℕ) (h : refusal f k n ≡ 0) where
   days-in-order i j l m unit =
       let r = events-rise i j l m in
       let e = event-ranges j m in
-      let kind = e .most in
+      let kind = e .kind in
       let market = e .market in
       let component = e .component in
       omega arith

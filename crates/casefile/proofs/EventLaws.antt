@@ -8,6 +8,7 @@ use lib.ListN.{length, take, drop}
 use Rattle.binary.specs.Bounded.{allTo}
 use Rattle.binary.proofs.BoundedLaws.{all-at, all-same}
 use Rattle.binary.proofs.ByteLaws.{value-drop}
+use Rattle.tariff.specs.Ranges.{highestDay}
 use Rattle.casefile.specs.Layout.{eventWidth, cellsOffset, hours}
 use Rattle.casefile.specs.Case.{Units, Events}
 use Rattle.casefile.specs.Decode.{recordAt, eventsIn, amountsIn}
@@ -86,7 +87,7 @@ unreadable s i h = unreadable-of _ _ h
 
 -- ---- from one check to the next
 
-pub events-day : (s : List ℕ) (i : ℕ) → eventsFine s ≡ true → i < length s / eventWidth → eventsIn s .day i ≤ 1000000
+pub events-day : (s : List ℕ) (i : ℕ) → eventsFine s ≡ true → i < length s / eventWidth → eventsIn s .day i ≤ highestDay
 unfolding eventsFine eventsIn
 events-day s i h l = event-range (eventsIn s) (amountsIn s) i (all-at (length s / eventWidth) i (eventFine (eventsIn s) (amountsIn s)) l h) .day
 

@@ -10,21 +10,18 @@ use borrow.Author.Tests.{leb-true, eqb-true, le-ltb}
 use Rattle.binary.specs.Bounded.{allTo}
 use Rattle.binary.proofs.Implies.{and-l, and-r}
 use Rattle.binary.proofs.BoundedLaws.{all-at}
+use Rattle.tariff.specs.Ranges.{highestCapability}
 use Rattle.casefile.specs.Case.{References, Events}
 use Rattle.casefile.specs.Decode.{unitsIn, eventsIn, amountsIn}
 use Rattle.casefile.specs.Lookup.{isListed, placeOf, hasReference, readsCorrect, Rising}
 use Rattle.casefile.specs.Refusal.{sizeFine, rises, unitFine, unitsFine, hourFine, eventFine, eventsFine, eventKey, orderFine, eventListed, eventsListed, withinCapability, amountFine, amountsFine, referenceFound, referencesFound}
 use Rattle.casefile.proofs.EventLaws.{events-place}
-use Rattle.casefile.proofs.RangeLaws.{or-right, of-kind, UnitRange, EventRange, CellRange, unit-range, event-range, cell-range, rising}
+use Rattle.casefile.proofs.RangeLaws.{or-right, of-kind, EventRange, CellRange, capability-range, event-range, cell-range, rising}
 
 -- a stretch of so many bytes is whole records, and not too many
 pub sized : (n width most : ℕ) → sizeFine n width most ≡ true → (n % width ≡ 0) × (n / width ≤ most)
 unfolding sizeFine
 sized n width most h = (eqb-true (n % width) 0 (search (and-l, and-r)), leb-true (n / width) most (search (and-l, and-r)))
-
-pub unit-ranges : (u : List ℕ) → unitsFine u ≡ true → (i : ℕ) → i < unitsIn u .count → UnitRange (unitsIn u) i
-unfolding unitsFine
-unit-ranges u h i l = unit-range u i (all-at (unitsIn u .count) i (unitFine u) l h)
 
 -- ---- events
 
@@ -37,7 +34,7 @@ module _ (e : List ℕ) (h : eventsFine e ≡ true) where
   event-ranges i l = event-range (eventsIn e) (amountsIn e) i (fine i l)
 
   pub cell-ranges : (i x : ℕ) → i < eventsIn e .count → x < eventsIn e .hours i
-      → CellRange (eventsIn e .kind i) (eventsIn e .component i) (amountsIn e i x) (eventsIn e .b i x) (eventsIn e .m i x)
+      → CellRange (eventsIn e .kind i) (amountsIn e i x) (eventsIn e .b i x) (eventsIn e .m i x)
   unfolding eventFine hourFine
   cell-ranges i x l m =
       let t : allTo (eventsIn e .hours i) (hourFine (eventsIn e) (amountsIn e) i) ≡ true = let u = fine i l in search and-r in
@@ -72,9 +69,11 @@ amount-capability u e h i x l m kind =
     leb-true _ _ (all-at (eventsIn e .hours i) x (withinCapability (unitsIn u) (eventsIn e) (amountsIn e) i) m w)
 
 pub amount-bound : (u e : List ℕ) → unitsFine u ≡ true → eventsListed (unitsIn u) (eventsIn e) ≡ true → amountsFine (unitsIn u) e ≡ true
-    → (i x : ℕ) → i < eventsIn e .count → x < eventsIn e .hours i → eventsIn e .kind i ≤ 2 → amountsIn e i x ≤ 50000
+    → (i x : ℕ) → i < eventsIn e .count → x < eventsIn e .hours i → eventsIn e .kind i ≤ 2 → amountsIn e i x ≤ highestCapability
+unfolding unitsFine
 amount-bound u e units listed h i x l m kind =
-    le-trans (amount-capability u e h i x l m kind) (unit-ranges u units _ (events-place (unitsIn u) (eventsIn e) i listed l) .capability)
+    let place = events-place (unitsIn u) (eventsIn e) i listed l in
+    le-trans (amount-capability u e h i x l m kind) (capability-range u _ (all-at (unitsIn u .count) _ (unitFine u) place units))
 
 -- ---- r and c of kind 4
 

@@ -8,7 +8,7 @@ use lib.ListN.{length}
 use Rattle.binary.specs.Bounded.{allTo}
 use Rattle.binary.specs.Bytes.{byteAt, u16At}
 use Rattle.binary.specs.Word.{within}
-use Rattle.tariff.specs.Ranges.{referenceInRange, bidInRange}
+use Rattle.tariff.specs.Ranges.{highestArea, lowestCapability, highestCapability, highestRate, highestAveragePrice, mostConstrainedHours, highestComponent, referenceInRange, highestMarket, highestDay, lowestKind, highestKind, highestImpact, highestPrice, highestRevenue, highestFuelMoney, highestEnergy, highestPriceChange, mostRunHours, highestMegawatts, bidInRange}
 use Rattle.casefile.specs.Layout.{version, sectionCount, headerWidth, longestFile, unitWidth, referenceWidth, pastWidth, eventWidth, mostUnits, mostReferences, mostPast, mostEvents, rowWidth}
 use Rattle.casefile.specs.Case.{Units, References, Violation, Events}
 use Rattle.casefile.specs.Decode.{offsetOf, lengthOf, sectionOf, recordAt, unitsIn, referencesIn, pastIn, eventsIn, amountsIn}
@@ -50,8 +50,8 @@ rises key i = eqb i 0 || ltb (key (i - 1)) (key i)
 -- 6: a unit's fields
 unfoldable pub unitFieldsFine : (area capability rate averagePrice constrainedHours : ℕ) → Bool
 unitFieldsFine area capability rate averagePrice constrainedHours =
-    leb area 1 && leb 1 capability && leb capability 50000 && leb rate 50000 && leb averagePrice 1000000
-    && leb constrainedHours 8784
+    leb area highestArea && leb lowestCapability capability && leb capability highestCapability && leb rate highestRate
+    && leb averagePrice highestAveragePrice && leb constrainedHours mostConstrainedHours
 
 -- bytes 5 to 7 and 22 to 23 of a unit's record
 unfoldable pub unitSpareFine : List ℕ → Bool
@@ -69,7 +69,7 @@ unitsFine s = allTo (unitsIn s .count) (unitFine s)
 
 -- 7: a reference, among these units
 unfoldable pub referenceFieldsFine : (component value : ℕ) → Bool
-referenceFieldsFine component value = leb component 8 && referenceInRange component value
+referenceFieldsFine component value = leb component highestComponent && referenceInRange component value
 
 unfoldable pub referenceFine : Units → List ℕ → ℕ → Bool
 referenceFine u s i =
@@ -87,7 +87,7 @@ correctionFine u s = sizeFine (length s) referenceWidth mostReferences && refere
 
 -- 9: a past entry's fields, and bytes 6 to 7
 unfoldable pub violationFine : Violation → Bool
-violationFine v = (eqb (v .kind) 1 || eqb (v .kind) 3) && leb (v .market) 1 && leb (v .day) 1000000
+violationFine v = (eqb (v .kind) 1 || eqb (v .kind) 3) && leb (v .market) highestMarket && leb (v .day) highestDay
 
 unfoldable pub entryFine : List ℕ → ℕ → Bool
 entryFine s i = violationFine (pastIn s .entry i) && eqb (u16At (recordAt pastWidth s i) 6) 0
@@ -108,24 +108,24 @@ unfoldable pub quantitiesFine : (hours kind market Q R : ℕ) → Bool
 quantitiesFine hours kind market Q R =
     ofKind 1 kind (eqb Q 0 && eqb R 0)
     && ofKind 2 kind (eqb Q 0 && eqb R 0)
-    && ofKind 3 kind (within 32 1000000000 Q && within 32 1000000000 R && (eqb market 0 || eqb R 0))
-    && ofKind 4 kind (maskFine hours Q && leb R 24)
+    && ofKind 3 kind (within 32 highestFuelMoney Q && within 32 highestFuelMoney R && (eqb market 0 || eqb R 0))
+    && ofKind 4 kind (maskFine hours Q && leb R mostRunHours)
 
 unfoldable pub fieldsFine : (hours kind market component impact day P Q R : ℕ) → Bool
 fieldsFine hours kind market component impact day P Q R =
-    leb 1 kind && leb kind 4 && leb market 1 && ofKind 2 kind (eqb market 1)
-    && leb component 8 && (eqb kind 4 || eqb component 0)
-    && leb impact 1 && (leb kind 2 || eqb impact 0)
-    && leb day 1000000 && maskFine hours P
+    leb lowestKind kind && leb kind highestKind && leb market highestMarket && ofKind 2 kind (eqb market 1)
+    && leb component highestComponent && (eqb kind 4 || eqb component 0)
+    && leb impact highestImpact && (leb kind 2 || eqb impact 0)
+    && leb day highestDay && maskFine hours P
     && quantitiesFine hours kind market Q R
 
 -- an hour cell, by kind
 unfoldable pub cellFine : (kind component a b m : ℕ) → Bool
 cellFine kind component a b m =
-    ofKind 1 kind (within 32 1000000 b && eqb m 0)
-    && ofKind 2 kind (leb b 100000000 && eqb m 0)
-    && ofKind 3 kind (leb a 50000 && within 32 1000000 b && eqb m 0)
-    && ofKind 4 kind (bidInRange component a && within 32 1000000 b && leb m 50000)
+    ofKind 1 kind (within 32 highestPrice b && eqb m 0)
+    && ofKind 2 kind (leb b highestRevenue && eqb m 0)
+    && ofKind 3 kind (leb a highestEnergy && within 32 highestPriceChange b && eqb m 0)
+    && ofKind 4 kind (bidInRange component a && within 32 highestPrice b && leb m highestMegawatts)
 
 -- hour h of event i
 unfoldable pub hourFine : Events → (a : ℕ → ℕ → ℕ) → (i h : ℕ) → Bool

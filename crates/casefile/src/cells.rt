@@ -9,7 +9,7 @@ ghost use Rattle.casefile.specs.Read.{cellOf, cellFineAt, amountWithin};
 use crate::layout;
 use binary::bytes::load_u32;
 use binary::words::is_within;
-use tariff::ranges::bid_in_range;
+use tariff::ranges;
 
 pub struct Cell {
     pub a: u32,
@@ -34,12 +34,13 @@ pub fn cell_at(cells: &[u8], h: usize) -> Cell
 fn cell_fine(kind: u8, component: u8, a: u32, b: u32, m: u32) -> bool
     ensures { λ r. ⌜ r ≡ cellFine kind component a b m ⌝ }
 {
-    let bid = bid_in_range(component, a);
-    let price = is_within(1_000_000, b);
+    let bid = ranges::bid_in_range(component, a);
+    let price = is_within(ranges::HIGHEST_PRICE, b);
+    let change = is_within(ranges::HIGHEST_PRICE_CHANGE, b);
     ((kind != 1) | (price & (m == 0)))
-        & ((kind != 2) | ((b <= 100_000_000) & (m == 0)))
-        & ((kind != 3) | ((a <= 50_000) & price & (m == 0)))
-        & ((kind != 4) | (bid & price & (m <= 50_000)))
+        & ((kind != 2) | ((b <= ranges::HIGHEST_REVENUE) & (m == 0)))
+        & ((kind != 3) | ((a <= ranges::HIGHEST_ENERGY) & change & (m == 0)))
+        & ((kind != 4) | (bid & price & (m <= ranges::HIGHEST_MEGAWATTS)))
 }
 
 fn cell_fine_at(kind: u8, component: u8, cells: &[u8], h: usize) -> bool

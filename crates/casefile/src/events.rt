@@ -3,6 +3,7 @@ ghost use mathlib.Core.Bool.{true};
 ghost use mathlib.Core.Path.{_≡_};
 ghost use Prim.Native.Nat.{_/_, _<_, _≤_};
 ghost use lib.ListN.{length};
+ghost use Rattle.tariff.specs.Ranges.{highestDay};
 ghost use Rattle.casefile.specs.Layout.{eventWidth, hours};
 ghost use Rattle.casefile.specs.Decode.{unitsIn, referencesIn, eventsIn, amountsIn};
 ghost use Rattle.casefile.specs.Lookup.{UnitsInOrder, InOrder, readsCorrect};
@@ -20,6 +21,7 @@ use binary::bytes::load_u8;
 use binary::bytes::load_u16;
 use binary::bytes::load_u32;
 use binary::words::is_within;
+use tariff::ranges;
 
 pub struct Event {
     pub kind: u8,
@@ -63,12 +65,12 @@ pub fn event_at(events: &[u8], i: usize) -> Event
 fn quantities_fine(kind: u8, market: u8, q: u32, r: u32) -> bool
     ensures { λ t. ⌜ t ≡ quantitiesFine hours kind market q r ⌝ }
 {
-    let guarantee = is_within(1_000_000_000, q);
-    let congestion = is_within(1_000_000_000, r);
+    let guarantee = is_within(ranges::HIGHEST_FUEL_MONEY, q);
+    let congestion = is_within(ranges::HIGHEST_FUEL_MONEY, r);
     ((kind != 1) | ((q == 0) & (r == 0)))
         & ((kind != 2) | ((q == 0) & (r == 0)))
         & ((kind != 3) | (guarantee & congestion & ((market == 0) | (r == 0))))
-        & ((kind != 4) | ((q < layout::MASK_LIMIT) & (r <= 24)))
+        & ((kind != 4) | ((q < layout::MASK_LIMIT) & (r <= ranges::MOST_RUN_HOURS)))
 }
 
 // The ranges of an event's own fields, by kind.
@@ -85,15 +87,15 @@ fn fields_fine(
     ensures { λ t. ⌜ t ≡ fieldsFine hours kind market component impact day p q r ⌝ }
 {
     let quantities = quantities_fine(kind, market, q, r);
-    (1 <= kind)
-        & (kind <= 4)
-        & (market <= 1)
+    (ranges::LOWEST_KIND <= kind)
+        & (kind <= ranges::HIGHEST_KIND)
+        & (market <= ranges::HIGHEST_MARKET)
         & ((kind != 2) | (market == 1))
-        & (component <= 8)
+        & (component <= ranges::HIGHEST_COMPONENT)
         & ((kind == 4) | (component == 0))
-        & (impact <= 1)
+        & (impact <= ranges::HIGHEST_IMPACT)
         & ((kind <= 2) | (impact == 0))
-        & (day <= 1_000_000)
+        & (day <= ranges::HIGHEST_DAY)
         & (p < layout::MASK_LIMIT)
         & quantities
 }
@@ -140,7 +142,7 @@ pub fn reading_refusal(events: &[u8]) -> u8
 
 // The place of event i in the order: by day, kind, market, unit, component.
 fn event_key(events: &[u8], i: usize) -> u64
-    requires { ⌜ (i < length (now events) / eventWidth) × (eventsIn (now events) .day i ≤ 1000000) ⌝ }
+    requires { ⌜ (i < length (now events) / eventWidth) × (eventsIn (now events) .day i ≤ highestDay) ⌝ }
     ensures { λ r. ⌜ r ≡ eventKey (eventsIn (now (events .entry))) i ⌝ }
 {
     let event = record_at(events, i, layout::EVENT_WIDTH);

@@ -16,7 +16,7 @@ use binary::bytes::load_u8;
 use binary::bytes::load_u16;
 use binary::bytes::load_u32;
 use binary::numbers::choose_usize;
-use tariff::ranges::reference_in_range;
+use tariff::ranges;
 
 // The correction slice where it isn't empty, otherwise the case's own reference section.
 pub fn correct_references<'a>(correction: &'a [u8], own: &'a [u8]) -> &'a [u8]
@@ -32,7 +32,7 @@ pub fn correct_references<'a>(correction: &'a [u8], own: &'a [u8]) -> &'a [u8]
 fn reference_fields_fine(component: u8, value: u32) -> bool
     ensures { λ r. ⌜ r ≡ referenceFieldsFine component value ⌝ }
 {
-    (component <= 8) & reference_in_range(component, value)
+    (component <= ranges::HIGHEST_COMPONENT) & ranges::reference_in_range(component, value)
 }
 
 // The order of references: by unit, then component.

@@ -13,6 +13,7 @@ use binary::bytes::load_u8;
 use binary::bytes::load_u16;
 use binary::bytes::load_u32;
 use binary::numbers::choose_usize;
+use tariff::ranges;
 
 // The number of unit i.
 pub fn unit_number(units: &[u8], i: usize) -> u16
@@ -31,12 +32,12 @@ fn unit_fields_fine(
 ) -> bool
     ensures { λ r. ⌜ r ≡ unitFieldsFine area capability rate «average_price» «constrained_hours» ⌝ }
 {
-    (area <= 1)
-        & (1 <= capability)
-        & (capability <= 50_000)
-        & (rate <= 50_000)
-        & (average_price <= 1_000_000)
-        & (constrained_hours <= 8_784)
+    (area <= ranges::HIGHEST_AREA)
+        & (ranges::LOWEST_CAPABILITY <= capability)
+        & (capability <= ranges::HIGHEST_CAPABILITY)
+        & (rate <= ranges::HIGHEST_RATE)
+        & (average_price <= ranges::HIGHEST_AVERAGE_PRICE)
+        & (constrained_hours <= ranges::MOST_CONSTRAINED_HOURS)
 }
 
 fn unit_spare_fine(unit: &[u8]) -> bool

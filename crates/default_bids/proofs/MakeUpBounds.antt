@@ -1,5 +1,5 @@
 -- Bounds of the make-ups of a case whose events are fine.
-use Prim.Native.Nat.{ℕ, _+_, _-_, _/_, _≤_, _<_, zero-le}
+use Prim.Native.Nat.{ℕ, _+_, _/_, _≤_, _<_, zero-le}
 use mathlib.Core.Bool.{true}
 use mathlib.Core.List.{List}
 use mathlib.Core.Path.{_≡_}
@@ -15,6 +15,7 @@ use Rattle.binary.proofs.Implies.{cond-bound}
 use Rattle.binary.proofs.WordLaws.{positive-lt, negative-le}
 use Rattle.tariff.specs.DefaultBids.{lesser, excess, hourMakeUp, makeUp}
 use Rattle.tariff.specs.Sanctions.{cents}
+use Rattle.tariff.specs.Ranges.{highestMegawatts}
 use Rattle.casefile.specs.Layout.{eventWidth, cellsOffset}
 use Rattle.casefile.specs.Decode.{recordAt, eventsIn}
 use Rattle.casefile.specs.Refusal.{eventsFine}
@@ -26,10 +27,10 @@ excess-bound : (x y : ℕ) → excess x y ≤ 4294967296
 unfolding excess
 excess-bound x y = omega (arith, positive-lt 32 x, negative-le 32 y (omega arith))
 
-pub tenths-bound : (cells : List ℕ) (k mask h : ℕ) → cellOf cells h .m ≤ 50000 → tenthsAt cells k mask h ≤ 214748364800000
+pub tenths-bound : (cells : List ℕ) (k mask h : ℕ) → cellOf cells h .m ≤ highestMegawatts → tenthsAt cells k mask h ≤ 214748364800000
 unfolding tenthsAt hourMakeUp
 tenths-bound cells k mask h l =
-    cond-bound (bitOf mask h) (λ t. product-bound _ _ 50000 4294967296 l (excess-bound (lesser (cellOf cells h .a) k) (cellOf cells h .b))) (λ t. zero-le)
+    cond-bound (bitOf mask h) (λ t. product-bound _ _ highestMegawatts 4294967296 l (excess-bound (lesser (cellOf cells h .a) k) (cellOf cells h .b))) (λ t. zero-le)
 
 pub make-up-bound : (r k tenths : ℕ) → makeUp r k tenths ≤ tenths + 1
 unfolding makeUp cents
@@ -39,5 +40,5 @@ pub megawatts-fine : (s : List ℕ) (i : ℕ) → eventsFine s ≡ true → i < 
     → MegawattsFine (drop cellsOffset (recordAt eventWidth s i))
 unfolding cellOf eventsIn
 megawatts-fine s i f l k h b =
-    let m : eventsIn s .m i h ≤ 50000 = cell-ranges s f i h l b .bid (eqb-true _ 4 k) .2 in
+    let m : eventsIn s .m i h ≤ highestMegawatts = cell-ranges s f i h l b .bid (eqb-true _ 4 k) in
     simp (value-drop, ← add-assoc) m

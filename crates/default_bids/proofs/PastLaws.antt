@@ -6,7 +6,7 @@ use Rattle.casefile.specs.Case.{References}
 use Rattle.casefile.specs.Decode.{caseIn}
 use Rattle.casefile.specs.Lookup.{unitOf, groupOf, referenceOf}
 use Rattle.conduct.specs.Flags.{tight, together, sumTogether, timeBid, timeTotal, bidFlag, groupCapability, groupSum, withheldFlag, dispatchFlag, fuelFlag, flagged, flagMask}
-use Rattle.default_bids.specs.Mitigation.{hit, mitigated, mitigatedMask, correctOf, bidInForce, makeUpTenths, makeUpOf, totalMakeUp}
+use Rattle.default_bids.specs.Mitigation.{hit, mitigated, mitigatedMask, correctOf, makeUpTenths, makeUpOf, totalMakeUp}
 
 module _ (u r p q e : List ℕ) where
   pub flags-past : flagMask (caseIn u r p e) ≡ flagMask (caseIn u r q e)

@@ -8,6 +8,7 @@ use lib.Dec.{eqb}
 use lib.ListN.{drop}
 use Rattle.binary.specs.Bounded.{sumTo, allTo, bitOf}
 use Rattle.tariff.specs.DefaultBids.{spanMask, correctedInForce, hourMakeUp, makeUp}
+use Rattle.tariff.specs.Ranges.{highestMegawatts}
 use Rattle.casefile.specs.Layout.{eventWidth, cellsOffset, hours}
 use Rattle.casefile.specs.Case.{Units, References, Events}
 use Rattle.casefile.specs.Decode.{recordAt, eventsIn}
@@ -74,7 +75,7 @@ bidBy u e a i place r c mitigated h = cond (eqb (e .kind i) 4) (hourBid (termsOf
 
 -- no cell has more than 50,000 tenths of MW
 abbrev pub MegawattsFine : (cells : List ℕ) → Type 0
-MegawattsFine cells = (h : ℕ) → h < hours → cellOf cells h .m ≤ 50000
+MegawattsFine cells = (h : ℕ) → h < hours → cellOf cells h .m ≤ highestMegawatts
 
 -- the make-up of hour h in tenths of a cent, 0 where it is not mitigated
 unfoldable pub tenthsAt : (cells : List ℕ) (c mitigated : ℕ) → ℕ → ℕ

@@ -6,6 +6,7 @@ ghost use Prim.Native.Nat.{_*_, _/_, _≤_, _<_};
 ghost use lib.ListN.{length, drop};
 ghost use Rattle.binary.specs.Bounded.{sumTo};
 ghost use Rattle.binary.specs.Lists.{listTo, Holds};
+ghost use Rattle.tariff.specs.Ranges.{highestMegawatts};
 ghost use Rattle.casefile.specs.Layout.{hours, cellWidth, eventWidth, longestFile};
 ghost use Rattle.casefile.specs.Decode.{referencesIn, eventsIn, caseIn};
 ghost use Rattle.casefile.specs.Refusal.{eventsFine};
@@ -24,7 +25,7 @@ use tariff::default_bids::make_up;
 
 // One hour, in tenths of a cent.
 fn hour_tenths(cells: &[u8], h: usize, correct: u32, mitigated: u32) -> u64
-    requires { ⌜ (h < hours) × (length (now cells) ≡ cellWidth * hours) × (cellOf (now cells) h .m ≤ 50000) ⌝ }
+    requires { ⌜ (h < hours) × (length (now cells) ≡ cellWidth * hours) × (cellOf (now cells) h .m ≤ highestMegawatts) ⌝ }
     ensures { λ r. ⌜ (r ≡ tenthsAt (now (cells .entry)) correct mitigated h) × (r ≤ 214748364800000) ⌝ }
 {
     let cell = cell_at(cells, h);

@@ -26,11 +26,11 @@ module _ (u p e : List ℕ) (acc : Accepted u p e) where
         hours = λ i. le-refl 24;
         withheld = λ i h l m k. (
           amount-bound u e (acc .units-fine) (acc .events-listed) (acc .amounts-fine) i h l m (omega arith),
-          cell-ranges e (acc .events-fine) i h l m .withheld k .0 .positive,
+          cell-ranges e (acc .events-fine) i h l m .withheld k,
         );
-        dispatch = λ i h l m k. cell-ranges e (acc .events-fine) i h l m .dispatch k .0;
-        fuel = λ i h l m k. let c = cell-ranges e (acc .events-fine) i h l m .fuel k in (c .0, c .1 .positive);
-        money = λ i l k. let v = event-ranges e (acc .events-fine) i l in (v .guarantee k .positive, v .congestion k .positive);
+        dispatch = λ i h l m k. cell-ranges e (acc .events-fine) i h l m .dispatch k;
+        fuel = λ i h l m k. cell-ranges e (acc .events-fine) i h l m .fuel k;
+        money = λ i l k. let v = event-ranges e (acc .events-fine) i l in (v .guarantee k, v .congestion k);
       }
 
 -- a case that breaks no limit is accepted

@@ -6,14 +6,14 @@ use mathlib.Core.Logic.{_≢_}
 use mathlib.Core.Path.{_≡_, refl, sym, _∙_, ap}
 use native.Mathlib.Nat.{mul-le-mul, mul-le-mul-left, mul-le-mul-right, mul-add, add-sub-of-le, div-mul-le-self, le-div-iff-mul-le}
 use native.Mathlib.Omega.{arith}
-use borrow.Author.Tests.{ltb-true, ltb-false, leb-true}
+use borrow.Author.Tests.{ltb-true, ltb-false}
 use lib.Dec.{T, ltb, leb, eqb, ltb→lt, lt→ltb, leb→le, eqb→eq}
 use Rattle.binary.specs.Word.{positivePart}
-use Rattle.binary.proofs.Implies.{_⇒_, mono, and-given, or-mono, and-right, and-l, and-r}
+use Rattle.binary.proofs.Implies.{_⇒_, mono, and-given, or-mono, and-right}
 use Rattle.tariff.specs.Threshold.{thresholdOf}
 use Rattle.tariff.specs.declared.threshold.Threshold.{Threshold}
 use Rattle.tariff.specs.Conduct.{exceeds, increase, lowerTest, constrainedTest, percentTest, timeTest, minimumComparison, maximumTest, bidTest, withheldTest, dispatchTest}
-use Rattle.tariff.specs.Sanctions.{cents, periodCounts, ladder, withheldPenalty, dispatchPenalty, fuelDayCounts, fuelCharge, fuelPenalty}
+use Rattle.tariff.specs.Sanctions.{cents, ladder, withheldPenalty, dispatchPenalty, fuelCharge, fuelPenalty}
 
 -- ---- conduct tests
 
@@ -130,13 +130,3 @@ fuel-penalty-mono M M′ gain loss T f g =
     go x y h false false p q = cents-mono 20 x y (omega arith) h
 
 -- ---- windows
-
--- the fuel window lies before the day, and reaches back 183 days
-pub fuel-day : (d e : ℕ) → fuelDayCounts d e ≡ true → (e < d) × (d ≤ e + 183)
-unfolding fuelDayCounts
-fuel-day d e h = (ltb-true e d (and-l (ltb e d) (leb d (e + 183)) h), leb-true d (e + 183) (and-r (ltb e d) (leb d (e + 183)) h))
-
--- a period that counts one before counts two before: N2 is at most N3
-pub period-wider : (k k′ p q : ℕ) → k ≤ k′ → periodCounts k p q ⇒ periodCounts k′ p q
-unfolding periodCounts
-period-wider k k′ p q h = let l : q + k ≤ q + k′ = omega arith in search mono

@@ -1,11 +1,12 @@
 use Prim.Native.Nat.{_≤_}
 use borrow.Author.Needs.{needs}
+use Rattle.tariff.specs.Ranges.{highestDay}
 use Rattle.casefile.specs.Decode.{eventsIn}
 use Rattle.casefile.specs.Refusal.{eventKey}
 use Rattle.casefile.proofs.events.event_key.Statement.{statement}
 use Rattle.casefile.proofs.events.event_key.Tie as tie
 
-day : (c : tie.After-load-u32) → c .load-u32 .result ≤ 1000000
+day : (c : tie.After-load-u32) → c .load-u32 .result ≤ highestDay
 unfolding eventsIn
 day c =
     let r = c .before .before .before .before .before in
