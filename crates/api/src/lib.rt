@@ -4,5 +4,5 @@ pub mod exported_answers;
 pub mod smaller_calls;
 
 pub use case::Outcome;
-pub use exported_answers::Answer;
-pub use exported_answers::TimeAnswer;
+pub use exported_answers::ExportedAnswer;
+pub use exported_answers::ExportedTimes;

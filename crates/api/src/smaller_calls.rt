@@ -4,8 +4,8 @@ ghost use Rattle.calls.specs.ConductCalls.{bidAnswer, timesAnswer, withheldAnsw
 ghost use Rattle.calls.specs.SanctionCalls.{multiplierAnswer, withheldPenaltyAnswer, dispatchPenaltyAnswer, fuelPenaltyAnswer, fuelDayAnswer, periodAnswer};
 ghost use Rattle.calls.specs.DefaultBidCalls.{spanAnswer, inForceAnswer, correctedInForceAnswer, makeUpAnswer};
 ghost use Rattle.api.specs.Exported.{exported, exportedTimes};
-use crate::exported_answers::Answer;
-use crate::exported_answers::TimeAnswer;
+use crate::exported_answers::ExportedAnswer;
+use crate::exported_answers::ExportedTimes;
 use crate::exported_answers::of_figure;
 use crate::exported_answers::of_times;
 use crate::exported_answers::of_verdict;
@@ -23,7 +23,7 @@ pub extern "C" fn attachment_h_bid_fails(
     tight: bool,
     average_price: u32,
     constrained_hours: u16,
-) -> Answer
+) -> ExportedAnswer
     ensures { λ r. ⌜ r ≡ exported (bidAnswer component reference bid market tight «average_price» «constrained_hours») ⌝ }
 {
     of_verdict(conduct_calls::bid_fails(
@@ -43,7 +43,7 @@ pub extern "C" fn attachment_h_times_fail(
     start_up: u32,
     minimum_run: u32,
     minimum_down: u32,
-) -> TimeAnswer
+) -> ExportedTimes
     ensures { λ r. ⌜ r ≡ exportedTimes (timesAnswer «start_up» «minimum_run» «minimum_down») ⌝ }
 {
     of_times(conduct_calls::times_fail(start_up, minimum_run, minimum_down))
@@ -57,7 +57,7 @@ pub extern "C" fn attachment_h_withheld_fails(
     s: u32,
     g: u32,
     tight: bool,
-) -> Answer
+) -> ExportedAnswer
     ensures { λ r. ⌜ r ≡ exported (withheldAnswer a capability s g tight) ⌝ }
 {
     of_verdict(conduct_calls::withheld_fails(a, capability, s, g, tight))
@@ -65,7 +65,12 @@ pub extern "C" fn attachment_h_withheld_fails(
 
 // Whether undelivered megawatts fail the conduct test; rate is the unit's response rate.
 #[no_mangle]
-pub extern "C" fn attachment_h_dispatch_fails(a: u32, rate: u32, s: u32, tight: bool) -> Answer
+pub extern "C" fn attachment_h_dispatch_fails(
+    a: u32,
+    rate: u32,
+    s: u32,
+    tight: bool,
+) -> ExportedAnswer
     ensures { λ r. ⌜ r ≡ exported (dispatchAnswer a rate s tight) ⌝ }
 {
     of_verdict(conduct_calls::dispatch_fails(a, rate, s, tight))
@@ -73,7 +78,7 @@ pub extern "C" fn attachment_h_dispatch_fails(a: u32, rate: u32, s: u32, tight: 
 
 // The multiplier in halves.
 #[no_mangle]
-pub extern "C" fn attachment_h_multiplier(n3: u32, n2: u32) -> Answer
+pub extern "C" fn attachment_h_multiplier(n3: u32, n2: u32) -> ExportedAnswer
     ensures { λ r. ⌜ r ≡ exported (multiplierAnswer n3 n2) ⌝ }
 {
     of_figure(sanction_calls::multiplier(n3, n2))
@@ -81,7 +86,11 @@ pub extern "C" fn attachment_h_multiplier(n3: u32, n2: u32) -> Answer
 
 // The penalty in cents for the megawatts withheld in the flagged hours, at their prices.
 #[no_mangle]
-pub extern "C" fn attachment_h_withheld_penalty(multiplier: u8, a: &[u32], b: &[u32]) -> Answer
+pub extern "C" fn attachment_h_withheld_penalty(
+    multiplier: u8,
+    a: &[u32],
+    b: &[u32],
+) -> ExportedAnswer
     ensures { λ r. ⌜ r ≡ exported (withheldPenaltyAnswer multiplier (now (a .entry)) (now (b .entry))) ⌝ }
 {
     of_figure(sanction_calls::withheld_penalty(multiplier, a, b))
@@ -89,7 +98,7 @@ pub extern "C" fn attachment_h_withheld_penalty(multiplier: u8, a: &[u32], b: &[
 
 // The penalty in cents for the megawatts not delivered in the flagged hours, by their added revenue.
 #[no_mangle]
-pub extern "C" fn attachment_h_dispatch_penalty(b: &[u32]) -> Answer
+pub extern "C" fn attachment_h_dispatch_penalty(b: &[u32]) -> ExportedAnswer
     ensures { λ r. ⌜ r ≡ exported (dispatchPenaltyAnswer (now (b .entry))) ⌝ }
 {
     of_figure(sanction_calls::dispatch_penalty(b))
@@ -97,7 +106,7 @@ pub extern "C" fn attachment_h_dispatch_penalty(b: &[u32]) -> Answer
 
 // The penalty for inaccurate fuel data, in cents; e is a signed word.
 #[no_mangle]
-pub extern "C" fn attachment_h_fuel_penalty(e: u64, t: u64, m: u8) -> Answer
+pub extern "C" fn attachment_h_fuel_penalty(e: u64, t: u64, m: u8) -> ExportedAnswer
     ensures { λ r. ⌜ r ≡ exported (fuelPenaltyAnswer e t m) ⌝ }
 {
     of_figure(sanction_calls::fuel_penalty(e, t, m))
@@ -105,7 +114,7 @@ pub extern "C" fn attachment_h_fuel_penalty(e: u64, t: u64, m: u8) -> Answer
 
 // Whether a fuel penalty of day e raises one of day d.
 #[no_mangle]
-pub extern "C" fn attachment_h_fuel_day_counts(d: u32, e: u32) -> Answer
+pub extern "C" fn attachment_h_fuel_day_counts(d: u32, e: u32) -> ExportedAnswer
     ensures { λ r. ⌜ r ≡ exported (fuelDayAnswer d e) ⌝ }
 {
     of_verdict(sanction_calls::fuel_day_counts(d, e))
@@ -113,7 +122,7 @@ pub extern "C" fn attachment_h_fuel_day_counts(d: u32, e: u32) -> Answer
 
 // Whether a period is the own one or one of the k before it: k is 2 for N3 and 1 for N2.
 #[no_mangle]
-pub extern "C" fn attachment_h_period_counts(k: u8, own: u16, period: u16) -> Answer
+pub extern "C" fn attachment_h_period_counts(k: u8, own: u16, period: u16) -> ExportedAnswer
     ensures { λ r. ⌜ r ≡ exported (periodAnswer k own period) ⌝ }
 {
     of_verdict(sanction_calls::period_counts(k, own, period))
@@ -121,7 +130,7 @@ pub extern "C" fn attachment_h_period_counts(k: u8, own: u16, period: u16) -> An
 
 // The mitigated hours of component 1 Day-Ahead as a mask, from the hours hit and the minimum run.
 #[no_mangle]
-pub extern "C" fn attachment_h_mitigated_span(hits: u32, run: u32) -> Answer
+pub extern "C" fn attachment_h_mitigated_span(hits: u32, run: u32) -> ExportedAnswer
     ensures { λ r. ⌜ r ≡ exported (spanAnswer hits run) ⌝ }
 {
     of_figure(default_bid_calls::mitigated_span(hits, run))
@@ -134,7 +143,7 @@ pub extern "C" fn attachment_h_bid_in_force(
     bid: u32,
     reference: u32,
     mitigated: bool,
-) -> Answer
+) -> ExportedAnswer
     ensures { λ r. ⌜ r ≡ exported (inForceAnswer component bid reference mitigated) ⌝ }
 {
     of_figure(default_bid_calls::bid_in_force(component, bid, reference, mitigated))
@@ -152,7 +161,7 @@ pub extern "C" fn attachment_h_corrected_bid_in_force(
     average_price: u32,
     constrained_hours: u16,
     mitigated: bool,
-) -> Answer
+) -> ExportedAnswer
     ensures { λ r. ⌜ r ≡ exported (correctedInForceAnswer component bid reference correct market tight «average_price» «constrained_hours» mitigated) ⌝ }
 {
     of_figure(default_bid_calls::corrected_bid_in_force(
@@ -176,7 +185,7 @@ pub extern "C" fn attachment_h_make_up(
     megawatts: u32,
     reference: u32,
     correct: u32,
-) -> Answer
+) -> ExportedAnswer
     ensures { λ r. ⌜ r ≡ exported (makeUpAnswer bid price megawatts reference correct) ⌝ }
 {
     of_figure(default_bid_calls::make_up(bid, price, megawatts, reference, correct))

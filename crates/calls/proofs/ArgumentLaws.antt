@@ -12,7 +12,7 @@ use Rattle.binary.proofs.BoundedLaws.{any-at, product-bound}
 use Rattle.binary.proofs.Implies.{or-l, or-r}
 use Rattle.binary.proofs.WordLaws.{within-positive, within-negative}
 use Rattle.tariff.specs.Ranges.{highestCapability, highestPrice, highestRevenue, highestE, highestT, highestFuelMultiplier}
-use Rattle.tariff.specs.DefaultBids.{hours}
+use Rattle.tariff.specs.DefaultBidRules.{dayHours}
 use Rattle.calls.specs.SanctionCalls.{badHour, badHours, amountAt, badRevenue, badRevenues, revenueAt, badFuel}
 
 hour-amount : (a b : List ℕ) (h : ℕ) → badHour a b h ≡ false → amountAt a b h ≤ highestCapability * highestPrice
@@ -24,14 +24,14 @@ hour-amount a b h e =
 
 pub record Hours (a b : List ℕ) : Type 0 where
   pub same : length a ≡ length b
-  pub few : length a ≤ hours
+  pub few : length a ≤ dayHours
   pub amount : (h : ℕ) → h < length a → amountAt a b h ≤ highestCapability * highestPrice
 
 pub fine-hours : (a b : List ℕ) → badHours a b ≡ false → Hours a b
 unfolding badHours
 fine-hours a b e =
     let p : not (eqb (length a) (length b)) ≡ false = search (or-l, or-r) in
-    let q : ltb hours (length a) ≡ false = search (or-l, or-r) in
+    let q : ltb dayHours (length a) ≡ false = search (or-l, or-r) in
     let r : anyTo (length a) (badHour a b) ≡ false = search (or-l, or-r) in
     record {
       same = eqb-true _ _ (not-false _ p);
@@ -40,13 +40,13 @@ fine-hours a b e =
     }
 
 pub record Revenues (b : List ℕ) : Type 0 where
-  pub few : length b ≤ hours
+  pub few : length b ≤ dayHours
   pub revenue : (h : ℕ) → h < length b → revenueAt b h ≤ highestRevenue
 
 pub fine-revenues : (b : List ℕ) → badRevenues b ≡ false → Revenues b
 unfolding badRevenues badRevenue revenueAt
 fine-revenues b e =
-    let q : ltb hours (length b) ≡ false = search or-l in
+    let q : ltb dayHours (length b) ≡ false = search or-l in
     let r : anyTo (length b) (badRevenue b) ≡ false = search (or-l, or-r) in
     record { few = ltb-false _ _ q; revenue = λ h l. ltb-false _ _ (any-at (length b) h (badRevenue b) l r) }
 

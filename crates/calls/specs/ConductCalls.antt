@@ -5,7 +5,7 @@ use lib.Dec.{ltb}
 use Rattle.binary.specs.Word.{positivePart, within}
 use Rattle.tariff.specs.Ranges.{lowestCapability, highestCapability, highestRate, highestIncrease, highestGroupSum}
 use Rattle.tariff.specs.Threshold.{thresholdOf}
-use Rattle.tariff.specs.Conduct.{bidTest, timeTest, withheldTest, dispatchTest}
+use Rattle.tariff.specs.ConductTests.{bidTest, timeTest, withheldTest, dispatchTest}
 use Rattle.calls.specs.Answers.{Answer, TimeAnswer, answer, timeAnswered, bit}
 use Rattle.calls.specs.OutOfRange.{badReference, badBid, badUnit}
 
@@ -15,16 +15,16 @@ bidAnswer component r a market tight averagePrice H =
     (bit (bidTest component r a market tight averagePrice H 0))
 
 -- x, y and z are the increases d of components 4, 5 and 6, signed words; the positive ones add up
-unfoldable pub timeTotal : (x y z : ℕ) → ℕ
-timeTotal x y z = positivePart 32 x + positivePart 32 y + positivePart 32 z
+unfoldable pub increaseTotal : (x y z : ℕ) → ℕ
+increaseTotal x y z = positivePart 32 x + positivePart 32 y + positivePart 32 z
 
 unfoldable pub timesAnswer : (x y z : ℕ) → TimeAnswer
 timesAnswer x y z =
     timeAnswered
     (not (within 32 highestIncrease x) || not (within 32 highestIncrease y) || not (within 32 highestIncrease z))
-    (timeTest (thresholdOf 4) (positivePart 32 x) (timeTotal x y z))
-    (timeTest (thresholdOf 5) (positivePart 32 y) (timeTotal x y z))
-    (timeTest (thresholdOf 6) (positivePart 32 z) (timeTotal x y z))
+    (timeTest (thresholdOf 4) (positivePart 32 x) (increaseTotal x y z))
+    (timeTest (thresholdOf 5) (positivePart 32 y) (increaseTotal x y z))
+    (timeTest (thresholdOf 6) (positivePart 32 z) (increaseTotal x y z))
 
 -- "a above capability" is out of its range here too
 unfoldable pub withheldAnswer : (a capability S G : ℕ) (tight : Bool) → Answer

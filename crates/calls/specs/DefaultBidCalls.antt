@@ -5,13 +5,13 @@ use lib.Dec.{ltb, leb}
 use Rattle.binary.specs.Bounded.{bitOf}
 use Rattle.binary.specs.Word.{within}
 use Rattle.tariff.specs.Ranges.{mostRunHours, highestPrice, highestMegawatts}
-use Rattle.tariff.specs.DefaultBids.{hours, spanMask, inForce, correctedInForce, hourMakeUp, makeUp}
+use Rattle.tariff.specs.DefaultBidRules.{dayHours, spanMask, inForce, correctedInForce, hourMakeUp, makeUp}
 use Rattle.calls.specs.Answers.{Answer, answer}
 use Rattle.calls.specs.OutOfRange.{badReference, badBid, badUnit}
 
 -- the mask of hours that are flagged with their Q bit, and R
 unfoldable pub spanAnswer : (hits R : ℕ) → Answer
-spanAnswer hits R = answer false (leb (2 ^ hours) hits || ltb mostRunHours R) (spanMask hours (bitOf hits) R)
+spanAnswer hits R = answer false (leb (2 ^ dayHours) hits || ltb mostRunHours R) (spanMask dayHours (bitOf hits) R)
 
 -- the figure is the bid's word
 unfoldable pub inForceAnswer : (component a r : ℕ) (mitigated : Bool) → Answer

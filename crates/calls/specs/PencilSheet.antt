@@ -7,12 +7,12 @@ use Rattle.binary.specs.Bounded.{sumTo, anyTo, firstTo, lastTo, maskTo, bitOf}
 use Rattle.binary.specs.Word.{positivePart, negativePart, within}
 use Rattle.tariff.specs.Ranges.{referenceInRange, bidInRange}
 use Rattle.tariff.specs.Threshold.{thresholdOf}
-use Rattle.tariff.specs.Conduct.{increase, lowerTest, constrainedTest, percentTest, timeTest, maximumTest, bidTest, unitLimit, groupLimit, withheldTest}
-use Rattle.tariff.specs.Sanctions.{cents, ladder, withheldPenalty, fuelCharge, fuelPenalty}
-use Rattle.tariff.specs.DefaultBids.{between, spanned, spanMask}
+use Rattle.tariff.specs.ConductTests.{increase, lowerTest, constrainedTest, percentTest, timeTest, maximumTest, bidTest, unitLimit, groupLimit, withheldTest}
+use Rattle.tariff.specs.SanctionRules.{cents, ladder, withheldPenalty, fuelCharge, fuelPenalty}
+use Rattle.tariff.specs.DefaultBidRules.{between, spanned, spanMask}
 use Rattle.calls.specs.Answers.{given, bit, answer, timesGiven, timeAnswered}
 use Rattle.calls.specs.OutOfRange.{badReference, badBid, badUnit}
-use Rattle.calls.specs.ConductCalls.{timeTotal, bidAnswer, timesAnswer, withheldAnswer}
+use Rattle.calls.specs.ConductCalls.{increaseTotal, bidAnswer, timesAnswer, withheldAnswer}
 use Rattle.calls.specs.SanctionCalls.{badMultiplier, badHour, badHours, amountAt, badFuel, multiplierAnswer, withheldPenaltyAnswer, fuelPenaltyAnswer}
 use Rattle.calls.specs.DefaultBidCalls.{spanAnswer}
 
@@ -51,7 +51,7 @@ pub record Pencil : Type 0 where
   pub fuel-loss-three : fuelPenaltyAnswer (2 ^ 64 - 10000000) 2000000 3 ≡ given 500000
 
 pub pencil : Pencil
-unfolding sumTo anyTo firstTo lastTo maskTo bitOf positivePart negativePart within referenceInRange bidInRange thresholdOf increase lowerTest constrainedTest percentTest timeTest maximumTest bidTest unitLimit groupLimit withheldTest cents ladder withheldPenalty fuelCharge fuelPenalty between spanned spanMask bit answer timeAnswered badReference badBid badUnit badMultiplier badHour badHours amountAt badFuel timeTotal bidAnswer timesAnswer withheldAnswer multiplierAnswer withheldPenaltyAnswer fuelPenaltyAnswer spanAnswer
+unfolding sumTo anyTo firstTo lastTo maskTo bitOf positivePart negativePart within referenceInRange bidInRange thresholdOf increase lowerTest constrainedTest percentTest timeTest maximumTest bidTest unitLimit groupLimit withheldTest cents ladder withheldPenalty fuelCharge fuelPenalty between spanned spanMask bit answer timeAnswered badReference badBid badUnit badMultiplier badHour badHours amountAt badFuel increaseTotal bidAnswer timesAnswer withheldAnswer multiplierAnswer withheldPenaltyAnswer fuelPenaltyAnswer spanAnswer
 pencil =
     record {
       withheld-500 = refl;

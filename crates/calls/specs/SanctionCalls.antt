@@ -7,8 +7,8 @@ use lib.ListN.{length, getD}
 use Rattle.binary.specs.Bounded.{anyTo, sumTo}
 use Rattle.binary.specs.Word.{positivePart, negativePart, within}
 use Rattle.tariff.specs.Ranges.{highestCapability, highestPrice, highestRevenue, highestDay, fewestInstances, mostInstances, fewestPeriodsBack, mostPeriodsBack, highestE, highestT, lowestFuelMultiplier, highestFuelMultiplier}
-use Rattle.tariff.specs.Sanctions.{ladder, withheldPenalty, dispatchPenalty, fuelPenalty, fuelDayCounts, periodCounts}
-use Rattle.tariff.specs.DefaultBids.{hours}
+use Rattle.tariff.specs.SanctionRules.{ladder, withheldPenalty, dispatchPenalty, fuelPenalty, fuelDayCounts, periodCounts}
+use Rattle.tariff.specs.DefaultBidRules.{dayHours}
 use Rattle.calls.specs.Answers.{Answer, answer, bit}
 
 -- N2 is at most N3
@@ -24,7 +24,7 @@ unfoldable pub badHour : (a b : List ℕ) → ℕ → Bool
 badHour a b h = ltb highestCapability (getD a h 0) || not (within 32 highestPrice (getD b h 0))
 
 unfoldable pub badHours : (a b : List ℕ) → Bool
-badHours a b = not (eqb (length a) (length b)) || ltb hours (length a) || anyTo (length a) (badHour a b)
+badHours a b = not (eqb (length a) (length b)) || ltb dayHours (length a) || anyTo (length a) (badHour a b)
 
 -- a × (b, or 0 if negative)
 unfoldable pub amountAt : (a b : List ℕ) → ℕ → ℕ
@@ -40,7 +40,7 @@ unfoldable pub badRevenue : (b : List ℕ) → ℕ → Bool
 badRevenue b h = ltb highestRevenue (getD b h 0)
 
 unfoldable pub badRevenues : (b : List ℕ) → Bool
-badRevenues b = ltb hours (length b) || anyTo (length b) (badRevenue b)
+badRevenues b = ltb dayHours (length b) || anyTo (length b) (badRevenue b)
 
 unfoldable pub revenueAt : (b : List ℕ) → ℕ → ℕ
 revenueAt b h = getD b h 0

@@ -2,9 +2,9 @@
 ghost use mathlib.Core.Path.{_≡_};
 ghost use Rattle.binary.specs.Word.{positivePart};
 ghost use Rattle.tariff.specs.Threshold.{thresholdOf};
-ghost use Rattle.tariff.specs.Conduct.{timeTest};
+ghost use Rattle.tariff.specs.ConductTests.{timeTest};
 ghost use Rattle.calls.specs.Answers.{verdictOf, timesOf};
-ghost use Rattle.calls.specs.ConductCalls.{timeTotal, bidAnswer, timesAnswer, withheldAnswer, dispatchAnswer};
+ghost use Rattle.calls.specs.ConductCalls.{increaseTotal, bidAnswer, timesAnswer, withheldAnswer, dispatchAnswer};
 use crate::answers::TimeVerdict;
 use crate::answers::Verdict;
 use crate::answers::time_verdict_of;
@@ -14,7 +14,7 @@ use crate::out_of_range::bad_reference;
 use crate::out_of_range::bad_unit;
 use binary::words::is_within;
 use binary::words::positive_part;
-use tariff::conduct;
+use tariff::conduct_tests;
 use tariff::ranges;
 use tariff::threshold::Threshold;
 
@@ -33,7 +33,7 @@ pub fn bid_fails(
     let seven = bad_reference(component, reference);
     let range = bad_bid(component, bid);
     let unit = bad_unit(market, average_price, constrained_hours);
-    let fails = conduct::bid_test(
+    let fails = conduct_tests::bid_test(
         component,
         reference,
         bid,
@@ -48,7 +48,7 @@ pub fn bid_fails(
 
 // The sum of the positive ones of three increases.
 fn time_total(x: u32, y: u32, z: u32) -> u64
-    ensures { λ r. ⌜ r ≡ timeTotal x y z ⌝ }
+    ensures { λ r. ⌜ r ≡ increaseTotal x y z ⌝ }
 {
     let a = positive_part(x);
     let b = positive_part(y);
@@ -61,7 +61,7 @@ fn time_fails(component: u8, increase: u32, total: u64) -> bool
     ensures { λ r. ⌜ r ≡ timeTest (thresholdOf component) (positivePart 32 increase) total ⌝ }
 {
     let d = positive_part(increase);
-    conduct::time_test(Threshold::of(component), d, total)
+    conduct_tests::time_test(Threshold::of(component), d, total)
 }
 
 // Which of the increases of start-up, minimum run and minimum down time of one hour fail.
@@ -87,7 +87,7 @@ pub fn withheld_fails(a: u32, capability: u32, s: u32, g: u32, tight: bool) -> V
         | (capability < a)
         | (ranges::HIGHEST_GROUP_SUM < s)
         | (ranges::HIGHEST_GROUP_SUM < g);
-    let fails = conduct::withheld_test(a, capability, s as u64, g as u64, tight);
+    let fails = conduct_tests::withheld_test(a, capability, s as u64, g as u64, tight);
     verdict_of(false, ten, fails)
 }
 
@@ -98,6 +98,6 @@ pub fn dispatch_fails(a: u32, rate: u32, s: u32, tight: bool) -> Verdict
     let ten = (ranges::HIGHEST_CAPABILITY < a)
         | (ranges::HIGHEST_RATE < rate)
         | (ranges::HIGHEST_GROUP_SUM < s);
-    let fails = conduct::dispatch_test(a, rate, s as u64, tight);
+    let fails = conduct_tests::dispatch_test(a, rate, s as u64, tight);
     verdict_of(false, ten, fails)
 }

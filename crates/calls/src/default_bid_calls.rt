@@ -10,8 +10,8 @@ use crate::out_of_range::bad_reference;
 use crate::out_of_range::bad_unit;
 use binary::numbers::choose_u32;
 use binary::words::is_within;
-use tariff::conduct;
-use tariff::default_bids;
+use tariff::conduct_tests;
+use tariff::default_bid_rules;
 use tariff::ranges;
 
 // The mitigated hours of component 1 Day-Ahead as a mask, from the hours hit and the minimum run.
@@ -19,7 +19,7 @@ pub fn mitigated_span(hits: u32, run: u32) -> Figure
     ensures { λ r. ⌜ r ≡ figureOf (spanAnswer hits run) ⌝ }
 {
     let ten = (ranges::MASK_LIMIT <= hits) | (ranges::MOST_RUN_HOURS < run);
-    let mask = default_bids::span_mask(hits, run, ranges::HOURS);
+    let mask = default_bid_rules::span_mask(hits, run, ranges::HOURS);
     figure_of(false, ten, mask as u64)
 }
 
@@ -29,7 +29,7 @@ pub fn bid_in_force(component: u8, bid: u32, reference: u32, mitigated: bool) ->
 {
     let seven = bad_reference(component, reference);
     let ten = bad_bid(component, bid);
-    let word = default_bids::in_force(component, bid, reference, mitigated);
+    let word = default_bid_rules::in_force(component, bid, reference, mitigated);
     figure_of(seven, ten, word as u64)
 }
 
@@ -51,7 +51,7 @@ pub fn corrected_bid_in_force(
     let other = bad_reference(component, correct);
     let range = bad_bid(component, bid);
     let unit = bad_unit(market, average_price, constrained_hours);
-    let fails = conduct::bid_test(
+    let fails = conduct_tests::bid_test(
         component,
         correct,
         bid,
@@ -61,7 +61,7 @@ pub fn corrected_bid_in_force(
         constrained_hours,
         0,
     );
-    let corrected = default_bids::corrected_bid(component, bid, reference, correct, fails);
+    let corrected = default_bid_rules::corrected_bid(component, bid, reference, correct, fails);
     let word = choose_u32(mitigated, corrected, bid);
     figure_of(own | other, range | unit, word as u64)
 }
@@ -74,8 +74,8 @@ pub fn make_up(bid: u32, price: u32, megawatts: u32, reference: u32, correct: u3
     let other = bad_reference(0, correct);
     let range = bad_bid(0, bid);
     let priced = is_within(ranges::HIGHEST_PRICE, price);
-    let tenths = default_bids::hour_make_up(bid, price, megawatts, correct);
-    let value = default_bids::make_up(reference, correct, tenths);
+    let tenths = default_bid_rules::hour_make_up(bid, price, megawatts, correct);
+    let value = default_bid_rules::make_up(reference, correct, tenths);
     figure_of(
         own | other,
         range | !priced | (ranges::HIGHEST_MEGAWATTS < megawatts),

@@ -5,7 +5,7 @@ ghost use Prim.Native.Nat.{_*_, _≤_};
 ghost use lib.ListN.{length};
 ghost use Rattle.binary.specs.Bounded.{sumTo};
 ghost use Rattle.tariff.specs.Ranges.{highestCapability, highestPrice, highestRevenue};
-ghost use Rattle.tariff.specs.DefaultBids.{hours};
+ghost use Rattle.tariff.specs.DefaultBidRules.{dayHours};
 ghost use Rattle.calls.specs.Answers.{verdictOf, figureOf};
 ghost use Rattle.calls.specs.SanctionCalls.{badHours, amountAt, badRevenues, revenueAt, multiplierAnswer, withheldPenaltyAnswer, dispatchPenaltyAnswer, fuelPenaltyAnswer, fuelDayAnswer, periodAnswer};
 use crate::answers::Figure;
@@ -20,7 +20,7 @@ use binary::words::negative_part_u64;
 use binary::words::positive_part;
 use binary::words::positive_part_u64;
 use tariff::ranges;
-use tariff::sanctions;
+use tariff::sanction_rules;
 
 // The multiplier in halves.
 pub fn multiplier(n3: u32, n2: u32) -> Figure
@@ -30,7 +30,7 @@ pub fn multiplier(n3: u32, n2: u32) -> Figure
         | (ranges::MOST_INSTANCES < n3)
         | (n2 < ranges::FEWEST_INSTANCES)
         | (n3 < n2);
-    let value = sanctions::ladder(n3, n2);
+    let value = sanction_rules::ladder(n3, n2);
     figure_of(false, ten, value as u64)
 }
 
@@ -55,7 +55,7 @@ fn bad_hours(a: &[u32], b: &[u32]) -> bool
 // The sum over the flagged hours of a × (b, or 0 if negative).
 fn amount_of(a: &[u32], b: &[u32]) -> u64
     requires { ⌜ badHours (now a) (now b) ≡ false ⌝ }
-    ensures { λ r. ⌜ (r ≡ sumTo (length (now (a .entry))) (amountAt (now (a .entry)) (now (b .entry)))) × (r ≤ hours * (highestCapability * highestPrice)) ⌝ }
+    ensures { λ r. ⌜ (r ≡ sumTo (length (now (a .entry))) (amountAt (now (a .entry)) (now (b .entry)))) × (r ≤ dayHours * (highestCapability * highestPrice)) ⌝ }
 {
     let n = a.len();
     let mut sum: u64 = 0;
@@ -77,7 +77,7 @@ pub fn withheld_penalty(multiplier: u8, a: &[u32], b: &[u32]) -> Figure
     if !known | hours {
         return Figure::Refused(10);
     }
-    Figure::Value(sanctions::withheld_penalty(multiplier, amount_of(a, b)))
+    Figure::Value(sanction_rules::withheld_penalty(multiplier, amount_of(a, b)))
 }
 
 fn bad_revenues(b: &[u32]) -> bool
@@ -97,7 +97,7 @@ fn bad_revenues(b: &[u32]) -> bool
 // The flagged hours' added revenue.
 fn revenue_of(b: &[u32]) -> u64
     requires { ⌜ badRevenues (now b) ≡ false ⌝ }
-    ensures { λ r. ⌜ (r ≡ sumTo (length (now (b .entry))) (revenueAt (now (b .entry)))) × (r ≤ hours * highestRevenue) ⌝ }
+    ensures { λ r. ⌜ (r ≡ sumTo (length (now (b .entry))) (revenueAt (now (b .entry)))) × (r ≤ dayHours * highestRevenue) ⌝ }
 {
     let n = b.len();
     let mut sum: u64 = 0;
@@ -116,7 +116,7 @@ pub fn dispatch_penalty(b: &[u32]) -> Figure
     if bad_revenues(b) {
         return Figure::Refused(10);
     }
-    Figure::Value(sanctions::dispatch_penalty(revenue_of(b)))
+    Figure::Value(sanction_rules::dispatch_penalty(revenue_of(b)))
 }
 
 // The penalty for inaccurate fuel data, in cents; e is a signed word.
@@ -133,7 +133,7 @@ pub fn fuel_penalty(e: u64, t: u64, m: u8) -> Figure
     }
     let gain = positive_part_u64(e);
     let loss = negative_part_u64(e);
-    Figure::Value(sanctions::fuel_penalty(m, gain, loss, t))
+    Figure::Value(sanction_rules::fuel_penalty(m, gain, loss, t))
 }
 
 // Whether a fuel penalty of day e raises one of day d.
@@ -141,7 +141,7 @@ pub fn fuel_day_counts(d: u32, e: u32) -> Verdict
     ensures { λ r. ⌜ r ≡ verdictOf (fuelDayAnswer d e) ⌝ }
 {
     let ten = (ranges::HIGHEST_DAY < d) | (ranges::HIGHEST_DAY < e);
-    let counts = sanctions::fuel_day_counts(d, e);
+    let counts = sanction_rules::fuel_day_counts(d, e);
     verdict_of(false, ten, counts)
 }
 
@@ -150,6 +150,6 @@ pub fn period_counts(k: u8, own: u16, period: u16) -> Verdict
     ensures { λ r. ⌜ r ≡ verdictOf (periodAnswer k own period) ⌝ }
 {
     let ten = (k < ranges::FEWEST_PERIODS_BACK) | (ranges::MOST_PERIODS_BACK < k);
-    let counts = sanctions::period_counts(k, own, period);
+    let counts = sanction_rules::period_counts(k, own, period);
     verdict_of(false, ten, counts)
 }

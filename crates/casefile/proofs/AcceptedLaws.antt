@@ -8,7 +8,8 @@ use borrow.Author.Tests.{leb-true}
 use Rattle.binary.proofs.Implies.{and-l, and-r}
 use Rattle.casefile.specs.Layout.{sectionCount, longestFile, pastWidth, eventWidth, mostPast, mostEvents, rowWidth}
 use Rattle.casefile.specs.Decode.{caseIn, lengthOf, sectionOf, FollowOn, HasSection, unitsIn, pastIn, eventsIn, decode}
-use Rattle.casefile.specs.Lookup.{Rising, UnitsInOrder, InOrder, correctReferences}
+use Rattle.casefile.specs.Lookup.{correctReferences}
+use Rattle.casefile.specs.StageLookup.{Rising, UnitsInOrder, InOrder}
 use Rattle.casefile.specs.Refusal.{sizesFine, eventKey, rowsFine, refusal}
 use Rattle.casefile.specs.StageRefusal.{eventsRefusal}
 use Rattle.casefile.proofs.RangeLaws.{EventRange, numbers-in-order, references-in-order, correct-in-order}

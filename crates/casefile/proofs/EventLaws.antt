@@ -9,12 +9,12 @@ use Rattle.binary.specs.Bounded.{allTo}
 use Rattle.binary.proofs.BoundedLaws.{all-at, all-same}
 use Rattle.binary.proofs.ByteLaws.{value-drop}
 use Rattle.tariff.specs.Ranges.{highestDay}
-use Rattle.casefile.specs.Layout.{eventWidth, cellsOffset, hours}
+use Rattle.casefile.specs.Layout.{eventWidth, cellsOffset, mostHours}
 use Rattle.casefile.specs.Case.{Units, Events}
 use Rattle.casefile.specs.Decode.{recordAt, eventsIn, amountsIn}
 use Rattle.casefile.specs.Lookup.{placeOf}
 use Rattle.casefile.specs.Refusal.{fieldsFine, hourFine, eventFine, eventsFine, eventListed, eventsListed, withinCapability, unless}
-use Rattle.casefile.specs.Read.{cellOf, cellFineAt, amountWithin, eventOf, numberOf, readIf, readEvent}
+use Rattle.casefile.specs.StageRead.{cellOf, cellFineAt, amountWithin, fieldsOf, numberOf, readIf, readEvent}
 use Rattle.casefile.specs.declared.events.Event.{Event}
 use Rattle.casefile.specs.declared.events.EventRead.{EventRead}
 use Rattle.casefile.specs.declared.events.EventRead.the-variants.{Event as Readable, Unreadable}
@@ -25,45 +25,45 @@ use Rattle.casefile.proofs.RangeLaws.{event-range}
 -- ---- the cells, read in the part where they begin
 
 pub cells-hours : (s : List ℕ) (i : ℕ)
-    → allTo hours (cellFineAt (eventsIn s .kind i) (eventsIn s .component i) (drop cellsOffset (recordAt eventWidth s i)))
+    → allTo mostHours (cellFineAt (eventsIn s .kind i) (eventsIn s .component i) (drop cellsOffset (recordAt eventWidth s i)))
     ≡ allTo (eventsIn s .hours i) (hourFine (eventsIn s) (amountsIn s) i)
 unfolding eventsIn amountsIn cellFineAt cellOf hourFine
-cells-hours s i = all-same hours _ _ (λ h l. simp (value-drop, add-assoc))
+cells-hours s i = all-same mostHours _ _ (λ h l. simp (value-drop, add-assoc))
 
 pub amounts-hours : (u : Units) (s : List ℕ) (i : ℕ)
-    → allTo hours (amountWithin (u .capability (placeOf u (eventsIn s .unit i))) (drop cellsOffset (recordAt eventWidth s i)))
+    → allTo mostHours (amountWithin (u .capability (placeOf u (eventsIn s .unit i))) (drop cellsOffset (recordAt eventWidth s i)))
     ≡ allTo (eventsIn s .hours i) (withinCapability u (eventsIn s) (amountsIn s) i)
 unfolding eventsIn amountsIn amountWithin cellOf withinCapability
-amounts-hours u s i = all-same hours _ _ (λ h l. simp value-drop)
+amounts-hours u s i = all-same mostHours _ _ (λ h l. simp value-drop)
 
 -- ---- the event reader
 
 pub read-is : (s : List ℕ) (i : ℕ) (e : Event) (r : List ℕ) (fields cells b : Bool)
-    → e ≡ eventOf (eventsIn s) i
-    → fields ≡ fieldsFine hours (e .kind) (e .market) (e .component) (e .impact) (e .day) (e .p) (e .q) (e .r)
+    → e ≡ fieldsOf (eventsIn s) i
+    → fields ≡ fieldsFine mostHours (e .kind) (e .market) (e .component) (e .impact) (e .day) (e .p) (e .q) (e .r)
     → r ≡ recordAt eventWidth s i
-    → cells ≡ allTo hours (cellFineAt (e .kind) (e .component) (take (length r - cellsOffset) (drop cellsOffset r)))
+    → cells ≡ allTo mostHours (cellFineAt (e .kind) (e .component) (take (length r - cellsOffset) (drop cellsOffset r)))
     → (fields && cells) ≡ b
     → readIf b e ≡ readEvent s i
-unfolding readEvent eventFine eventOf eventsIn
+unfolding readEvent eventFine fieldsOf eventsIn
 read-is s i e r fields cells b same f part t d =
-    let f′ : fields ≡ fieldsFine hours (o .kind) (o .market) (o .component) (o .impact) (o .day) (o .p) (o .q) (o .r) =
-    f ∙ ap (λ (x : Event). fieldsFine hours (x .kind) (x .market) (x .component) (x .impact) (x .day) (x .p) (x .q) (x .r)) same in
+    let f′ : fields ≡ fieldsFine mostHours (o .kind) (o .market) (o .component) (o .impact) (o .day) (o .p) (o .q) (o .r) =
+    f ∙ ap (λ (x : Event). fieldsFine mostHours (x .kind) (x .market) (x .component) (x .impact) (x .day) (x .p) (x .q) (x .r)) same in
     let t′ : cells ≡ allTo (eventsIn s .hours i) (hourFine (eventsIn s) (amountsIn s) i) =
     t
-    ∙ ap₂ (λ (x : Event) (y : List ℕ). allTo hours (cellFineAt (x .kind) (x .component) (take (length y - cellsOffset) (drop cellsOffset y)))) same part
-    ∙ ap (λ (y : List ℕ). allTo hours (cellFineAt (o .kind) (o .component) y)) (rest cellsOffset (recordAt eventWidth s i))
+    ∙ ap₂ (λ (x : Event) (y : List ℕ). allTo mostHours (cellFineAt (x .kind) (x .component) (take (length y - cellsOffset) (drop cellsOffset y)))) same part
+    ∙ ap (λ (y : List ℕ). allTo mostHours (cellFineAt (o .kind) (o .component) y)) (rest cellsOffset (recordAt eventWidth s i))
     ∙ cells-hours s i in
     ap₂ readIf (sym (ap₂ _&&_ (sym f′) (sym t′) ∙ d)) same
   where
     o : Event
-    o = eventOf (eventsIn s) i
+    o = fieldsOf (eventsIn s) i
 
 pub read-number : (s : List ℕ) (i : ℕ) (a : EventRead) → a ≡ readEvent s i → numberOf a ≡ unless (eventFine (eventsIn s) (amountsIn s) i) 10 0
 unfolding readEvent numberOf readIf
 read-number s i a h = ap numberOf h ∙ go (eventFine (eventsIn s) (amountsIn s) i)
   where
-    go : (b : Bool) → numberOf (readIf b (eventOf (eventsIn s) i)) ≡ unless b 10 0
+    go : (b : Bool) → numberOf (readIf b (fieldsOf (eventsIn s) i)) ≡ unless b 10 0
     go true = refl
     go false = refl
 

@@ -68,10 +68,34 @@ not-met l e t = let z : _≡_ {A = ℕ} 0 1 = ap (λ (b : Bool). cond b 1 0) (sy
 
 module _ (f k : List ℕ) (n : ℕ) where
   numbered : Numbered (limits f k n)
-  numbered =
-      (lit< tt, (lit< tt, (lit< tt, (lit< tt, (lit< tt,
-      (lit< tt, (lit< tt, (lit< tt, (lit< tt,
-      (lit< tt, (lit< tt, (lit< tt, (lit< tt, (lit< tt, (lit< tt, tt)))))))))))))))
+  numbered = (
+    lit< tt,
+    (
+      lit< tt,
+      (
+        lit< tt,
+        (
+          lit< tt,
+          (
+            lit< tt,
+            (
+              lit< tt,
+              (
+                lit< tt,
+                (
+                  lit< tt,
+                  (
+                    lit< tt,
+                    (lit< tt, (lit< tt, (lit< tt, (lit< tt, (lit< tt, (lit< tt, tt)))))),
+                  ),
+                ),
+              ),
+            ),
+          ),
+        ),
+      ),
+    ),
+  )
 
   pub accepted-meets : refusal f k n ≡ 0 → MeetsAll (limits f k n)
   unfolding refusal

@@ -17,7 +17,8 @@ use Rattle.tariff.specs.Ranges.{highestCapability, highestComponent, highestMar
 use Rattle.casefile.specs.Layout.{unitWidth, referenceWidth}
 use Rattle.casefile.specs.Case.{Units, Events}
 use Rattle.casefile.specs.Decode.{unitsIn, referencesIn}
-use Rattle.casefile.specs.Lookup.{referenceKey, Rising, UnitsInOrder, InOrder, correctReferences}
+use Rattle.casefile.specs.Lookup.{referenceKey, correctReferences}
+use Rattle.casefile.specs.StageLookup.{Rising, UnitsInOrder, InOrder}
 use Rattle.casefile.specs.Refusal.{unitsFine, referencesFine, correctionFine, rises, unitFieldsFine, unitFine, referenceFine, quantitiesFine, fieldsFine, cellFine, eventFine}
 
 -- ---- tests

@@ -13,7 +13,8 @@ use Rattle.binary.proofs.BoundedLaws.{all-at}
 use Rattle.tariff.specs.Ranges.{highestCapability}
 use Rattle.casefile.specs.Case.{References, Events}
 use Rattle.casefile.specs.Decode.{unitsIn, eventsIn, amountsIn}
-use Rattle.casefile.specs.Lookup.{isListed, placeOf, hasReference, readsCorrect, Rising}
+use Rattle.casefile.specs.Lookup.{isListed, placeOf, hasReference, readsCorrect}
+use Rattle.casefile.specs.StageLookup.{Rising}
 use Rattle.casefile.specs.Refusal.{sizeFine, rises, unitFine, unitsFine, hourFine, eventFine, eventsFine, eventKey, orderFine, eventListed, eventsListed, withinCapability, amountFine, amountsFine, referenceFound, referencesFound}
 use Rattle.casefile.proofs.EventLaws.{events-place}
 use Rattle.casefile.proofs.RangeLaws.{or-right, of-kind, EventRange, CellRange, capability-range, event-range, cell-range, rising}

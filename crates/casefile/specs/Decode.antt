@@ -4,7 +4,7 @@ use mathlib.Core.List.{List}
 use mathlib.Core.Path.{_≡_}
 use lib.ListN.{length, take, drop}
 use Rattle.binary.specs.Bytes.{byteAt, u16At, u32At}
-use Rattle.casefile.specs.Layout.{sectionCount, headerWidth, unitWidth, referenceWidth, pastWidth, eventWidth, cellsOffset, cellWidth, hours}
+use Rattle.casefile.specs.Layout.{sectionCount, headerWidth, unitWidth, referenceWidth, pastWidth, eventWidth, cellsOffset, cellWidth, mostHours}
 use Rattle.casefile.specs.Case.{Units, References, Violation, Past, Events, Case}
 
 -- the pair of section k (0 units, 1 references, 2 past, 3 events), and the section: that stretch of the file itself
@@ -85,7 +85,7 @@ eventsIn s =
       component = λ i. byteAt (recordAt eventWidth s i) 6;
       impact = λ i. byteAt (recordAt eventWidth s i) 7;
       day = λ i. u32At (recordAt eventWidth s i) 8;
-      hours = λ i. hours;
+      hours = λ i. mostHours;
       P = λ i. u32At (recordAt eventWidth s i) 12;
       Q = λ i. u32At (recordAt eventWidth s i) 16;
       R = λ i. u32At (recordAt eventWidth s i) 20;

@@ -1,6 +1,6 @@
 -- The numbers of the layout (document 01, The case file): widths in bytes, the hours of a day, and the limits.
 use Prim.Native.Nat.{ℕ}
-use Rattle.tariff.specs.DefaultBids.{hours as dayHours}
+use Rattle.tariff.specs.DefaultBidRules.{dayHours}
 
 abbrev pub version : ℕ
 version = 1
@@ -34,8 +34,8 @@ abbrev pub cellWidth : ℕ
 cellWidth = 12
 
 -- the hours of a day, as the rules have them: the cells of an event and the bits of a mask
-abbrev pub hours : ℕ
-hours = dayHours
+abbrev pub mostHours : ℕ
+mostHours = dayHours
 
 abbrev pub mostUnits : ℕ
 mostUnits = 64

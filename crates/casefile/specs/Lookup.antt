@@ -1,14 +1,13 @@
 -- A unit found by its number, and a reference by its unit and component. Numbers and references strictly rise (checks 6 to 8),
 -- so that the last match is the only one.
-use Prim.Native.Nat.{ℕ, _+_, _*_, _/_, _≤_, _<_}
+use Prim.Native.Nat.{ℕ, _+_, _*_}
 use mathlib.Core.Bool.{Bool, cond, _&&_, _||_}
 use mathlib.Core.List.{List}
 use lib.Dec.{leb, eqb}
 use lib.ListN.{length}
 use Rattle.binary.specs.Bounded.{anyTo, lastTo}
-use Rattle.casefile.specs.Layout.{unitWidth, referenceWidth}
-use Rattle.casefile.specs.Case.{Units, References, Case}
-use Rattle.casefile.specs.Decode.{unitsIn, referencesIn, sectionOf}
+use Rattle.casefile.specs.Case.{Units, References, Events, Case}
+use Rattle.casefile.specs.Decode.{referencesIn, sectionOf}
 
 -- unit j has this number
 unfoldable pub isUnit : Units → (number j : ℕ) → Bool
@@ -43,25 +42,6 @@ levelOf r unit component = r .value (lastTo (r .count) (isReference r unit compo
 unfoldable pub referenceKey : References → ℕ → ℕ
 referenceKey r i = 256 * r .unit i + r .component i
 
--- keys strictly rise below n
-abbrev pub Rising : (key : ℕ → ℕ) (n : ℕ) → Type 0
-Rising key n = (i j : ℕ) → i < j → j < n → key i < key j
-
--- the units of a section stand in the order of their numbers (check 6)
-abbrev pub UnitsInOrder : (units : List ℕ) → Type 0
-UnitsInOrder s = Rising (unitsIn s .number) (length s / unitWidth)
-
--- the references of a section stand in their order (checks 7 and 8)
-abbrev pub InOrder : (references : List ℕ) → Type 0
-InOrder s = Rising (referenceKey (referencesIn s)) (length s / referenceWidth)
-
--- every key before lo is below the target, and none from hi on is
-pub record Between (key : ℕ → ℕ) (n target lo hi : ℕ) : Type 0 where
-  pub order : lo ≤ hi
-  pub end : hi ≤ n
-  pub before : (j : ℕ) → j < lo → key j < target
-  pub after : (j : ℕ) → hi ≤ j → j < n → target ≤ key j
-
 -- the correction slice where it isn't empty, otherwise the case's own reference section (document 01, Default bids and make-up)
 unfoldable pub correctReferences : (correction own : List ℕ) → List ℕ
 correctReferences correction own = cond (eqb (length correction) 0) own correction
@@ -77,3 +57,7 @@ correctIn f k = referencesIn (correctReferences k (sectionOf f 1))
 -- r of event i
 unfoldable pub referenceOf : Case → ℕ → ℕ
 referenceOf c i = levelOf (c .references) (c .events .unit i) (c .events .component i)
+
+-- the reference level of a bid; the other kinds have none
+unfoldable pub bidLevel : References → Events → ℕ → ℕ
+bidLevel r e i = cond (eqb (e .kind i) 4) (levelOf r (e .unit i) (e .component i)) 0

@@ -3,9 +3,9 @@ ghost use mathlib.Core.Path.{_≡_};
 ghost use Prim.Native.Nat.{_*_, _<_};
 ghost use lib.ListN.{length};
 ghost use Rattle.binary.specs.Bounded.{allTo};
-ghost use Rattle.casefile.specs.Layout.{cellWidth, hours};
+ghost use Rattle.casefile.specs.Layout.{cellWidth, mostHours};
 ghost use Rattle.casefile.specs.Refusal.{cellFine};
-ghost use Rattle.casefile.specs.Read.{cellOf, cellFineAt, amountWithin};
+ghost use Rattle.casefile.specs.StageRead.{cellOf, cellFineAt, amountWithin};
 use crate::layout;
 use binary::bytes::load_u32;
 use binary::words::is_within;
@@ -19,7 +19,7 @@ pub struct Cell {
 
 // The cell of hour h, of the part of an event where its cells begin.
 pub fn cell_at(cells: &[u8], h: usize) -> Cell
-    requires { ⌜ (h < hours) × (length (now cells) ≡ cellWidth * hours) ⌝ }
+    requires { ⌜ (h < mostHours) × (length (now cells) ≡ cellWidth * mostHours) ⌝ }
     ensures { λ r. ⌜ r ≡ cellOf (now (cells .entry)) h ⌝ }
 {
     let at = layout::CELL_WIDTH * h;
@@ -44,7 +44,7 @@ fn cell_fine(kind: u8, component: u8, a: u32, b: u32, m: u32) -> bool
 }
 
 fn cell_fine_at(kind: u8, component: u8, cells: &[u8], h: usize) -> bool
-    requires { ⌜ (h < hours) × (length (now cells) ≡ cellWidth * hours) ⌝ }
+    requires { ⌜ (h < mostHours) × (length (now cells) ≡ cellWidth * mostHours) ⌝ }
     ensures { λ r. ⌜ r ≡ cellFineAt kind component (now (cells .entry)) h ⌝ }
 {
     let cell = cell_at(cells, h);
@@ -52,8 +52,8 @@ fn cell_fine_at(kind: u8, component: u8, cells: &[u8], h: usize) -> bool
 }
 
 pub fn cells_fine(kind: u8, component: u8, cells: &[u8]) -> bool
-    requires { ⌜ length (now cells) ≡ cellWidth * hours ⌝ }
-    ensures { λ r. ⌜ r ≡ allTo hours (cellFineAt kind component (now (cells .entry))) ⌝ }
+    requires { ⌜ length (now cells) ≡ cellWidth * mostHours ⌝ }
+    ensures { λ r. ⌜ r ≡ allTo mostHours (cellFineAt kind component (now (cells .entry))) ⌝ }
 {
     let mut fine = true;
     let mut h = 0;
@@ -65,7 +65,7 @@ pub fn cells_fine(kind: u8, component: u8, cells: &[u8]) -> bool
 }
 
 fn amount_within(capability: u32, cells: &[u8], h: usize) -> bool
-    requires { ⌜ (h < hours) × (length (now cells) ≡ cellWidth * hours) ⌝ }
+    requires { ⌜ (h < mostHours) × (length (now cells) ≡ cellWidth * mostHours) ⌝ }
     ensures { λ r. ⌜ r ≡ amountWithin capability (now (cells .entry)) h ⌝ }
 {
     let cell = cell_at(cells, h);
@@ -73,8 +73,8 @@ fn amount_within(capability: u32, cells: &[u8], h: usize) -> bool
 }
 
 pub fn amounts_within(capability: u32, cells: &[u8]) -> bool
-    requires { ⌜ length (now cells) ≡ cellWidth * hours ⌝ }
-    ensures { λ r. ⌜ r ≡ allTo hours (amountWithin capability (now (cells .entry))) ⌝ }
+    requires { ⌜ length (now cells) ≡ cellWidth * mostHours ⌝ }
+    ensures { λ r. ⌜ r ≡ allTo mostHours (amountWithin capability (now (cells .entry))) ⌝ }
 {
     let mut fine = true;
     let mut h = 0;

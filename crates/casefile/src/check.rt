@@ -1,6 +1,6 @@
 // The check of a whole case, in number order.
 ghost use mathlib.Core.Path.{_≡_};
-ghost use Rattle.casefile.specs.Lookup.{UnitsInOrder, InOrder};
+ghost use Rattle.casefile.specs.StageLookup.{UnitsInOrder, InOrder};
 ghost use Rattle.casefile.specs.Refusal.{refusal};
 ghost use Rattle.casefile.specs.StageRefusal.{recordsRefusal, eventsRefusal};
 use crate::events::amounts_fine;

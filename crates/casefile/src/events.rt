@@ -4,11 +4,12 @@ ghost use mathlib.Core.Path.{_≡_};
 ghost use Prim.Native.Nat.{_/_, _<_, _≤_};
 ghost use lib.ListN.{length};
 ghost use Rattle.tariff.specs.Ranges.{highestDay};
-ghost use Rattle.casefile.specs.Layout.{eventWidth, hours};
+ghost use Rattle.casefile.specs.Layout.{eventWidth, mostHours};
 ghost use Rattle.casefile.specs.Decode.{unitsIn, referencesIn, eventsIn, amountsIn};
-ghost use Rattle.casefile.specs.Lookup.{UnitsInOrder, InOrder, readsCorrect};
+ghost use Rattle.casefile.specs.Lookup.{readsCorrect};
+ghost use Rattle.casefile.specs.StageLookup.{UnitsInOrder, InOrder};
 ghost use Rattle.casefile.specs.Refusal.{quantitiesFine, fieldsFine, eventFine, eventsFine, rises, eventKey, orderFine, eventListed, eventsListed, amountFine, amountsFine, referenceFound, referencesFound, unless};
-ghost use Rattle.casefile.specs.Read.{eventOf, numberOf, readEvent};
+ghost use Rattle.casefile.specs.StageRead.{fieldsOf, numberOf, readEvent};
 use crate::cells::amounts_within;
 use crate::cells::cells_fine;
 use crate::layout;
@@ -44,7 +45,7 @@ pub enum EventRead {
 // The fields of event i, as they stand.
 pub fn event_at(events: &[u8], i: usize) -> Event
     requires { ⌜ i < length (now events) / eventWidth ⌝ }
-    ensures { λ r. ⌜ r ≡ eventOf (eventsIn (now (events .entry))) i ⌝ }
+    ensures { λ r. ⌜ r ≡ fieldsOf (eventsIn (now (events .entry))) i ⌝ }
 {
     let event = record_at(events, i, layout::EVENT_WIDTH);
     Event {
@@ -63,7 +64,7 @@ pub fn event_at(events: &[u8], i: usize) -> Event
 
 // The ranges of Q and R, by kind.
 fn quantities_fine(kind: u8, market: u8, q: u32, r: u32) -> bool
-    ensures { λ t. ⌜ t ≡ quantitiesFine hours kind market q r ⌝ }
+    ensures { λ t. ⌜ t ≡ quantitiesFine mostHours kind market q r ⌝ }
 {
     let guarantee = is_within(ranges::HIGHEST_FUEL_MONEY, q);
     let congestion = is_within(ranges::HIGHEST_FUEL_MONEY, r);
@@ -84,7 +85,7 @@ fn fields_fine(
     q: u32,
     r: u32,
 ) -> bool
-    ensures { λ t. ⌜ t ≡ fieldsFine hours kind market component impact day p q r ⌝ }
+    ensures { λ t. ⌜ t ≡ fieldsFine mostHours kind market component impact day p q r ⌝ }
 {
     let quantities = quantities_fine(kind, market, q, r);
     (ranges::LOWEST_KIND <= kind)

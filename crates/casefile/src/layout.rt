@@ -1,4 +1,6 @@
 // The numbers of the layout, as specs/Layout has them.
+use tariff::ranges;
+
 pub const VERSION: u16 = 1;
 
 pub const SECTION_COUNT: u16 = 4;
@@ -19,9 +21,9 @@ pub const CELLS_OFFSET: usize = 24;
 
 pub const CELL_WIDTH: usize = 12;
 
-pub const HOURS: usize = 24;
-// Masks are below this: a bit for each hour.
-pub const MASK_LIMIT: u32 = 16777216;
+pub const HOURS: usize = ranges::HOURS;
+
+pub const MASK_LIMIT: u32 = ranges::MASK_LIMIT;
 
 pub const MOST_UNITS: usize = 64;
 

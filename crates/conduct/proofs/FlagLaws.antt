@@ -15,17 +15,18 @@ use Rattle.binary.proofs.Implies.{and-l, and-r}
 use Rattle.binary.proofs.BoundedLaws.{sum-same}
 use Rattle.binary.proofs.MaskLaws.{mask-same}
 use Rattle.binary.proofs.ByteLaws.{stretch-byte, stretch-length}
-use Rattle.tariff.specs.Conduct.{increase}
+use Rattle.tariff.specs.ConductTests.{increase}
 use Rattle.tariff.proofs.ComparisonLaws.{bid-total}
 use Rattle.casefile.specs.Layout.{eventWidth}
 use Rattle.casefile.specs.Case.{Units, Case}
 use Rattle.casefile.specs.Decode.{recordAt, unitsIn, referencesIn, eventsIn, amountsIn, caseIn}
 use Rattle.casefile.specs.Lookup.{unitOf, groupOf, referenceOf}
-use Rattle.casefile.specs.Read.{cellOf}
+use Rattle.casefile.specs.StageRead.{cellOf}
 use Rattle.conduct.specs.declared.flags.Bid.{Bid}
 use Rattle.conduct.specs.Flags.{tight, together, sumTogether, timeBid, timeTotal, bidFlag, groupCapability, groupSum, withheldFlag, dispatchFlag, fuelFlag, flagged, flagMask}
-use Rattle.conduct.specs.Parties.{leaderOf, bidLevel}
-use Rattle.conduct.specs.Stages.{cellsIn, partyFigure, partySum, HasSums, HasRow, SmallRow, Below, capabilityOf, listedCapability, timeKey, keyedIncrease, cell, HasIncreases, SmallTable, withheldIn, dispatchIn, fuelIn, fuelMaskIn, bidIn, timeTotalIn, totalRead, totalBefore, sameTotals, bidFlagIn, flaggedIn, flagMaskIn, Led}
+use Rattle.conduct.specs.StageParties.{leaderOf}
+use Rattle.casefile.specs.Lookup.{bidLevel}
+use Rattle.conduct.specs.StageFlags.{cellsIn, partyFigure, partySum, HasSums, HasRow, SmallRow, Below, capabilityOf, listedCapability, timeKey, keyedIncrease, cell, HasIncreases, SmallTable, withheldIn, dispatchIn, fuelIn, fuelMaskIn, bidIn, timeTotalIn, totalRead, totalBefore, sameTotals, bidFlagIn, flaggedIn, flagMaskIn, Led}
 use Rattle.conduct.proofs.PartyLaws.{together-fields, any-together, leader-le, leader-together}
 use Rattle.conduct.proofs.StageLaws.{place-in}
 use Rattle.conduct.proofs.SumLaws.{cond-given, cell-amount, party-sum, party-sum-le, sum-amounts, sum-union, capability-is, zeros-at, increases-le, time-total}

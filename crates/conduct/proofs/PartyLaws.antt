@@ -22,7 +22,7 @@ use Rattle.casefile.specs.Decode.{recordAt, unitsIn, eventsIn, caseIn}
 use Rattle.casefile.specs.Lookup.{unitOf, groupOf}
 use Rattle.casefile.proofs.RecordLaws.{value-record}
 use Rattle.conduct.specs.Flags.{together}
-use Rattle.conduct.specs.Parties.{partyKey, leaderOf}
+use Rattle.conduct.specs.StageParties.{partyKey, leaderOf}
 
 -- ---- the events together with an event
 

@@ -18,8 +18,8 @@ use Rattle.casefile.specs.Refusal.{eventsListed, referencesFound}
 use Rattle.casefile.proofs.RangeLaws.{of-kind}
 use Rattle.casefile.proofs.EventLaws.{events-place}
 use Rattle.casefile.proofs.SectionLaws.{reference-there}
-use Rattle.conduct.specs.Parties.{partyKey, leaderOf, levelFound, levelsFound}
-use Rattle.conduct.specs.Stages.{keyIn, sameKey, leaderIn}
+use Rattle.conduct.specs.StageParties.{partyKey, leaderOf, levelFound, levelsFound}
+use Rattle.conduct.specs.StageFlags.{keyIn, sameKey, leaderIn}
 use Rattle.conduct.proofs.PartyLaws.{keys-together}
 
 -- ---- places and groups

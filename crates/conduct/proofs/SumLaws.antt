@@ -15,16 +15,16 @@ use Rattle.binary.proofs.Implies.{and-l, and-r, same-test}
 use Rattle.binary.proofs.BoundedLaws.{sum-none, sum-more, sum-same, sum-bound, any-count}
 use Rattle.binary.proofs.ByteLaws.{value-drop}
 use Rattle.binary.proofs.WordLaws.{positive-lt}
-use Rattle.tariff.specs.Conduct.{increase}
+use Rattle.tariff.specs.ConductTests.{increase}
 use Rattle.casefile.specs.Layout.{eventWidth}
 use Rattle.casefile.specs.Case.{Case}
 use Rattle.casefile.specs.Decode.{recordAt, eventsIn, amountsIn, caseIn}
 use Rattle.casefile.specs.Lookup.{groupOf}
-use Rattle.casefile.specs.Read.{cellOf}
+use Rattle.casefile.specs.StageRead.{cellOf}
 use Rattle.casefile.specs.declared.cells.Cell.{Cell}
 use Rattle.conduct.specs.Flags.{together, sumTogether, groupSum, groupCapability, fuelFlag, timeBid}
-use Rattle.conduct.specs.Parties.{leaderOf}
-use Rattle.conduct.specs.Stages.{cellsIn, Zeros, Added, partyFigure, ledSum, HasSums, capabilityShare, capabilityOf, timeComponent, timeKey, countedIncrease, keyedIncrease, cell, HasIncreases, timeTotalIn}
+use Rattle.conduct.specs.StageParties.{leaderOf}
+use Rattle.conduct.specs.StageFlags.{cellsIn, Zeros, Added, partyFigure, ledSum, HasSums, capabilityShare, capabilityOf, timeComponent, timeKey, countedIncrease, keyedIncrease, cell, HasIncreases, timeTotalIn}
 use Rattle.conduct.proofs.PartyLaws.{together-fields, leader-eqb, record-byte-lt, record-value-lt, packed, packed-same}
 
 -- ---- choices and sums

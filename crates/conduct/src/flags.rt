@@ -6,13 +6,15 @@ ghost use Prim.Native.Nat.{_*_, _/_, _≤_, _<_};
 ghost use lib.ListN.{length, drop, getD};
 ghost use Rattle.binary.specs.Bounded.{maskTo};
 ghost use Rattle.binary.specs.Lists.{listTo, Holds};
-ghost use Rattle.casefile.specs.Layout.{cellWidth, hours, eventWidth, unitWidth, mostEvents, longestFile};
+ghost use Rattle.casefile.specs.Layout.{cellWidth, mostHours, eventWidth, unitWidth, mostEvents, longestFile};
 ghost use Rattle.casefile.specs.Decode.{unitsIn, referencesIn, eventsIn, caseIn};
-ghost use Rattle.casefile.specs.Lookup.{unitOf, groupOf, UnitsInOrder, InOrder};
+ghost use Rattle.casefile.specs.Lookup.{unitOf, groupOf};
+ghost use Rattle.casefile.specs.StageLookup.{UnitsInOrder, InOrder};
 ghost use Rattle.casefile.specs.Refusal.{eventsListed};
 ghost use Rattle.conduct.specs.Flags.{groupCapability, groupSum, withheldFlag, dispatchFlag, flagMask};
-ghost use Rattle.conduct.specs.Parties.{partyKey, leaderOf, bidLevel, levelsFound};
-ghost use Rattle.conduct.specs.Stages.{Zeros, HasSums, HasRow, SmallRow, timeKey, listedCapability, withheldIn, dispatchIn, fuelIn, fuelMaskIn, bidIn, sameTotals, totalRead, totalBefore, bidFlagIn, flagMaskIn, Led, Found};
+ghost use Rattle.conduct.specs.StageParties.{partyKey, leaderOf, levelsFound};
+ghost use Rattle.casefile.specs.Lookup.{bidLevel};
+ghost use Rattle.conduct.specs.StageFlags.{Zeros, HasSums, HasRow, SmallRow, timeKey, listedCapability, withheldIn, dispatchIn, fuelIn, fuelMaskIn, bidIn, sameTotals, totalRead, totalBefore, bidFlagIn, flagMaskIn, Led, FoundParties};
 use crate::parties::find_parties;
 use crate::parties::reference_levels;
 use crate::sums::cells_of;
@@ -29,9 +31,9 @@ use binary::numbers::choose_u32;
 use casefile::cells::cell_at;
 use casefile::layout;
 use casefile::records::record_at;
-use tariff::conduct::bid_test;
-use tariff::conduct::dispatch_test;
-use tariff::conduct::withheld_test;
+use tariff::conduct_tests::bid_test;
+use tariff::conduct_tests::dispatch_test;
+use tariff::conduct_tests::withheld_test;
 
 // What the test of a bid reads beside its hours.
 pub struct Bid {
@@ -53,7 +55,7 @@ fn withheld_hour(
     p: u32,
     h: usize,
 ) -> bool
-    requires { ⌜ (h < hours) × (length (now cells) ≡ cellWidth * hours) × (length (now sums) ≡ hours) × (getD (now sums) h 0 ≤ 1099511627776) ⌝ }
+    requires { ⌜ (h < mostHours) × (length (now cells) ≡ cellWidth * mostHours) × (length (now sums) ≡ mostHours) × (getD (now sums) h 0 ≤ 1099511627776) ⌝ }
     ensures { λ r. ⌜ r ≡ withheldIn (now (cells .entry)) (now (sums .entry)) capability g constrained p h ⌝ }
 {
     let cell = cell_at(cells, h);
@@ -70,9 +72,9 @@ fn withheld_mask(
     constrained: bool,
     p: u32,
 ) -> u32
-    requires { ⌜ (length (now cells) ≡ cellWidth * hours) × (length (now sums) ≡ hours) ⌝ }
+    requires { ⌜ (length (now cells) ≡ cellWidth * mostHours) × (length (now sums) ≡ mostHours) ⌝ }
     requires { ⌜ SmallRow (now sums) ⌝ }
-    ensures { λ r. ⌜ r ≡ maskTo hours (withheldIn (now (cells .entry)) (now (sums .entry)) capability g constrained p) ⌝ }
+    ensures { λ r. ⌜ r ≡ maskTo mostHours (withheldIn (now (cells .entry)) (now (sums .entry)) capability g constrained p) ⌝ }
 {
     let mut mask: u32 = 0;
     let mut weight: u32 = 1;
@@ -88,11 +90,11 @@ fn withheld_mask(
 
 // The flagged hours of a withheld event; g is the listed capability of its group and sums are S of its party.
 fn withheld_event(units: &[u8], events: &[u8], place: usize, g: u64, sums: &[u64], i: usize) -> u32
-    requires { ⌜ (i < length (now events) / eventWidth) × (place < length (now units) / unitWidth) × (length (now sums) ≡ hours) ⌝ }
+    requires { ⌜ (i < length (now events) / eventWidth) × (place < length (now units) / unitWidth) × (length (now sums) ≡ mostHours) ⌝ }
     requires { ⌜ (place ≡ unitOf (caseIn (now units) [] [] (now events)) i) × (g ≡ groupCapability (caseIn (now units) [] [] (now events)) i) ⌝ }
     requires { ⌜ SmallRow (now sums) ⌝ }
     requires { ⌜ HasRow (groupSum (caseIn (now units) [] [] (now events)) i) (now sums) ⌝ }
-    ensures { λ r. ⌜ r ≡ maskTo hours (withheldFlag (caseIn (now (units .entry)) [] [] (now (events .entry))) i) ⌝ }
+    ensures { λ r. ⌜ r ≡ maskTo mostHours (withheldFlag (caseIn (now (units .entry)) [] [] (now (events .entry))) i) ⌝ }
 {
     let event = record_at(events, i, layout::EVENT_WIDTH);
     let p = load_u32(event, 12);
@@ -103,7 +105,7 @@ fn withheld_event(units: &[u8], events: &[u8], place: usize, g: u64, sums: &[u64
 }
 
 fn dispatch_hour(cells: &[u8], sums: &[u64], rate: u32, constrained: bool, p: u32, h: usize) -> bool
-    requires { ⌜ (h < hours) × (length (now cells) ≡ cellWidth * hours) × (length (now sums) ≡ hours) ⌝ }
+    requires { ⌜ (h < mostHours) × (length (now cells) ≡ cellWidth * mostHours) × (length (now sums) ≡ mostHours) ⌝ }
     ensures { λ r. ⌜ r ≡ dispatchIn (now (cells .entry)) (now (sums .entry)) rate constrained p h ⌝ }
 {
     let cell = cell_at(cells, h);
@@ -113,8 +115,8 @@ fn dispatch_hour(cells: &[u8], sums: &[u64], rate: u32, constrained: bool, p: u3
 }
 
 fn dispatch_mask(cells: &[u8], sums: &[u64], rate: u32, constrained: bool, p: u32) -> u32
-    requires { ⌜ (length (now cells) ≡ cellWidth * hours) × (length (now sums) ≡ hours) ⌝ }
-    ensures { λ r. ⌜ r ≡ maskTo hours (dispatchIn (now (cells .entry)) (now (sums .entry)) rate constrained p) ⌝ }
+    requires { ⌜ (length (now cells) ≡ cellWidth * mostHours) × (length (now sums) ≡ mostHours) ⌝ }
+    ensures { λ r. ⌜ r ≡ maskTo mostHours (dispatchIn (now (cells .entry)) (now (sums .entry)) rate constrained p) ⌝ }
 {
     let mut mask: u32 = 0;
     let mut weight: u32 = 1;
@@ -130,10 +132,10 @@ fn dispatch_mask(cells: &[u8], sums: &[u64], rate: u32, constrained: bool, p: u3
 
 // The flagged hours of a dispatch event; sums are S of its party.
 fn dispatch_event(units: &[u8], events: &[u8], place: usize, sums: &[u64], i: usize) -> u32
-    requires { ⌜ (i < length (now events) / eventWidth) × (place < length (now units) / unitWidth) × (length (now sums) ≡ hours) ⌝ }
+    requires { ⌜ (i < length (now events) / eventWidth) × (place < length (now units) / unitWidth) × (length (now sums) ≡ mostHours) ⌝ }
     requires { ⌜ place ≡ unitOf (caseIn (now units) [] [] (now events)) i ⌝ }
     requires { ⌜ HasRow (groupSum (caseIn (now units) [] [] (now events)) i) (now sums) ⌝ }
-    ensures { λ r. ⌜ r ≡ maskTo hours (dispatchFlag (caseIn (now (units .entry)) [] [] (now (events .entry))) i) ⌝ }
+    ensures { λ r. ⌜ r ≡ maskTo mostHours (dispatchFlag (caseIn (now (units .entry)) [] [] (now (events .entry))) i) ⌝ }
 {
     let event = record_at(events, i, layout::EVENT_WIDTH);
     let p = load_u32(event, 12);
@@ -145,8 +147,8 @@ fn dispatch_event(units: &[u8], events: &[u8], place: usize, sums: &[u64], i: us
 
 // The union of P over a party-day: the hours that some event of it has.
 fn fuel_mask(sums: &[u64]) -> u32
-    requires { ⌜ length (now sums) ≡ hours ⌝ }
-    ensures { λ r. ⌜ r ≡ maskTo hours (fuelIn (now (sums .entry))) ⌝ }
+    requires { ⌜ length (now sums) ≡ mostHours ⌝ }
+    ensures { λ r. ⌜ r ≡ maskTo mostHours (fuelIn (now (sums .entry))) ⌝ }
 {
     let mut mask: u32 = 0;
     let mut weight: u32 = 1;
@@ -161,7 +163,7 @@ fn fuel_mask(sums: &[u64]) -> u32
 
 // The flagged hours of a fuel event: its leader's where that is an earlier event, else found from sums, those of its party.
 fn fuel_event(sums: &[u64], masks: &[u32], leader: usize, i: usize) -> u32
-    requires { ⌜ (length (now sums) ≡ hours) × (i ≤ length (now masks)) ⌝ }
+    requires { ⌜ (length (now sums) ≡ mostHours) × (i ≤ length (now masks)) ⌝ }
     ensures { λ r. ⌜ r ≡ fuelMaskIn (now (sums .entry)) (now (masks .entry)) leader i ⌝ }
 {
     if leader < i {
@@ -209,7 +211,7 @@ fn bid_totals(events: &[u8], levels: &[u32], keys: &[u64], i: usize, before: [u6
 }
 
 fn bid_hour(cells: &[u8], totals: &[u64], bid: Bid, h: usize) -> bool
-    requires { ⌜ (h < hours) × (length (now cells) ≡ cellWidth * hours) × (length (now totals) ≡ hours) ⌝ }
+    requires { ⌜ (h < mostHours) × (length (now cells) ≡ cellWidth * mostHours) × (length (now totals) ≡ mostHours) ⌝ }
     ensures { λ r. ⌜ r ≡ bidIn (now (cells .entry)) (now (totals .entry)) bid h ⌝ }
 {
     let component = bid.component;
@@ -235,8 +237,8 @@ fn bid_hour(cells: &[u8], totals: &[u64], bid: Bid, h: usize) -> bool
 }
 
 fn bid_mask(cells: &[u8], totals: &[u64], bid: Bid) -> u32
-    requires { ⌜ (length (now cells) ≡ cellWidth * hours) × (length (now totals) ≡ hours) ⌝ }
-    ensures { λ r. ⌜ r ≡ maskTo hours (bidIn (now (cells .entry)) (now (totals .entry)) bid) ⌝ }
+    requires { ⌜ (length (now cells) ≡ cellWidth * mostHours) × (length (now totals) ≡ mostHours) ⌝ }
+    ensures { λ r. ⌜ r ≡ maskTo mostHours (bidIn (now (cells .entry)) (now (totals .entry)) bid) ⌝ }
 {
     let mut mask: u32 = 0;
     let mut weight: u32 = 1;
@@ -258,10 +260,10 @@ fn bid_event(
     place: usize,
     i: usize,
 ) -> u32
-    requires { ⌜ (i < length (now events) / eventWidth) × (length (now events) / eventWidth ≤ length (now levels)) × (length (now totals) ≡ hours) × (place < length (now units) / unitWidth) ⌝ }
+    requires { ⌜ (i < length (now events) / eventWidth) × (length (now events) / eventWidth ≤ length (now levels)) × (length (now totals) ≡ mostHours) × (place < length (now units) / unitWidth) ⌝ }
     requires { ⌜ place ≡ unitOf (caseIn (now units) [] [] (now events)) i ⌝ }
     requires { ⌜ HasRow (totalRead (caseIn [] [] [] (now events)) (now levels) i) (now totals) ⌝ }
-    ensures { λ r. ⌜ r ≡ maskTo hours (bidFlagIn (caseIn (now (units .entry)) [] [] (now (events .entry))) (now (levels .entry)) i) ⌝ }
+    ensures { λ r. ⌜ r ≡ maskTo mostHours (bidFlagIn (caseIn (now (units .entry)) [] [] (now (events .entry))) (now (levels .entry)) i) ⌝ }
 {
     let event = record_at(events, i, layout::EVENT_WIDTH);
     let unit = record_at(units, place, layout::UNIT_WIDTH);
@@ -293,7 +295,7 @@ fn event_mask(
 ) -> u32
     requires { ⌜ Led (now units) (now events) (now places) (now leaders) (now levels) ⌝ }
     requires { ⌜ HasSums (caseIn [] [] [] (now events)) (now leaders) (length (now events) / eventWidth) (length (now events) / eventWidth) (now sums) ⌝ }
-    requires { ⌜ (hours * (length (now events) / eventWidth) ≤ length (now sums)) × (length (now totals) ≡ hours) × (i < length (now events) / eventWidth) × (length (now events) / eventWidth ≤ length (now capabilities)) × (i ≤ length (now masks)) ⌝ }
+    requires { ⌜ (mostHours * (length (now events) / eventWidth) ≤ length (now sums)) × (length (now totals) ≡ mostHours) × (i < length (now events) / eventWidth) × (length (now events) / eventWidth ≤ length (now capabilities)) × (i ≤ length (now masks)) ⌝ }
     requires { ⌜ HasRow (totalRead (caseIn [] [] [] (now events)) (now levels) i) (now totals) ⌝ }
     requires { ⌜ Holds (length (now events) / eventWidth) (now capabilities) (listedCapability (caseIn (now units) [] [] (now events))) ⌝ }
     requires { ⌜ Holds i (now masks) (flagMaskIn (caseIn (now units) [] [] (now events)) (now levels)) ⌝ }
@@ -333,7 +335,7 @@ fn event_masks(
 )
     requires { ⌜ Led (now units) (now events) (now places) (now leaders) (now levels) ⌝ }
     requires { ⌜ HasSums (caseIn [] [] [] (now events)) (now leaders) (length (now events) / eventWidth) (length (now events) / eventWidth) (now sums) ⌝ }
-    requires { ⌜ (hours * (length (now events) / eventWidth) ≤ length (now sums)) × (length (now events) / eventWidth ≤ length (now capabilities)) × (length (now events) / eventWidth ≤ length (now keys)) × (length (now events) / eventWidth ≤ length (now masks)) ⌝ }
+    requires { ⌜ (mostHours * (length (now events) / eventWidth) ≤ length (now sums)) × (length (now events) / eventWidth ≤ length (now capabilities)) × (length (now events) / eventWidth ≤ length (now keys)) × (length (now events) / eventWidth ≤ length (now masks)) ⌝ }
     requires { ⌜ Holds (length (now events) / eventWidth) (now keys) (timeKey (eventsIn (now events))) ⌝ }
     requires { ⌜ Holds (length (now events) / eventWidth) (now capabilities) (listedCapability (caseIn (now units) [] [] (now events))) ⌝ }
     ensures { λ _. ⌜ now (masks .exit) ≡ listTo (length (now (events .entry)) / eventWidth) (flagMaskIn (caseIn (now (units .entry)) [] [] (now (events .entry))) (now (levels .entry))) ++ drop (length (now (events .entry)) / eventWidth) (now (masks .entry)) ⌝ }
@@ -372,8 +374,8 @@ fn fill_masks(
     keys: &mut [u64],
     masks: &mut [u32],
 )
-    requires { ⌜ Found (now units) (now events) (now places) (now groups) (now leaders) (now levels) ⌝ }
-    requires { ⌜ (hours * (length (now events) / eventWidth) ≤ length (now sums)) × (length (now events) / eventWidth ≤ length (now capabilities)) × (length (now events) / eventWidth ≤ length (now keys)) × (length (now events) / eventWidth ≤ length (now masks)) ⌝ }
+    requires { ⌜ FoundParties (now units) (now events) (now places) (now groups) (now leaders) (now levels) ⌝ }
+    requires { ⌜ (mostHours * (length (now events) / eventWidth) ≤ length (now sums)) × (length (now events) / eventWidth ≤ length (now capabilities)) × (length (now events) / eventWidth ≤ length (now keys)) × (length (now events) / eventWidth ≤ length (now masks)) ⌝ }
     requires { ⌜ Zeros (now sums) ⌝ }
     ensures { λ _. ⌜ now (masks .exit) ≡ listTo (length (now (events .entry)) / eventWidth) (flagMaskIn (caseIn (now (units .entry)) [] [] (now (events .entry))) (now (levels .entry))) ++ drop (length (now (events .entry)) / eventWidth) (now (masks .entry)) ⌝ }
 {
@@ -403,7 +405,7 @@ fn small_case_masks(
     levels: &[u32],
     masks: &mut [u32],
 )
-    requires { ⌜ Found (now units) (now events) (now places) (now groups) (now leaders) (now levels) ⌝ }
+    requires { ⌜ FoundParties (now units) (now events) (now places) (now groups) (now leaders) (now levels) ⌝ }
     requires { ⌜ (length (now events) / eventWidth ≤ 8) × (length (now events) / eventWidth ≤ length (now masks)) ⌝ }
     ensures { λ _. ⌜ now (masks .exit) ≡ listTo (length (now (events .entry)) / eventWidth) (flagMaskIn (caseIn (now (units .entry)) [] [] (now (events .entry))) (now (levels .entry))) ++ drop (length (now (events .entry)) / eventWidth) (now (masks .entry)) ⌝ }
 {
@@ -434,7 +436,7 @@ fn flag_masks(
     levels: &[u32],
     masks: &mut [u32],
 )
-    requires { ⌜ Found (now units) (now events) (now places) (now groups) (now leaders) (now levels) ⌝ }
+    requires { ⌜ FoundParties (now units) (now events) (now places) (now groups) (now leaders) (now levels) ⌝ }
     requires { ⌜ length (now events) / eventWidth ≤ length (now masks) ⌝ }
     ensures { λ _. ⌜ now (masks .exit) ≡ listTo (length (now (events .entry)) / eventWidth) (flagMaskIn (caseIn (now (units .entry)) [] [] (now (events .entry))) (now (levels .entry))) ++ drop (length (now (events .entry)) / eventWidth) (now (masks .entry)) ⌝ }
 {

@@ -7,12 +7,12 @@ ghost use lib.Dec.{eqb};
 ghost use lib.ListN.{length, getD};
 ghost use Rattle.binary.specs.Bounded.{bitOf};
 ghost use Rattle.binary.specs.Lists.{Holds};
-ghost use Rattle.casefile.specs.Layout.{eventWidth, cellWidth, hours, mostEvents, unitWidth, longestFile};
+ghost use Rattle.casefile.specs.Layout.{eventWidth, cellWidth, mostHours, mostEvents, unitWidth, longestFile};
 ghost use Rattle.casefile.specs.Decode.{unitsIn, eventsIn, amountsIn, caseIn};
 ghost use Rattle.casefile.specs.Lookup.{groupOf};
-ghost use Rattle.casefile.specs.Read.{cellOf};
-ghost use Rattle.conduct.specs.Parties.{leaderOf};
-ghost use Rattle.conduct.specs.Stages.{cellsIn, Small, Zeros, Added, partyFigure, HasSums, HasRow, Below, capabilityShare, capabilityOf, listedCapability, timeComponent, timeKey, countedIncrease, keyedIncrease, cell, HasIncreases, SmallTable};
+ghost use Rattle.casefile.specs.StageRead.{cellOf};
+ghost use Rattle.conduct.specs.StageParties.{leaderOf};
+ghost use Rattle.conduct.specs.StageFlags.{cellsIn, Small, Zeros, Added, partyFigure, HasSums, HasRow, Below, capabilityShare, capabilityOf, listedCapability, timeComponent, timeKey, countedIncrease, keyedIncrease, cell, HasIncreases, SmallTable};
 use crate::parties::pack;
 use binary::bytes::load_u8;
 use binary::bytes::load_u16;
@@ -23,12 +23,12 @@ use binary::numbers::wide;
 use casefile::cells::cell_at;
 use casefile::layout;
 use casefile::records::record_at;
-use tariff::conduct::increase;
+use tariff::conduct_tests::increase;
 
 // The part of event i where its cells begin.
 pub fn cells_of(events: &[u8], i: usize) -> &[u8]
     requires { ⌜ i < length (now events) / eventWidth ⌝ }
-    ensures { λ r. ⌜ (now r ≡ cellsIn (now (events .entry)) i) × (length (now r) ≡ cellWidth * hours) ⌝ }
+    ensures { λ r. ⌜ (now r ≡ cellsIn (now (events .entry)) i) × (length (now r) ≡ cellWidth * mostHours) ⌝ }
 {
     let event = record_at(events, i, layout::EVENT_WIDTH);
     &event[layout::CELLS_OFFSET..]
@@ -36,7 +36,7 @@ pub fn cells_of(events: &[u8], i: usize) -> &[u8]
 
 // What an event adds to its party's sum: a, or for kind 3 its bit of P.
 fn party_figure(kind: u8, p: u32, cells: &[u8], h: usize) -> u32
-    requires { ⌜ (h < hours) × (length (now cells) ≡ cellWidth * hours) ⌝ }
+    requires { ⌜ (h < mostHours) × (length (now cells) ≡ cellWidth * mostHours) ⌝ }
     ensures { λ r. ⌜ r ≡ cond (eqb kind 3) (cond (bitOf p h) 1 0) (cellOf (now (cells .entry)) h .a) ⌝ }
 {
     let cell = cell_at(cells, h);
@@ -47,9 +47,9 @@ fn party_figure(kind: u8, p: u32, cells: &[u8], h: usize) -> u32
 
 // Adds the 24 figures of event j to the row of its leader.
 fn add_event(sums: &mut [u64], leader: usize, events: &[u8], j: usize)
-    requires { ⌜ (hours * leader + 24 ≤ length (now sums)) × (j < length (now events) / eventWidth) ⌝ }
+    requires { ⌜ (mostHours * leader + 24 ≤ length (now sums)) × (j < length (now events) / eventWidth) ⌝ }
     requires { ⌜ Small (now sums) ⌝ }
-    ensures { λ _. ⌜ Added (hours * leader) 24 (now (sums .entry)) (now (sums .exit)) (partyFigure (caseIn [] [] [] (now (events .entry))) j) ⌝ }
+    ensures { λ _. ⌜ Added (mostHours * leader) 24 (now (sums .entry)) (now (sums .exit)) (partyFigure (caseIn [] [] [] (now (events .entry))) j) ⌝ }
 {
     let event = record_at(events, j, layout::EVENT_WIDTH);
     let kind = load_u8(event, 0);
@@ -66,7 +66,7 @@ fn add_event(sums: &mut [u64], leader: usize, events: &[u8], j: usize)
 
 // For each leader the 24 sums of its party, added in a table of zeros: S for kinds 1 and 2, for kind 3 how many P have the hour's bit.
 pub fn party_sums(events: &[u8], leaders: &[usize], sums: &mut [u64])
-    requires { ⌜ (length (now events) / eventWidth ≤ mostEvents) × (length (now events) / eventWidth ≤ length (now leaders)) × (hours * (length (now events) / eventWidth) ≤ length (now sums)) ⌝ }
+    requires { ⌜ (length (now events) / eventWidth ≤ mostEvents) × (length (now events) / eventWidth ≤ length (now leaders)) × (mostHours * (length (now events) / eventWidth) ≤ length (now sums)) ⌝ }
     requires { ⌜ Below (length (now events) / eventWidth) (now leaders) ⌝ }
     requires { ⌜ Zeros (now sums) ⌝ }
     ensures { λ _. ⌜ HasSums (caseIn [] [] [] (now (events .entry))) (now (leaders .entry)) (length (now (events .entry)) / eventWidth) (length (now (events .entry)) / eventWidth) (now (sums .exit)) ⌝ }
@@ -190,9 +190,9 @@ pub fn time_keys(events: &[u8], keys: &mut [u64])
 
 // Adds the positive d of event j in each hour, where it counts.
 fn add_increases(row: &mut [u64], events: &[u8], level: u32, j: usize, counts: bool)
-    requires { ⌜ (length (now row) ≡ hours) × (j < length (now events) / eventWidth) ⌝ }
+    requires { ⌜ (length (now row) ≡ mostHours) × (j < length (now events) / eventWidth) ⌝ }
     requires { ⌜ Small (now row) ⌝ }
-    ensures { λ _. ⌜ Added 0 hours (now (row .entry)) (now (row .exit)) (countedIncrease (amountsIn (now (events .entry))) level j counts) ⌝ }
+    ensures { λ _. ⌜ Added 0 mostHours (now (row .entry)) (now (row .exit)) (countedIncrease (amountsIn (now (events .entry))) level j counts) ⌝ }
 {
     if !counts {
         return;
@@ -211,7 +211,7 @@ fn add_increases(row: &mut [u64], events: &[u8], level: u32, j: usize, counts: b
 // The positive d of the events with this key, by hour.
 fn component_increases(events: &[u8], levels: &[u32], keys: &[u64], key: u64) -> [u64; 24]
     requires { ⌜ (length (now events) / eventWidth ≤ mostEvents) × (length (now events) / eventWidth ≤ length (now levels)) × (length (now events) / eventWidth ≤ length (now keys)) ⌝ }
-    ensures { λ r. ⌜ Holds hours r (keyedIncrease (amountsIn (now (events .entry))) (now (levels .entry)) (now (keys .entry)) key (length (now (events .entry)) / eventWidth)) ⌝ }
+    ensures { λ r. ⌜ Holds mostHours r (keyedIncrease (amountsIn (now (events .entry))) (now (levels .entry)) (now (keys .entry)) key (length (now (events .entry)) / eventWidth)) ⌝ }
 {
     let n = events.len() / layout::EVENT_WIDTH;
     let mut row = [0u64; 24];

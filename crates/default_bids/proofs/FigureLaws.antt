@@ -15,16 +15,16 @@ use Rattle.binary.proofs.BoundedLaws.{sum-same, first-same, last-same}
 use Rattle.binary.proofs.MaskLaws.{mask-same, mask-lt, mask-bits, bit-mask, bit-and}
 use Rattle.binary.proofs.ByteLaws.{value-drop}
 use Rattle.binary.proofs.ListLaws.{list-same}
-use Rattle.tariff.specs.DefaultBids.{spanned, spanMask, correctedInForce, hourMakeUp, makeUp}
-use Rattle.casefile.specs.Layout.{eventWidth, cellsOffset, hours}
+use Rattle.tariff.specs.DefaultBidRules.{spanned, spanMask, correctedInForce, hourMakeUp, makeUp}
+use Rattle.casefile.specs.Layout.{eventWidth, cellsOffset, mostHours}
 use Rattle.casefile.specs.Case.{Units, References, Events, Case}
 use Rattle.casefile.specs.Decode.{recordAt, unitsIn, referencesIn, eventsIn, amountsIn, caseIn}
 use Rattle.casefile.specs.Lookup.{unitOf, levelOf, referenceOf, readsCorrect}
-use Rattle.casefile.specs.Read.{cellOf}
+use Rattle.casefile.specs.StageRead.{cellOf}
 use Rattle.conduct.specs.Flags.{tight, flagged, flagMask}
-use Rattle.conduct.specs.Parties.{bidLevel}
+use Rattle.casefile.specs.Lookup.{bidLevel}
 use Rattle.default_bids.specs.Mitigation.{hit, mitigated, mitigatedMask, correctOf, bidInForce, makeUpTenths, makeUpOf}
-use Rattle.default_bids.specs.Figures.{readsLevel, correctLevel, mitigatedBy, termsOf, hourBid, bidAt, bidBy, tenthsAt, makeUpBy}
+use Rattle.default_bids.specs.StageFigures.{readsLevel, correctLevel, mitigatedBy, termsOf, hourBid, bidAt, bidBy, tenthsAt, makeUpBy}
 use Rattle.default_bids.proofs.LevelLaws.{bid-free}
 
 -- ---- mitigated hours
@@ -101,24 +101,24 @@ bid-by c correct i h l = cond-same (eqb (c .events .kind i) 4) (λ t. body (T→
 
 -- the bids in force of event i, whole
 pub bids-by : (u r p s : List ℕ) (correct : References) (i : ℕ) → let c = caseIn u r p s in
-    listTo hours (bidBy (unitsIn u) (eventsIn s) (amountsIn s) i (unitOf c i) (bidLevel (referencesIn r) (eventsIn s) i)
+    listTo mostHours (bidBy (unitsIn u) (eventsIn s) (amountsIn s) i (unitOf c i) (bidLevel (referencesIn r) (eventsIn s) i)
     (correctLevel correct (eventsIn s) i) (mitigatedMask c i))
-    ≡ listTo hours (bidInForce c correct i)
+    ≡ listTo mostHours (bidInForce c correct i)
 unfolding caseIn eventsIn
-bids-by u r p s correct i = list-same hours _ _ (λ h l. bid-by (caseIn u r p s) correct i h l)
+bids-by u r p s correct i = list-same mostHours _ _ (λ h l. bid-by (caseIn u r p s) correct i h l)
 
 -- what the code reads in the cells
 pub bids-read : (u : Units) (s : List ℕ) (i place r k mask : ℕ) → eqb (eventsIn s .kind i) 4 ≡ true
-    → listTo hours (bidAt (termsOf u (eventsIn s) i place r k mask) (drop cellsOffset (recordAt eventWidth s i)))
-    ≡ listTo hours (bidBy u (eventsIn s) (amountsIn s) i place r k mask)
+    → listTo mostHours (bidAt (termsOf u (eventsIn s) i place r k mask) (drop cellsOffset (recordAt eventWidth s i)))
+    ≡ listTo mostHours (bidBy u (eventsIn s) (amountsIn s) i place r k mask)
 unfolding bidAt bidBy cellOf amountsIn
-bids-read u s i place r k mask e = list-same hours _ _ (λ h l. rw e (simp value-drop))
+bids-read u s i place r k mask e = list-same mostHours _ _ (λ h l. rw e (simp value-drop))
 
 pub bids-none : (u : Units) (e : Events) (a : ℕ → ℕ → ℕ) (i place r k mask : ℕ) → eqb (e .kind i) 4 ≡ false
-    → replicate hours 0 ≡ listTo hours (bidBy u e a i place r k mask)
+    → replicate mostHours 0 ≡ listTo mostHours (bidBy u e a i place r k mask)
 unfolding bidBy listTo
 bids-none u e a i place r k mask n =
-    let none : listTo hours (λ h. 0) ≡ listTo hours (bidBy u e a i place r k mask) = list-same hours (λ h. 0) (bidBy u e a i place r k mask) (λ h l. rw n) in
+    let none : listTo mostHours (λ h. 0) ≡ listTo mostHours (bidBy u e a i place r k mask) = list-same mostHours (λ h. 0) (bidBy u e a i place r k mask) (λ h l. rw n) in
     none
 
 -- ---- make-up
@@ -156,17 +156,17 @@ make-up-by u r p s correct i =
     cells : List ℕ
     cells = drop cellsOffset (recordAt eventWidth s i)
 
-    hour : (k h : ℕ) → h < hours → tenthsAt cells k (mitigatedMask c i) h
+    hour : (k h : ℕ) → h < mostHours → tenthsAt cells k (mitigatedMask c i) h
         ≡ cond (mitigated c i h) (hourMakeUp (c .a i h) (c .events .b i h) (c .events .m i h) k) 0
     hour k h l = rw (mitigated-bit c i h l) (simp (value-drop, add-assoc))
 
     body : eqb (eventsIn s .kind i) 4 ≡ true → eventsIn s .component i ≡ 0
         → makeUp (bidLevel (referencesIn r) (eventsIn s) i) (correctLevel correct (eventsIn s) i)
-        (sumTo hours (tenthsAt cells (correctLevel correct (eventsIn s) i) (mitigatedMask c i)))
+        (sumTo mostHours (tenthsAt cells (correctLevel correct (eventsIn s) i) (mitigatedMask c i)))
         ≡ makeUp (referenceOf c i) (correctOf c correct i) (makeUpTenths c correct i)
     body e z =
         rw (level-bid (referencesIn r) (eventsIn s) i e, level-energy correct (eventsIn s) i e z)
-        (ap (makeUp (referenceOf c i) (correctOf c correct i)) (sum-same hours _ _ (hour (correctOf c correct i))))
+        (ap (makeUp (referenceOf c i) (correctOf c correct i)) (sum-same mostHours _ _ (hour (correctOf c correct i))))
 
 -- ---- components 2 and 4 to 8 never read c
 

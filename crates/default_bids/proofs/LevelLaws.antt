@@ -7,12 +7,12 @@ use borrow.Author.Tests.{eqb-true, leb-false, ne-eqb}
 use lib.Dec.{leb, eqb}
 use Rattle.binary.proofs.Implies.{or-l, or-r}
 use Rattle.binary.proofs.BoundedLaws.{all-true}
-use Rattle.tariff.specs.DefaultBids.{restores, correctedBid, correctedInForce}
+use Rattle.tariff.specs.DefaultBidRules.{restores, correctedBid, correctedInForce}
 use Rattle.casefile.specs.Case.{References, Events}
 use Rattle.casefile.specs.Lookup.{hasReference, levelOf, readsCorrect}
 use Rattle.casefile.specs.Refusal.{referencesFound}
 use Rattle.casefile.proofs.SectionLaws.{correct-there}
-use Rattle.default_bids.specs.Figures.{readsLevel, correctLevel, correctFound, correctsFound}
+use Rattle.default_bids.specs.StageFigures.{readsLevel, correctLevel, correctFound, correctsFound}
 
 -- check 14 says it of the correct references too
 pub found-correct : (own correct : References) (e : Events) → referencesFound own correct e ≡ true → correctsFound correct e ≡ true

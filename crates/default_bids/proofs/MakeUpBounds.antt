@@ -13,15 +13,15 @@ use Rattle.binary.proofs.BoundedLaws.{product-bound}
 use Rattle.binary.proofs.ByteLaws.{value-drop}
 use Rattle.binary.proofs.Implies.{cond-bound}
 use Rattle.binary.proofs.WordLaws.{positive-lt, negative-le}
-use Rattle.tariff.specs.DefaultBids.{lesser, excess, hourMakeUp, makeUp}
-use Rattle.tariff.specs.Sanctions.{cents}
+use Rattle.tariff.specs.DefaultBidRules.{lesser, excess, hourMakeUp, makeUp}
+use Rattle.tariff.specs.SanctionRules.{cents}
 use Rattle.tariff.specs.Ranges.{highestMegawatts}
 use Rattle.casefile.specs.Layout.{eventWidth, cellsOffset}
 use Rattle.casefile.specs.Decode.{recordAt, eventsIn}
 use Rattle.casefile.specs.Refusal.{eventsFine}
-use Rattle.casefile.specs.Read.{cellOf}
+use Rattle.casefile.specs.StageRead.{cellOf}
 use Rattle.casefile.proofs.SectionLaws.{cell-ranges}
-use Rattle.default_bids.specs.Figures.{MegawattsFine, tenthsAt}
+use Rattle.default_bids.specs.StageFigures.{MegawattsFine, tenthsAt}
 
 excess-bound : (x y : ℕ) → excess x y ≤ 4294967296
 unfolding excess

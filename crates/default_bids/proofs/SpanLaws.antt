@@ -6,7 +6,7 @@ use borrow.Author.Tests.{eq-eqb}
 use Rattle.binary.specs.Bounded.{maskTo}
 use Rattle.binary.proofs.BoundedLaws.{first-same, last-same}
 use Rattle.binary.proofs.MaskLaws.{mask-same}
-use Rattle.tariff.specs.DefaultBids.{between, spanned, spanMask}
+use Rattle.tariff.specs.DefaultBidRules.{between, spanned, spanMask}
 use Rattle.casefile.specs.Case.{Case}
 use Rattle.default_bids.specs.Mitigation.{hit, mitigated, mitigatedMask}
 

@@ -1,2 +1,2 @@
 pub mod Mitigation
-pub mod Figures
+pub mod StageFigures

@@ -4,7 +4,7 @@ use Prim.Native.Nat.{ℕ}
 use mathlib.Core.Bool.{Bool, cond, _&&_}
 use lib.Dec.{eqb}
 use Rattle.binary.specs.Bounded.{sumTo, maskTo, bitOf}
-use Rattle.tariff.specs.DefaultBids.{spanned, correctedInForce, hourMakeUp, makeUp}
+use Rattle.tariff.specs.DefaultBidRules.{spanned, correctedInForce, hourMakeUp, makeUp}
 use Rattle.casefile.specs.Case.{References, Case}
 use Rattle.casefile.specs.Lookup.{unitOf, levelOf, referenceOf}
 use Rattle.conduct.specs.Flags.{tight, flagged}

@@ -3,9 +3,9 @@ ghost use mathlib.Core.Path.{_≡_};
 ghost use Prim.Native.Nat.{_*_, _/_, _<_};
 ghost use lib.ListN.{length};
 ghost use Rattle.binary.specs.Lists.{listTo};
-ghost use Rattle.casefile.specs.Layout.{hours, eventWidth, unitWidth, cellWidth};
+ghost use Rattle.casefile.specs.Layout.{mostHours, eventWidth, unitWidth, cellWidth};
 ghost use Rattle.casefile.specs.Decode.{unitsIn, eventsIn, amountsIn};
-ghost use Rattle.default_bids.specs.Figures.{termsOf, hourBid, bidAt, bidBy};
+ghost use Rattle.default_bids.specs.StageFigures.{termsOf, hourBid, bidAt, bidBy};
 use binary::bytes::load_u8;
 use binary::bytes::load_u16;
 use binary::bytes::load_u32;
@@ -14,8 +14,8 @@ use binary::numbers::choose_u32;
 use casefile::cells::cell_at;
 use casefile::layout;
 use casefile::records::record_at;
-use tariff::conduct::bid_test;
-use tariff::default_bids::corrected_bid;
+use tariff::conduct_tests::bid_test;
+use tariff::default_bid_rules::corrected_bid;
 
 // What the hours of a bid share: its unit's and its own terms, r, c and the mitigated mask.
 pub struct Terms {
@@ -87,8 +87,8 @@ fn hour_bid(t: Terms, a: u32, h: usize) -> u32
 }
 
 fn hour_bids(t: Terms, cells: &[u8]) -> [u32; 24]
-    requires { ⌜ length (now cells) ≡ cellWidth * hours ⌝ }
-    ensures { λ r. ⌜ r ≡ listTo hours (bidAt t (now (cells .entry))) ⌝ }
+    requires { ⌜ length (now cells) ≡ cellWidth * mostHours ⌝ }
+    ensures { λ r. ⌜ r ≡ listTo mostHours (bidAt t (now (cells .entry))) ⌝ }
 {
     let mut bids = [0u32; 24];
     let mut h = 0;
@@ -112,7 +112,7 @@ pub fn bids_in_force(
     mitigated: u32,
 ) -> [u32; 24]
     requires { ⌜ (i < length (now events) / eventWidth) × (place < length (now units) / unitWidth) ⌝ }
-    ensures { λ r. ⌜ r ≡ listTo hours (bidBy (unitsIn (now (units .entry))) (eventsIn (now (events .entry))) (amountsIn (now (events .entry))) i place reference correct mitigated) ⌝ }
+    ensures { λ r. ⌜ r ≡ listTo mostHours (bidBy (unitsIn (now (units .entry))) (eventsIn (now (events .entry))) (amountsIn (now (events .entry))) i place reference correct mitigated) ⌝ }
 {
     let event = record_at(events, i, layout::EVENT_WIDTH);
     let kind = load_u8(event, 0);

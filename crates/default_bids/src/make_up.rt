@@ -7,25 +7,25 @@ ghost use lib.ListN.{length, drop};
 ghost use Rattle.binary.specs.Bounded.{sumTo};
 ghost use Rattle.binary.specs.Lists.{listTo, Holds};
 ghost use Rattle.tariff.specs.Ranges.{highestMegawatts};
-ghost use Rattle.casefile.specs.Layout.{hours, cellWidth, eventWidth, longestFile};
+ghost use Rattle.casefile.specs.Layout.{mostHours, cellWidth, eventWidth, longestFile};
 ghost use Rattle.casefile.specs.Decode.{referencesIn, eventsIn, caseIn};
 ghost use Rattle.casefile.specs.Refusal.{eventsFine};
-ghost use Rattle.casefile.specs.Read.{cellOf};
-ghost use Rattle.conduct.specs.Parties.{bidLevel};
+ghost use Rattle.casefile.specs.StageRead.{cellOf};
+ghost use Rattle.casefile.specs.Lookup.{bidLevel};
 ghost use Rattle.default_bids.specs.Mitigation.{mitigatedMask, makeUpOf, totalMakeUp};
-ghost use Rattle.default_bids.specs.Figures.{MegawattsFine, correctLevel, tenthsAt, makeUpBy};
+ghost use Rattle.default_bids.specs.StageFigures.{MegawattsFine, correctLevel, tenthsAt, makeUpBy};
 use binary::bytes::load_u8;
 use binary::masks::bit_of;
 use binary::numbers::choose_u64;
 use casefile::cells::cell_at;
 use casefile::layout;
 use casefile::records::record_at;
-use tariff::default_bids::hour_make_up;
-use tariff::default_bids::make_up;
+use tariff::default_bid_rules::hour_make_up;
+use tariff::default_bid_rules::make_up;
 
 // One hour, in tenths of a cent.
 fn hour_tenths(cells: &[u8], h: usize, correct: u32, mitigated: u32) -> u64
-    requires { ⌜ (h < hours) × (length (now cells) ≡ cellWidth * hours) × (cellOf (now cells) h .m ≤ highestMegawatts) ⌝ }
+    requires { ⌜ (h < mostHours) × (length (now cells) ≡ cellWidth * mostHours) × (cellOf (now cells) h .m ≤ highestMegawatts) ⌝ }
     ensures { λ r. ⌜ (r ≡ tenthsAt (now (cells .entry)) correct mitigated h) × (r ≤ 214748364800000) ⌝ }
 {
     let cell = cell_at(cells, h);
@@ -38,8 +38,8 @@ fn hour_tenths(cells: &[u8], h: usize, correct: u32, mitigated: u32) -> u64
 
 // The mitigated hours' sum, in tenths of a cent.
 fn sum_tenths(cells: &[u8], correct: u32, mitigated: u32) -> u64
-    requires { ⌜ (length (now cells) ≡ cellWidth * hours) × MegawattsFine (now cells) ⌝ }
-    ensures { λ r. ⌜ (r ≡ sumTo hours (tenthsAt (now (cells .entry)) correct mitigated)) × (r ≤ 5153960755200000) ⌝ }
+    requires { ⌜ (length (now cells) ≡ cellWidth * mostHours) × MegawattsFine (now cells) ⌝ }
+    ensures { λ r. ⌜ (r ≡ sumTo mostHours (tenthsAt (now (cells .entry)) correct mitigated)) × (r ≤ 5153960755200000) ⌝ }
 {
     let mut sum: u64 = 0;
     let mut h = 0;

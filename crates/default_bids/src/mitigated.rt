@@ -8,13 +8,13 @@ ghost use Rattle.casefile.specs.Layout.{eventWidth};
 ghost use Rattle.casefile.specs.Decode.{eventsIn, caseIn};
 ghost use Rattle.conduct.specs.Flags.{flagMask};
 ghost use Rattle.default_bids.specs.Mitigation.{mitigatedMask};
-ghost use Rattle.default_bids.specs.Figures.{mitigatedBy};
+ghost use Rattle.default_bids.specs.StageFigures.{mitigatedBy};
 use binary::bytes::load_u8;
 use binary::bytes::load_u32;
 use binary::numbers::choose_u32;
 use casefile::layout;
 use casefile::records::record_at;
-use tariff::default_bids::span_mask;
+use tariff::default_bid_rules::span_mask;
 
 // The mitigated hours of event i, whose flag mask is given.
 fn mitigated_mask(events: &[u8], i: usize, flags: u32) -> u32

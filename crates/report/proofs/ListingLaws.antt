@@ -13,13 +13,13 @@ use Rattle.casefile.specs.Decode.{sectionOf, decode, caseIn, eventsIn}
 use Rattle.casefile.specs.Refusal.{refusal}
 use Rattle.casefile.proofs.AcceptedLaws as case
 use Rattle.settlement.specs.declared.settle.Settlement.the-variants as settlement
-use Rattle.settlement.specs.Settled.{Answer, refused, accepted, settlementOf, answerOf, rowsAfter}
+use Rattle.settlement.specs.Settled.{SettlementAnswer, refusedAnswer, accepted, settlementOf, answerOf, rowsAfter}
 use Rattle.report.specs.Line.{linesTo}
 use Rattle.report.specs.Listing.{longestListing, refusalText, totalText, textOf, listingOf, listedLength, listedOut, listedRows}
-use Rattle.report.specs.Put.{Put}
+use Rattle.report.specs.StagePut.{Put}
 
 -- a refusal has a number that is not 0, and a settlement its values
-refused-text : (a : Answer) (k : ℕ) (events rows : List ℕ) → settlement.Refused k ≡ settlementOf a → textOf a events rows ≡ refusalText k
+refused-text : (a : SettlementAnswer) (k : ℕ) (events rows : List ℕ) → settlement.Refused k ≡ settlementOf a → textOf a events rows ≡ refusalText k
 unfolding settlementOf textOf
 refused-text a k events rows e = go (eqb (a .number) 0) e
   where
@@ -29,13 +29,13 @@ refused-text a k events rows e = go (eqb (a .number) 0) e
     go true q = let z : _≡_ {A = ℕ} 0 1 = cc in absurd (omega arith)
     go false q = let z : a .number ≡ k = cc in rw z refl
 
-pub record Values (a : Answer) (n p m : ℕ) : Type 0 where
+pub record Values (a : SettlementAnswer) (n p m : ℕ) : Type 0 where
   pub number : a .number ≡ 0
   pub rows : a .rowCount ≡ n
   pub penalties : a .penalties ≡ p
   pub make-ups : a .makeUps ≡ m
 
-settled-values : (a : Answer) (n p m : ℕ) → settlement.Settled n p m ≡ settlementOf a → Values a n p m
+settled-values : (a : SettlementAnswer) (n p m : ℕ) → settlement.Settled n p m ≡ settlementOf a → Values a n p m
 unfolding settlementOf
 settled-values a n p m e = go (eqb (a .number) 0) refl e
   where
@@ -53,7 +53,7 @@ answer-number : (f k : List ℕ) (n : ℕ) → answerOf f k n .number ≡ refusa
 unfolding answerOf accepted
 answer-number f k n = go (eqb (refusal f k n) 0) refl
   where
-    go : (b : Bool) → eqb (refusal f k n) 0 ≡ b → cond b (accepted f k) (refused (refusal f k n)) .number ≡ refusal f k n
+    go : (b : Bool) → eqb (refusal f k n) 0 ≡ b → cond b (accepted f k) (refusedAnswer (refusal f k n)) .number ≡ refusal f k n
     go true t = sym (eqb-true (refusal f k n) 0 t)
     go false t = refl
 

@@ -8,7 +8,7 @@ use lib.ListN.{length, length-append}
 use lib.Seq.{length-sets}
 use Rattle.settlement.proofs.WriteLaws.{sets-append}
 use Rattle.report.specs.Decimal.{field, decimalTo, decimalTo-none, decimalTo-one, decimalTo-more}
-use Rattle.report.specs.Put.{Put}
+use Rattle.report.specs.StagePut.{Put}
 
 pub put-size : {a b : List ℕ} {i j : ℕ} {s : List ℕ} → Put a i s b j → length b ≡ length a
 put-size {a} {b} {i} {j} {s} p = ap length (p .content) ∙ length-sets a i s

@@ -1,4 +1,4 @@
 pub mod Decimal
-pub mod Put
+pub mod StagePut
 pub mod Line
 pub mod Listing

@@ -6,7 +6,7 @@ use lib.Dec.{ltb, eqb}
 use lib.ListN.{length}
 use lib.Seq.{sets}
 use Rattle.casefile.specs.Decode.{sectionOf}
-use Rattle.settlement.specs.Settled.{Answer, answerOf, rowsAfter}
+use Rattle.settlement.specs.Settled.{SettlementAnswer, answerOf, rowsAfter}
 use Rattle.report.specs.Decimal.{field}
 use Rattle.report.specs.Line.{space, lineFeed, linesTo}
 
@@ -24,7 +24,7 @@ unfoldable pub totalText : (penalties makeUps : ℕ) → List ℕ
 totalText p m = totalWord ++ field p space ++ field m lineFeed
 
 -- the text of an answer, with the events and the rows as they then stand
-unfoldable pub textOf : Answer → (events rows : List ℕ) → List ℕ
+unfoldable pub textOf : SettlementAnswer → (events rows : List ℕ) → List ℕ
 textOf a events rows =
     cond (eqb (a .number) 0) (linesTo (a .rowCount) events rows ++ totalText (a .penalties) (a .makeUps)) (refusalText (a .number))
 

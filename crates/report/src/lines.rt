@@ -3,7 +3,7 @@ ghost use mathlib.Core.Path.{_≡_};
 ghost use Prim.Native.Nat.{_+_, _*_, _≤_};
 ghost use lib.ListN.{length};
 ghost use Rattle.casefile.specs.Layout.{eventWidth, rowWidth};
-ghost use Rattle.report.specs.Put.{Put};
+ghost use Rattle.report.specs.StagePut.{Put};
 ghost use Rattle.report.specs.Line.{eventFields, rowFields, linesTo};
 use crate::text::put_field;
 use binary::bytes::load_u8;

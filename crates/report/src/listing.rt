@@ -4,7 +4,7 @@ ghost use mathlib.Core.Path.{_≡_};
 ghost use Prim.Native.Nat.{_+_, _*_, _≤_};
 ghost use lib.ListN.{length, take};
 ghost use Rattle.casefile.specs.Layout.{eventWidth, mostEvents, rowWidth};
-ghost use Rattle.report.specs.Put.{Put};
+ghost use Rattle.report.specs.StagePut.{Put};
 ghost use Rattle.report.specs.Line.{linesTo};
 ghost use Rattle.report.specs.Listing.{refusalText, totalText, listedLength, listedOut, listedRows};
 use crate::lines::put_lines;

@@ -3,7 +3,7 @@ ghost use mathlib.Core.List.{_∷_, []};
 ghost use Prim.Native.Nat.{_+_, _<_, _≤_};
 ghost use lib.ListN.{length};
 ghost use Rattle.report.specs.Decimal.{decimalTo, decimal, field};
-ghost use Rattle.report.specs.Put.{Put};
+ghost use Rattle.report.specs.StagePut.{Put};
 
 // Puts one byte at `at`, and answers the position after it.
 pub fn put_byte(out: &mut [u8], at: usize, b: u8) -> usize

@@ -10,7 +10,7 @@ use Rattle.casefile.specs.Decode.{sectionOf, pastIn, eventsIn, caseIn, decode}
 use Rattle.casefile.specs.Refusal.{refusal}
 use Rattle.casefile.proofs.AcceptedLaws as case
 use Rattle.casefile.proofs.SectionLaws.{event-ranges, cell-ranges, amount-bound}
-use Rattle.sanctions.specs.Found.{Accepted}
+use Rattle.sanctions.specs.StageFound.{Accepted}
 use Rattle.sanctions.proofs.PenaltyBounds.{Ranges}
 
 module _ (u p e : List ℕ) (acc : Accepted u p e) where

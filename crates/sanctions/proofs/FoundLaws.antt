@@ -16,18 +16,18 @@ use Rattle.binary.proofs.ByteLaws.{value-drop}
 use Rattle.binary.proofs.BoundedLaws.{sum-same, count-same, any-same}
 use Rattle.binary.proofs.MaskLaws.{bit-mask, mask-any}
 use Rattle.binary.proofs.ListLaws.{fill-none, fill-more, holds-fill}
-use Rattle.tariff.specs.Sanctions.{cents, ladder, withheldPenalty}
-use Rattle.casefile.specs.Layout.{eventWidth, pastWidth, hours}
+use Rattle.tariff.specs.SanctionRules.{cents, ladder, withheldPenalty}
+use Rattle.casefile.specs.Layout.{eventWidth, pastWidth, mostHours}
 use Rattle.casefile.specs.Case.{Case}
 use Rattle.casefile.specs.Decode.{pastIn, eventsIn, caseIn}
 use Rattle.casefile.specs.Lookup.{groupOf}
-use Rattle.casefile.specs.Read.{cellOf}
+use Rattle.casefile.specs.StageRead.{cellOf}
 use Rattle.conduct.specs.Flags.{sumTogether, fuelFlag, flagged, flagMask}
-use Rattle.conduct.specs.Parties.{leaderOf}
-use Rattle.conduct.specs.Stages.{cellsIn}
+use Rattle.conduct.specs.StageParties.{leaderOf}
+use Rattle.conduct.specs.StageFlags.{cellsIn}
 use Rattle.sanctions.specs.Penalties.{flaggedWithImpact, isInstance, countsHere, countsPast, instances, N3, N2, withheldMultiplier, withheldAmount, withheldPenaltyOf, dispatchMultiplier, dispatchRevenue, dispatchPenaltyOf, energyPart, gain, loss, tccChange, lowestUnit, pastFuel, fuelMultiplierAfter, fuelPenaltyUnder, fuelMultiplier, fuelPenaltyOf, multiplier, penalty, totalPenalty, countsFuelHere}
-use Rattle.sanctions.specs.Found.{Accepted, Found, Sound, SmallPenalties}
-use Rattle.sanctions.specs.Tables.{hourEnergy, hourRevenue, instanceOf, rowCounts, entryOf, entryCounts, instancesHere, instancesPast, instancesAt, withImpact, noSanction, instanceRow, withheldRow, dispatchRow, energyIn, ledBy, energyAt, tccAt, partyDay, fuelRowCounts, fuelEntryCounts, multiplierAt, partyPenalty, fuelRow, rowAt}
+use Rattle.sanctions.specs.StageFound.{Accepted, FoundMasks, Sound, SmallPenalties}
+use Rattle.sanctions.specs.StageTables.{hourEnergy, hourRevenue, instanceOf, rowCounts, entryOf, entryCounts, instancesHere, instancesPast, instancesAt, withImpact, noSanction, instanceRow, withheldRow, dispatchRow, energyIn, ledBy, energyAt, tccAt, partyDay, fuelRowCounts, fuelEntryCounts, multiplierAt, partyPenalty, fuelRow, rowAt}
 use Rattle.sanctions.specs.declared.sanction.Sanction.{Sanction}
 use Rattle.sanctions.proofs.PenaltyBounds.{penalty-bound}
 use Rattle.conduct.proofs.SumLaws.{cell-amount}
@@ -75,20 +75,20 @@ pick false false true W D F wm dm fm x y wp dp fp w z d f =
 pick false false false W D F wm dm fm x y wp dp fp w z d f =
     ap₂ (λ (a b : ℕ). row 0 a b 0) (sym (z refl .0)) (sym (z refl .1))
 
-module _ (u r p e groups leaders masks : List ℕ) (acc : Accepted u p e) (found : Found (caseIn u r p e) (length e / eventWidth) groups leaders masks) where
+module _ (u r p e groups leaders masks : List ℕ) (acc : Accepted u p e) (found : FoundMasks (caseIn u r p e) (length e / eventWidth) groups leaders masks) where
   abbrev c : Case
   c = caseIn u r p e
 
   abbrev n : ℕ
   n = length e / eventWidth
 
-  mask-bit : (i h : ℕ) → i < n → h < hours → bitOf (getD masks i 0) h ≡ flagged c i h
+  mask-bit : (i h : ℕ) → i < n → h < mostHours → bitOf (getD masks i 0) h ≡ flagged c i h
   unfolding flagMask caseIn eventsIn
-  mask-bit i h l m = rw (found .mask-held i l) (bit-mask hours h (flagged c i) m)
+  mask-bit i h l m = rw (found .mask-held i l) (bit-mask mostHours h (flagged c i) m)
 
   impact-mask : (i : ℕ) → i < n → withImpact e masks i ≡ flaggedWithImpact c i
   unfolding withImpact flaggedWithImpact flagMask caseIn eventsIn
-  impact-mask i l = rw (found .mask-held i l, mask-any hours (flagged c i))
+  impact-mask i l = rw (found .mask-held i l, mask-any mostHours (flagged c i))
 
   -- ---- Withheld
 
@@ -114,9 +114,9 @@ module _ (u r p e groups leaders masks : List ℕ) (acc : Accepted u p e) (found
   unfolding instancesAt instancesHere instancesPast instances caseIn pastIn
   instances-two n3 i l held = rw (rows-here n3 i 1 l held, entries i 1 l)
 
-  amount-is : (i : ℕ) → i < n → sumTo hours (hourEnergy (positivePart 32) (cellsIn e i) (getD masks i 0)) ≡ withheldAmount c i
+  amount-is : (i : ℕ) → i < n → sumTo mostHours (hourEnergy (positivePart 32) (cellsIn e i) (getD masks i 0)) ≡ withheldAmount c i
   unfolding hourEnergy withheldAmount caseIn eventsIn
-  amount-is i l = sum-same hours _ _ (λ h m. rw (mask-bit i h l m, cell-amount e i h, cell-price e i h))
+  amount-is i l = sum-same mostHours _ _ (λ h m. rw (mask-bit i h l m, cell-amount e i h, cell-price e i h))
 
   withheld-is : (n3 : List ℕ) (i : ℕ) → i < n → Holds i n3 (N3 c) → eventsIn e .kind i ≡ 1
       → withheldRow p e groups masks n3 i ≡ row (withheldMultiplier c i) (N3 c i) (N2 c i) (withheldPenaltyOf c i)
@@ -137,9 +137,9 @@ module _ (u r p e groups leaders masks : List ℕ) (acc : Accepted u p e) (found
 
   -- ---- Dispatch
 
-  revenue-is : (i : ℕ) → i < n → sumTo hours (hourRevenue (cellsIn e i) (getD masks i 0)) ≡ dispatchRevenue c i
+  revenue-is : (i : ℕ) → i < n → sumTo mostHours (hourRevenue (cellsIn e i) (getD masks i 0)) ≡ dispatchRevenue c i
   unfolding hourRevenue dispatchRevenue caseIn eventsIn
-  revenue-is i l = sum-same hours _ _ (λ h m. rw (mask-bit i h l m, cell-price e i h))
+  revenue-is i l = sum-same mostHours _ _ (λ h m. rw (mask-bit i h l m, cell-price e i h))
 
   dispatch-is : (i : ℕ) → i < n → dispatchRow e masks i ≡ row (dispatchMultiplier c i) 0 0 (dispatchPenaltyOf c i)
   unfolding dispatchRow noSanction dispatchMultiplier dispatchPenaltyOf
@@ -151,7 +151,7 @@ module _ (u r p e groups leaders masks : List ℕ) (acc : Accepted u p e) (found
 
   -- ---- Fuel
 
-  union-bit : (i h : ℕ) → i < n → h < hours → eventsIn e .kind i ≡ 3 → bitOf (getD masks i 0) h ≡ fuelFlag c i h
+  union-bit : (i h : ℕ) → i < n → h < mostHours → eventsIn e .kind i ≡ 3 → bitOf (getD masks i 0) h ≡ fuelFlag c i h
   unfolding flagged caseIn
   union-bit i h l m k = mask-bit i h l m ∙ rw k
 
@@ -163,7 +163,7 @@ module _ (u r p e groups leaders masks : List ℕ) (acc : Accepted u p e) (found
       → energyAt part e (getD masks i 0) j ≡ energyPart part c i j
   unfolding energyIn hourEnergy energyPart caseIn eventsIn
   energy-is part i j l k =
-      ap (λ (x : ℕ). 10 * part (eventsIn e .Q j) + x) (sum-same hours _ _ (λ h m. rw (union-bit i h l m k, cell-amount e j h, cell-price e j h)))
+      ap (λ (x : ℕ). 10 * part (eventsIn e .Q j) + x) (sum-same mostHours _ _ (λ h m. rw (union-bit i h l m k, cell-amount e j h, cell-price e j h)))
 
   multiplier-is : (penalties : List ℕ) (i : ℕ) → i < n → Holds i penalties (penalty c)
       → multiplierAt p e groups penalties i ≡ fuelMultiplier c i

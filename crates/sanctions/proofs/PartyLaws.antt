@@ -13,7 +13,7 @@ use Rattle.casefile.specs.Case.{Case}
 use Rattle.casefile.specs.Refusal.{orderFine}
 use Rattle.casefile.proofs.SectionLaws.{units-in-order}
 use Rattle.conduct.specs.Flags.{together}
-use Rattle.conduct.specs.Parties.{leaderOf}
+use Rattle.conduct.specs.StageParties.{leaderOf}
 use Rattle.conduct.proofs.PartyLaws.{SameParty, together-fields, together-sym, leader-le, leader-together, leader-first, leader-eqb}
 use Rattle.sanctions.specs.Penalties.{lowestUnit}
 

@@ -9,7 +9,7 @@ use Rattle.binary.specs.Bounded.{sumTo}
 use Rattle.binary.specs.Word.{positivePart, negativePart}
 use Rattle.binary.proofs.Implies.{cond-bound, and-left}
 use Rattle.binary.proofs.BoundedLaws.{sum-bound}
-use Rattle.tariff.specs.Sanctions.{cents, ladder, withheldPenalty, dispatchPenalty, fuelCharge, fuelPenalty}
+use Rattle.tariff.specs.SanctionRules.{cents, ladder, withheldPenalty, dispatchPenalty, fuelCharge, fuelPenalty}
 use Rattle.casefile.specs.Case.{Case}
 use Rattle.conduct.specs.Flags.{together, sumTogether, fuelFlag, flagged}
 use Rattle.sanctions.specs.Penalties.{flaggedWithImpact, isInstance, instances, withheldMultiplier, withheldAmount, withheldPenaltyOf, dispatchMultiplier, dispatchRevenue, dispatchPenaltyOf, energyPart, gain, loss, tccChange, lowestUnit, fuelMultiplierAfter, fuelPenaltyUnder, fuelMultiplier, fuelPenaltyOf, multiplier, penalty}

@@ -5,7 +5,7 @@ use mathlib.Core.Path.{_≡_, refl, ap, ap₂, _∙_}
 use lib.Dec.{ltb, eqb}
 use borrow.Author.Tests.{eqb-true}
 use Rattle.binary.specs.Bounded.{anyTo}
-use Rattle.tariff.specs.Sanctions.{fuelDayCounts}
+use Rattle.tariff.specs.SanctionRules.{fuelDayCounts}
 use Rattle.casefile.specs.Case.{Case}
 use Rattle.casefile.specs.Lookup.{groupOf}
 use Rattle.sanctions.specs.Penalties.{withheldPenaltyOf, dispatchPenaltyOf, fuelMultiplierAfter, fuelPenaltyUnder, lowestUnit, fuelStands, priorFuel, pastFuel, fuelMultiplier, fuelPenaltyOf, penalty, countsFuelHere}

@@ -12,13 +12,13 @@ use Rattle.binary.specs.Word.{positivePart, negativePart}
 use Rattle.binary.proofs.Implies.{cond-bound}
 use Rattle.binary.proofs.BoundedLaws.{count-more, count-bound, sum-more, sum-bound}
 use Rattle.binary.proofs.WordLaws.{positive-lt, negative-le}
-use Rattle.casefile.specs.Layout.{eventWidth, hours}
+use Rattle.casefile.specs.Layout.{eventWidth, mostHours}
 use Rattle.casefile.specs.Decode.{eventsIn}
-use Rattle.casefile.specs.Read.{cellOf}
-use Rattle.conduct.specs.Stages.{cellsIn}
+use Rattle.casefile.specs.StageRead.{cellOf}
+use Rattle.conduct.specs.StageFlags.{cellsIn}
 use Rattle.sanctions.specs.Penalties.{fuelMultiplierAfter}
-use Rattle.sanctions.specs.Found.{SmallAmounts, Sound}
-use Rattle.sanctions.specs.Tables.{hourEnergy, energyIn, ledBy, energyAt, tccAt, partyShare, partyDay}
+use Rattle.sanctions.specs.StageFound.{SmallAmounts, Sound}
+use Rattle.sanctions.specs.StageTables.{hourEnergy, energyIn, ledBy, energyAt, tccAt, partyShare, partyDay}
 use Rattle.sanctions.specs.declared.fuel.PartyDay.{PartyDay}
 
 -- one turn of a loop that counts
@@ -42,7 +42,7 @@ pub negative-part : Part (negativePart 32)
 negative-part = record { small = λ w. negative-le 32 w (omega arith) }
 
 module _ (part : ℕ → ℕ) (q : Part part) (cells : List ℕ) (mask : ℕ) (small : SmallAmounts cells) where
-  pub hour-small : (h : ℕ) → h < hours → hourEnergy part cells mask h ≤ 107374182400000
+  pub hour-small : (h : ℕ) → h < mostHours → hourEnergy part cells mask h ≤ 107374182400000
   unfolding hourEnergy
   hour-small h l =
       cond-bound (bitOf mask h)
@@ -52,12 +52,12 @@ module _ (part : ℕ → ℕ) (q : Part part) (cells : List ℕ) (mask : ℕ) (s
   energy-small : (Q : ℕ) → energyIn part Q cells mask ≤ 3000000000000000
   unfolding energyIn
   energy-small Q =
-      let s = sum-bound hours (hourEnergy part cells mask) 107374182400000 hour-small in
+      let s = sum-bound mostHours (hourEnergy part cells mask) 107374182400000 hour-small in
       let t = q .small Q in
       omega arith
 
   -- one turn of the loop over the hours
-  pub energy-turn : (h x y s : ℕ) → h < hours → s ≤ 21474836480 → x ≡ s + sumTo h (hourEnergy part cells mask)
+  pub energy-turn : (h x y s : ℕ) → h < mostHours → s ≤ 21474836480 → x ≡ s + sumTo h (hourEnergy part cells mask)
       → y ≡ hourEnergy part cells mask h
       → (x + y ≡ s + sumTo (h + 1) (hourEnergy part cells mask)) × (x + y ≤ 3000000000000000)
   energy-turn h x y s l t e f =

@@ -13,7 +13,7 @@ use borrow.Author.Tests.{le-ltb, ltb-true, ltb-false}
 use Rattle.binary.specs.Bounded.{anyTo}
 use Rattle.binary.specs.Lists.{Bytes}
 use Rattle.binary.proofs.ByteLaws.{stretch-byte}
-use Rattle.tariff.specs.Sanctions.{fuelDayCounts}
+use Rattle.tariff.specs.SanctionRules.{fuelDayCounts}
 use Rattle.casefile.specs.Layout.{eventWidth}
 use Rattle.casefile.specs.Case.{Case}
 use Rattle.casefile.specs.Decode.{offsetOf, lengthOf, sectionOf, eventsIn, caseIn, decode}

@@ -1,3 +1,3 @@
 pub mod Penalties
-pub mod Tables
-pub mod Found
+pub mod StageTables
+pub mod StageFound

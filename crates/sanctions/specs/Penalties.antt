@@ -9,7 +9,7 @@ use Rattle.binary.specs.Bounded.{sumTo, countTo, anyTo}
 use Rattle.binary.specs.Integers.{signed, sumℤTo}
 use Rattle.binary.specs.Lists.{Bytes}
 use Rattle.binary.specs.Word.{positivePart, negativePart}
-use Rattle.tariff.specs.Sanctions.{periodCounts, ladder, withheldPenalty, dispatchPenalty, fuelDayCounts, fuelPenalty}
+use Rattle.tariff.specs.SanctionRules.{periodCounts, ladder, withheldPenalty, dispatchPenalty, fuelDayCounts, fuelPenalty}
 use Rattle.casefile.specs.Case.{Violation, Case}
 use Rattle.casefile.specs.Decode.{decode}
 use Rattle.casefile.specs.Lookup.{groupOf}

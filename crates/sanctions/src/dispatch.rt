@@ -3,8 +3,8 @@ ghost use mathlib.Core.Path.{_≡_};
 ghost use Prim.Native.Nat.{_*_, _/_, _≤_, _<_};
 ghost use lib.ListN.{length};
 ghost use Rattle.binary.specs.Bounded.{sumTo};
-ghost use Rattle.casefile.specs.Layout.{hours, cellWidth, eventWidth};
-ghost use Rattle.sanctions.specs.Tables.{hourRevenue, dispatchRow};
+ghost use Rattle.casefile.specs.Layout.{mostHours, cellWidth, eventWidth};
+ghost use Rattle.sanctions.specs.StageTables.{hourRevenue, dispatchRow};
 use crate::instances::with_impact;
 use crate::sanction::Sanction;
 use binary::masks::bit_of;
@@ -12,11 +12,11 @@ use binary::numbers::choose_u32;
 use casefile::cells::cell_at;
 use casefile::layout;
 use conduct::sums::cells_of;
-use tariff::sanctions::dispatch_penalty;
+use tariff::sanction_rules::dispatch_penalty;
 
 // The added revenue, where the mask has the hour.
 fn hour_revenue(cells: &[u8], mask: u32, h: usize) -> u32
-    requires { ⌜ (h < hours) × (length (now cells) ≡ cellWidth * hours) ⌝ }
+    requires { ⌜ (h < mostHours) × (length (now cells) ≡ cellWidth * mostHours) ⌝ }
     ensures { λ r. ⌜ r ≡ hourRevenue (now (cells .entry)) mask h ⌝ }
 {
     let cell = cell_at(cells, h);
@@ -27,8 +27,8 @@ fn hour_revenue(cells: &[u8], mask: u32, h: usize) -> u32
 
 // The sum over flagged hours.
 fn revenue(cells: &[u8], mask: u32) -> u64
-    requires { ⌜ length (now cells) ≡ cellWidth * hours ⌝ }
-    ensures { λ r. ⌜ (r ≡ sumTo hours (hourRevenue (now (cells .entry)) mask)) × (r ≤ 1000000000000000000) ⌝ }
+    requires { ⌜ length (now cells) ≡ cellWidth * mostHours ⌝ }
+    ensures { λ r. ⌜ (r ≡ sumTo mostHours (hourRevenue (now (cells .entry)) mask)) × (r ≤ 1000000000000000000) ⌝ }
 {
     let mut sum: u64 = 0;
     let mut h = 0;

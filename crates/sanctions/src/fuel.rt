@@ -4,11 +4,11 @@ ghost use Prim.Native.Nat.{_*_, _/_, _≤_, _<_};
 ghost use lib.ListN.{length};
 ghost use Rattle.binary.specs.Bounded.{anyTo};
 ghost use Rattle.binary.specs.Word.{positivePart, negativePart};
-ghost use Rattle.casefile.specs.Layout.{cellWidth, hours, eventWidth, mostEvents, pastWidth};
+ghost use Rattle.casefile.specs.Layout.{cellWidth, mostHours, eventWidth, mostEvents, pastWidth};
 ghost use Rattle.casefile.specs.Decode.{eventsIn};
 ghost use Rattle.sanctions.specs.Penalties.{fuelMultiplierAfter};
-ghost use Rattle.sanctions.specs.Found.{SmallAmounts, Sound};
-ghost use Rattle.sanctions.specs.Tables.{hourEnergy, energyOf, partyShare, partyDay, fuelRowCounts, fuelEntryCounts, fuelRow};
+ghost use Rattle.sanctions.specs.StageFound.{SmallAmounts, Sound};
+ghost use Rattle.sanctions.specs.StageTables.{hourEnergy, energyOf, partyShare, partyDay, fuelRowCounts, fuelEntryCounts, fuelRow};
 use crate::sanction::Sanction;
 use binary::bytes::load_u8;
 use binary::bytes::load_u16;
@@ -24,8 +24,8 @@ use casefile::cells::cell_at;
 use casefile::layout;
 use casefile::records::record_at;
 use conduct::sums::cells_of;
-use tariff::sanctions::fuel_day_counts;
-use tariff::sanctions::fuel_penalty;
+use tariff::sanction_rules::fuel_day_counts;
+use tariff::sanction_rules::fuel_penalty;
 
 // E is gain less loss.
 pub struct Energy {
@@ -43,7 +43,7 @@ pub struct PartyDay {
 
 // a × b where the mask has the hour: its gain or its loss.
 fn hour_energy(cells: &[u8], mask: u32, h: usize) -> Energy
-    requires { ⌜ (h < hours) × (length (now cells) ≡ cellWidth * hours) ⌝ }
+    requires { ⌜ (h < mostHours) × (length (now cells) ≡ cellWidth * mostHours) ⌝ }
     ensures { λ r. ⌜ (r .gain ≡ hourEnergy (positivePart 32) (now (cells .entry)) mask h) × (r .loss ≡ hourEnergy (negativePart 32) (now (cells .entry)) mask h) ⌝ }
 {
     let cell = cell_at(cells, h);
@@ -57,7 +57,7 @@ fn hour_energy(cells: &[u8], mask: u32, h: usize) -> Energy
 
 // An event's part of E: 10 × Q, and a × b over the hours of the mask.
 fn event_energy(q: u32, cells: &[u8], mask: u32) -> Energy
-    requires { ⌜ (length (now cells) ≡ cellWidth * hours) × SmallAmounts (now cells) ⌝ }
+    requires { ⌜ (length (now cells) ≡ cellWidth * mostHours) × SmallAmounts (now cells) ⌝ }
     ensures { λ r. ⌜ r ≡ energyOf q (now (cells .entry)) mask ⌝ }
 {
     let mut gain = 10 * wide(positive_part(q));

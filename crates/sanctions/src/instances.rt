@@ -5,12 +5,12 @@ ghost use Prim.Native.Nat.{_/_, _≤_, _<_};
 ghost use lib.ListN.{length};
 ghost use Rattle.casefile.specs.Layout.{eventWidth, mostEvents, pastWidth};
 ghost use Rattle.casefile.specs.Decode.{pastIn, eventsIn};
-ghost use Rattle.sanctions.specs.Tables.{instanceOf, entryOf, instancesHere, instancesPast, instancesAt, withImpact};
+ghost use Rattle.sanctions.specs.StageTables.{instanceOf, entryOf, instancesHere, instancesPast, instancesAt, withImpact};
 use binary::bytes::load_u8;
 use binary::bytes::load_u16;
 use casefile::layout;
 use casefile::records::record_at;
-use tariff::sanctions::period_counts;
+use tariff::sanction_rules::period_counts;
 
 // Over the own period and the two before, and over the own and the one before.
 pub struct Instances {

@@ -8,8 +8,8 @@ ghost use Rattle.binary.specs.Lists.{listTo};
 ghost use Rattle.casefile.specs.Layout.{eventWidth, pastWidth, mostEvents};
 ghost use Rattle.casefile.specs.Decode.{caseIn};
 ghost use Rattle.sanctions.specs.Penalties.{multiplier, N3, N2, penalty, totalPenalty};
-ghost use Rattle.sanctions.specs.Found.{Accepted, Found, Sound, SmallPenalties};
-ghost use Rattle.sanctions.specs.Tables.{rowAt};
+ghost use Rattle.sanctions.specs.StageFound.{Accepted, FoundMasks, Sound, SmallPenalties};
+ghost use Rattle.sanctions.specs.StageTables.{rowAt};
 use crate::dispatch::dispatch;
 use crate::fuel::fuel;
 use crate::sanction::Sanction;
@@ -81,7 +81,7 @@ fn fill_rows(
     penalties: &mut [u64],
 )
     requires { ⌜ Accepted (now units) (now past) (now events) ⌝ }
-    requires { ⌜ Found (caseIn (now units) (now references) (now past) (now events)) (length (now events) / eventWidth) (now groups) (now leaders) (now masks) ⌝ }
+    requires { ⌜ FoundMasks (caseIn (now units) (now references) (now past) (now events)) (length (now events) / eventWidth) (now groups) (now leaders) (now masks) ⌝ }
     requires { ⌜ (length (now events) / eventWidth ≤ length (now multipliers)) × (length (now events) / eventWidth ≤ length (now n3)) × (length (now events) / eventWidth ≤ length (now n2)) × (length (now events) / eventWidth ≤ length (now penalties)) ⌝ }
     ensures multiplied { λ _. ⌜ now (multipliers .exit) ≡ listTo (length (now (events .entry)) / eventWidth) (multiplier (caseIn (now (units .entry)) (now (references .entry)) (now (past .entry)) (now (events .entry)))) ++ drop (length (now (events .entry)) / eventWidth) (now (multipliers .entry)) ⌝ }
     ensures three { λ _. ⌜ now (n3 .exit) ≡ listTo (length (now (events .entry)) / eventWidth) (N3 (caseIn (now (units .entry)) (now (references .entry)) (now (past .entry)) (now (events .entry)))) ++ drop (length (now (events .entry)) / eventWidth) (now (n3 .entry)) ⌝ }
@@ -115,7 +115,7 @@ pub fn find_penalties(
     penalties: &mut [u64],
 ) -> u64
     requires { ⌜ Accepted (now units) (now past) (now events) ⌝ }
-    requires { ⌜ Found (caseIn (now units) (now references) (now past) (now events)) (length (now events) / eventWidth) (now groups) (now leaders) (now masks) ⌝ }
+    requires { ⌜ FoundMasks (caseIn (now units) (now references) (now past) (now events)) (length (now events) / eventWidth) (now groups) (now leaders) (now masks) ⌝ }
     requires { ⌜ (length (now events) / eventWidth ≤ length (now multipliers)) × (length (now events) / eventWidth ≤ length (now n3)) × (length (now events) / eventWidth ≤ length (now n2)) × (length (now events) / eventWidth ≤ length (now penalties)) ⌝ }
     ensures total { λ r. ⌜ r ≡ totalPenalty (caseIn (now (units .entry)) (now (references .entry)) (now (past .entry)) (now (events .entry))) ⌝ }
     ensures multiplied { λ _. ⌜ now (multipliers .exit) ≡ listTo (length (now (events .entry)) / eventWidth) (multiplier (caseIn (now (units .entry)) (now (references .entry)) (now (past .entry)) (now (events .entry)))) ++ drop (length (now (events .entry)) / eventWidth) (now (multipliers .entry)) ⌝ }

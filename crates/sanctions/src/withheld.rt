@@ -4,10 +4,10 @@ ghost use Prim.Native.Nat.{_*_, _/_, _≤_, _<_};
 ghost use lib.ListN.{length};
 ghost use Rattle.binary.specs.Bounded.{sumTo};
 ghost use Rattle.binary.specs.Word.{positivePart};
-ghost use Rattle.casefile.specs.Layout.{hours, cellWidth, eventWidth, pastWidth, mostEvents};
-ghost use Rattle.conduct.specs.Stages.{cellsIn};
-ghost use Rattle.sanctions.specs.Found.{SmallAmounts};
-ghost use Rattle.sanctions.specs.Tables.{hourEnergy, withheldRow};
+ghost use Rattle.casefile.specs.Layout.{mostHours, cellWidth, eventWidth, pastWidth, mostEvents};
+ghost use Rattle.conduct.specs.StageFlags.{cellsIn};
+ghost use Rattle.sanctions.specs.StageFound.{SmallAmounts};
+ghost use Rattle.sanctions.specs.StageTables.{hourEnergy, withheldRow};
 use crate::instances::instances_at;
 use crate::instances::with_impact;
 use crate::sanction::Sanction;
@@ -18,12 +18,12 @@ use binary::words::positive_part;
 use casefile::cells::cell_at;
 use casefile::layout;
 use conduct::sums::cells_of;
-use tariff::sanctions::ladder;
-use tariff::sanctions::withheld_penalty;
+use tariff::sanction_rules::ladder;
+use tariff::sanction_rules::withheld_penalty;
 
 // a × (b, or 0 if negative), where the mask has the hour.
 fn hour_amount(cells: &[u8], mask: u32, h: usize) -> u64
-    requires { ⌜ (h < hours) × (length (now cells) ≡ cellWidth * hours) ⌝ }
+    requires { ⌜ (h < mostHours) × (length (now cells) ≡ cellWidth * mostHours) ⌝ }
     ensures { λ r. ⌜ r ≡ hourEnergy (positivePart 32) (now (cells .entry)) mask h ⌝ }
 {
     let cell = cell_at(cells, h);
@@ -35,8 +35,8 @@ fn hour_amount(cells: &[u8], mask: u32, h: usize) -> u64
 
 // The sum over flagged hours.
 fn amount(cells: &[u8], mask: u32) -> u64
-    requires { ⌜ (length (now cells) ≡ cellWidth * hours) × SmallAmounts (now cells) ⌝ }
-    ensures { λ r. ⌜ (r ≡ sumTo hours (hourEnergy (positivePart 32) (now (cells .entry)) mask)) × (r ≤ 10000000000000000) ⌝ }
+    requires { ⌜ (length (now cells) ≡ cellWidth * mostHours) × SmallAmounts (now cells) ⌝ }
+    ensures { λ r. ⌜ (r ≡ sumTo mostHours (hourEnergy (positivePart 32) (now (cells .entry)) mask)) × (r ≤ 10000000000000000) ⌝ }
 {
     let mut sum: u64 = 0;
     let mut h = 0;

@@ -10,7 +10,7 @@ use Rattle.binary.specs.Bytes.{byteAt, valueAt, u32At, u64At, bytesOf}
 use Rattle.binary.specs.Lists.{joinTo}
 use Rattle.binary.proofs.ByteLaws.{value-one, value-same, value-skip, bytes-length, bytes-read}
 use Rattle.binary.proofs.ListLaws.{join-length, join-at}
-use Rattle.casefile.specs.Layout.{hours, rowWidth}
+use Rattle.casefile.specs.Layout.{mostHours, rowWidth}
 use Rattle.casefile.specs.Case.{References, Case}
 use Rattle.casefile.specs.Decode.{decode}
 use Rattle.casefile.specs.Lookup.{correctIn}
@@ -29,9 +29,9 @@ join-byte m n f h zs i j l lj =
     List·getD-append (joinTo n f) zs 0 (m * i + j) (rw (join-length m f h n) (omega arith)) ∙ join-at m f h n i j l lj
 
 module _ (c : Case) (k : References) where
-  bids-length : (i : ℕ) → length (bidBytes c k i) ≡ 4 * hours
+  bids-length : (i : ℕ) → length (bidBytes c k i) ≡ 4 * mostHours
   unfolding bidBytes
-  bids-length i = join-length 4 (λ h. bytesOf 4 (bidInForce c k i h)) (λ h. bytes-length 4 (bidInForce c k i h)) hours
+  bids-length i = join-length 4 (λ h. bytesOf 4 (bidInForce c k i h)) (λ h. bytes-length 4 (bidInForce c k i h)) mostHours
 
   pub row-length : (i : ℕ) → length (rowOf c k i) ≡ rowWidth
   unfolding rowOf

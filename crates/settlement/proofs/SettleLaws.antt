@@ -17,21 +17,21 @@ use Rattle.conduct.proofs.StageLaws.{found-own}
 use Rattle.default_bids.proofs.LevelLaws.{found-correct}
 use Rattle.settlement.specs.declared.settle.Totals.{Totals}
 use Rattle.settlement.specs.Row.{rowsOf}
-use Rattle.settlement.specs.Settled.{Answer, refused, answerOfSettlement, settlementOf, accepted, answerOf, rowsAfter}
+use Rattle.settlement.specs.Settled.{SettlementAnswer, refusedAnswer, answerOfSettlement, settlementOf, accepted, answerOf, rowsAfter}
 use Rattle.settlement.specs.declared.settle.Settlement.the-variants as settlement
-use Rattle.settlement.specs.Stages.{AcceptedSections, totalsOf}
+use Rattle.settlement.specs.StageSections.{AcceptedSections, totalsOf}
 
 -- the number of a refusal that is not 0
-pub refused-answer : (f k : List ℕ) (n number : ℕ) → number ≡ refusal f k n → (number ≡ 0 → ⊥) → refused number ≡ answerOf f k n
+pub refused-answer : (f k : List ℕ) (n number : ℕ) → number ≡ refusal f k n → (number ≡ 0 → ⊥) → refusedAnswer number ≡ answerOf f k n
 unfolding answerOf
 refused-answer f k n number e ne = rw (← e, ne-eqb number 0 ne) refl
 
 -- the answer's case is told by its number
-pub refused-told : (n : ℕ) (a : Answer) → refused n ≡ a → (n ≡ 0 → ⊥) → settlement.Refused n ≡ settlementOf a
+pub refused-told : (n : ℕ) (a : SettlementAnswer) → refusedAnswer n ≡ a → (n ≡ 0 → ⊥) → settlement.Refused n ≡ settlementOf a
 unfolding settlementOf
 refused-told n a e ne = rw (← e, ne-eqb n 0 ne) refl
 
-pub settled-told : (n p m : ℕ) (a : Answer) → record { number = 0; rowCount = n; penalties = p; makeUps = m } ≡ a
+pub settled-told : (n p m : ℕ) (a : SettlementAnswer) → record { number = 0; rowCount = n; penalties = p; makeUps = m } ≡ a
     → settlement.Settled n p m ≡ settlementOf a
 unfolding settlementOf
 settled-told n p m a e = rw (← e) refl
@@ -42,7 +42,7 @@ unfolding answerOf accepted settlementOf
 told-answer f k n = go (eqb (refusal f k n) 0) refl
   where
     go : (b : Bool) → eqb (refusal f k n) 0 ≡ b
-        → answerOfSettlement (settlementOf (cond b (accepted f k) (refused (refusal f k n)))) ≡ cond b (accepted f k) (refused (refusal f k n))
+        → answerOfSettlement (settlementOf (cond b (accepted f k) (refusedAnswer (refusal f k n)))) ≡ cond b (accepted f k) (refusedAnswer (refusal f k n))
     go true e = refl
     go false e = rw e refl
 

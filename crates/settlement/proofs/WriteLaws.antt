@@ -11,19 +11,19 @@ use Rattle.binary.specs.Bytes.{bytesOf}
 use Rattle.binary.specs.Lists.{listTo, joinTo}
 use Rattle.binary.proofs.ByteLaws.{bytes-length}
 use Rattle.binary.proofs.ListLaws.{list-at, join-more, join-same, join-length}
-use Rattle.casefile.specs.Layout.{unitWidth, eventWidth, hours}
+use Rattle.casefile.specs.Layout.{unitWidth, eventWidth, mostHours}
 use Rattle.casefile.specs.Decode.{unitsIn, referencesIn, eventsIn, amountsIn, caseIn}
 use Rattle.casefile.specs.Lookup.{unitOf}
 use Rattle.casefile.specs.Refusal.{eventsListed}
 use Rattle.casefile.proofs.EventLaws.{events-place}
 use Rattle.conduct.specs.Flags.{flagMask}
-use Rattle.conduct.specs.Parties.{bidLevel}
+use Rattle.casefile.specs.Lookup.{bidLevel}
 use Rattle.sanctions.specs.Penalties.{N3, N2, multiplier, penalty}
 use Rattle.default_bids.specs.Mitigation.{mitigatedMask, bidInForce, makeUpOf}
-use Rattle.default_bids.specs.Figures.{correctLevel, bidBy}
+use Rattle.default_bids.specs.StageFigures.{correctLevel, bidBy}
 use Rattle.default_bids.proofs.FigureLaws.{bids-by}
 use Rattle.settlement.specs.Row.{bidBytes, rowOf}
-use Rattle.settlement.specs.Written.{wordOf, wordsOf, rowBytes, tableBids, tableSanction, tableRow}
+use Rattle.settlement.specs.StageRow.{wordOf, wordsOf, writtenRow, tableBids, tableSanction, tableRow}
 use Rattle.settlement.specs.declared.rows.Row.{Row}
 
 -- a run of stores after another
@@ -51,8 +51,8 @@ words-length : (bids : List ℕ) → length (wordsOf bids) ≡ 96
 unfolding wordsOf
 words-length bids = join-length 4 (wordOf bids) (word-length bids) 24
 
-pub row-bytes-length : (r : Row) → length (rowBytes r) ≡ 128
-unfolding rowBytes
+pub row-bytes-length : (r : Row) → length (writtenRow r) ≡ 128
+unfolding writtenRow
 row-bytes-length r = simp (length-append, bytes-length, words-length)
 
 -- the row after each of the ten stores
@@ -61,8 +61,8 @@ pub row-stored : (r : Row) (l0 l1 l2 l3 l4 l5 l6 l7 l8 l9 l10 : List ℕ) → le
     → l3 ≡ sets l2 8 (bytesOf 8 (r .penalty)) → l4 ≡ sets l3 16 (bytesOf 8 (r .«make_up»))
     → l5 ≡ sets l4 24 (bytesOf 1 (r .multiplier)) → l6 ≡ sets l5 25 (bytesOf 1 0)
     → l7 ≡ sets l6 26 (bytesOf 2 (r .n3)) → l8 ≡ sets l7 28 (bytesOf 2 (r .n2))
-    → l9 ≡ sets l8 30 (bytesOf 2 0) → l10 ≡ sets l9 32 (wordsOf (r .bids)) → l10 ≡ rowBytes r
-unfolding rowBytes
+    → l9 ≡ sets l8 30 (bytesOf 2 0) → l10 ≡ sets l9 32 (wordsOf (r .bids)) → l10 ≡ writtenRow r
+unfolding writtenRow
 row-stored r l0 l1 l2 l3 l4 l5 l6 l7 l8 l9 l10 n e1 e2 e3 e4 e5 e6 e7 e8 e9 e10 =
     let f9 = join 30 2 0 l8 l9 l10 (wordsOf (r .bids)) e9 e10 in
     let f8 = join 28 2 (r .n2) l7 l8 l10 _ e8 f9 in
@@ -73,7 +73,7 @@ row-stored r l0 l1 l2 l3 l4 l5 l6 l7 l8 l9 l10 n e1 e2 e3 e4 e5 e6 e7 e8 e9 e10 
     let f3 = join 8 8 (r .penalty) l2 l3 l10 _ e3 f4 in
     let f2 = join 4 4 (r .mitigated) l1 l2 l10 _ e2 f3 in
     let f1 = join 0 4 (r .flags) l0 l1 l10 _ e1 f2 in
-    f1 ∙ sets-whole (rowBytes r) l0 (row-bytes-length r ∙ sym n)
+    f1 ∙ sets-whole (writtenRow r) l0 (row-bytes-length r ∙ sym n)
   where
     join : (i w v : ℕ) (l m k ws : List ℕ) → m ≡ sets l i (bytesOf w v) → k ≡ sets m (i + w) ws → k ≡ sets l i (bytesOf w v ++ ws)
     join i w v l m k ws e f =
@@ -103,19 +103,19 @@ unfolding unitOf caseIn unitsIn eventsIn
 place-below u r p e i place listed l h = rw h (events-place (unitsIn u) (eventsIn e) i listed l)
 
 words-bids : (u r p k e : List ℕ) (i : ℕ) → let c = caseIn u r p e in
-    wordsOf (listTo hours (bidBy (unitsIn u) (eventsIn e) (amountsIn e) i (unitOf c i) (bidLevel (referencesIn r) (eventsIn e) i)
+    wordsOf (listTo mostHours (bidBy (unitsIn u) (eventsIn e) (amountsIn e) i (unitOf c i) (bidLevel (referencesIn r) (eventsIn e) i)
     (correctLevel (referencesIn k) (eventsIn e) i) (mitigatedMask c i)))
     ≡ bidBytes c (referencesIn k) i
 unfolding wordsOf wordOf bidBytes
 words-bids u r p k e i =
     ap wordsOf (bids-by u r p e (referencesIn k) i)
-    ∙ join-same hours _ _ (λ h l. ap (bytesOf 4) (list-at (bidInForce (caseIn u r p e) (referencesIn k) i) hours h 0 l))
+    ∙ join-same mostHours _ _ (λ h l. ap (bytesOf 4) (list-at (bidInForce (caseIn u r p e) (referencesIn k) i) mostHours h 0 l))
 
 pub row-held : (u r p k e places levels corrects masks mitigated penalties makeUps multipliers n3 n2 : List ℕ) (i : ℕ)
     → RowHeld u r p k e places levels corrects masks mitigated penalties makeUps multipliers n3 n2 i
-    → rowBytes (tableRow masks mitigated makeUps (tableSanction penalties multipliers n3 n2 i) (tableBids (unitsIn u) (eventsIn e) (amountsIn e) places levels corrects mitigated i) i)
+    → writtenRow (tableRow masks mitigated makeUps (tableSanction penalties multipliers n3 n2 i) (tableBids (unitsIn u) (eventsIn e) (amountsIn e) places levels corrects mitigated i) i)
     ≡ rowOf (caseIn u r p e) (referencesIn k) i
-unfolding rowBytes tableRow tableSanction tableBids rowOf
+unfolding writtenRow tableRow tableSanction tableBids rowOf
 row-held u r p k e places levels corrects masks mitigated penalties makeUps multipliers n3 n2 i t =
     rw (
       t .place-held,

@@ -1,4 +1,4 @@
 pub mod Row
 pub mod Settled
-pub mod Written
-pub mod Stages
+pub mod StageRow
+pub mod StageSections

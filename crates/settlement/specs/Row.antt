@@ -4,7 +4,7 @@ use mathlib.Core.List.{List, _++_}
 use lib.ListN.{drop}
 use Rattle.binary.specs.Bytes.{bytesOf}
 use Rattle.binary.specs.Lists.{joinTo}
-use Rattle.casefile.specs.Layout.{hours, rowWidth}
+use Rattle.casefile.specs.Layout.{mostHours, rowWidth}
 use Rattle.casefile.specs.Case.{References, Case}
 use Rattle.conduct.specs.Flags.{flagMask}
 use Rattle.sanctions.specs.Penalties.{N3, N2, multiplier, penalty}
@@ -12,7 +12,7 @@ use Rattle.default_bids.specs.Mitigation.{mitigatedMask, bidInForce, makeUpOf}
 
 -- @32, the bids in force
 unfoldable pub bidBytes : Case → (correct : References) → ℕ → List ℕ
-bidBytes c correct i = joinTo hours (λ h. bytesOf 4 (bidInForce c correct i h))
+bidBytes c correct i = joinTo mostHours (λ h. bytesOf 4 (bidInForce c correct i h))
 
 -- flag mask @0, mitigated mask @4, penalty @8, make-up @16, multiplier @24, zero @25, N3 @26, N2 @28, zero @30
 unfoldable pub rowOf : Case → (correct : References) → ℕ → List ℕ

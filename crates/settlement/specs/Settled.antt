@@ -15,25 +15,25 @@ use Rattle.settlement.specs.declared.settle.Settlement.{Settlement}
 use Rattle.settlement.specs.declared.settle.Settlement.the-variants as settlement
 
 -- document 01's number, 0 where the case is accepted; the row count; the totals of penalties and of make-ups
-pub record Answer : Type 0 where
+pub record SettlementAnswer : Type 0 where
   pub number : ℕ
   pub rowCount : ℕ
   pub penalties : ℕ
   pub makeUps : ℕ
 
-abbrev pub refused : (number : ℕ) → Answer
-refused n = record { number = n; rowCount = 0; penalties = 0; makeUps = 0 }
+abbrev pub refusedAnswer : (number : ℕ) → SettlementAnswer
+refusedAnswer n = record { number = n; rowCount = 0; penalties = 0; makeUps = 0 }
 
 -- the number and the values of each of the call's answers
-abbrev pub answerOfSettlement : Settlement → Answer
-answerOfSettlement (settlement.Refused n) = refused n
+abbrev pub answerOfSettlement : Settlement → SettlementAnswer
+answerOfSettlement (settlement.Refused n) = refusedAnswer n
 answerOfSettlement (settlement.Settled n p m) = record { number = 0; rowCount = n; penalties = p; makeUps = m }
 
 -- the call's answer: a refusal exactly where the number is not 0
-unfoldable pub settlementOf : Answer → Settlement
+unfoldable pub settlementOf : SettlementAnswer → Settlement
 settlementOf a = cond (eqb (a .number) 0) (settlement.Settled (a .rowCount) (a .penalties) (a .makeUps)) (settlement.Refused (a .number))
 
-unfoldable pub accepted : (file correction : List ℕ) → Answer
+unfoldable pub accepted : (file correction : List ℕ) → SettlementAnswer
 accepted f k =
     record {
       number = 0;
@@ -43,8 +43,8 @@ accepted f k =
     }
 
 -- the answer, for a rows buffer of that length
-unfoldable pub answerOf : (file correction : List ℕ) (rowsLength : ℕ) → Answer
-answerOf f k n = cond (eqb (refusal f k n) 0) (accepted f k) (refused (refusal f k n))
+unfoldable pub answerOf : (file correction : List ℕ) (rowsLength : ℕ) → SettlementAnswer
+answerOf f k n = cond (eqb (refusal f k n) 0) (accepted f k) (refusedAnswer (refusal f k n))
 
 -- the rows buffer afterwards; a refusal leaves it untouched
 unfoldable pub rowsAfter : (file correction rows : List ℕ) → List ℕ
@@ -52,7 +52,7 @@ rowsAfter f k rows = cond (eqb (refusal f k (length rows)) 0) (rowsOf (decode f)
 
 -- a settlement whole
 pub record Settled : Type 0 where
-  pub answer : Answer
+  pub answer : SettlementAnswer
   pub rows : List ℕ
 
 unfoldable pub settled : (file correction rows : List ℕ) → Settled

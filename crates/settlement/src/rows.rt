@@ -10,12 +10,12 @@ ghost use Rattle.casefile.specs.Decode.{unitsIn, referencesIn, eventsIn, amount
 ghost use Rattle.casefile.specs.Lookup.{unitOf};
 ghost use Rattle.casefile.specs.Refusal.{eventsListed};
 ghost use Rattle.conduct.specs.Flags.{flagMask};
-ghost use Rattle.conduct.specs.Parties.{bidLevel};
+ghost use Rattle.casefile.specs.Lookup.{bidLevel};
 ghost use Rattle.sanctions.specs.Penalties.{N3, N2, multiplier, penalty};
 ghost use Rattle.default_bids.specs.Mitigation.{mitigatedMask, makeUpOf};
-ghost use Rattle.default_bids.specs.Figures.{correctLevel};
+ghost use Rattle.default_bids.specs.StageFigures.{correctLevel};
 ghost use Rattle.settlement.specs.Row.{rowsOf};
-ghost use Rattle.settlement.specs.Written.{wordsOf, rowBytes, tableBids, tableSanction, tableRow};
+ghost use Rattle.settlement.specs.StageRow.{wordsOf, writtenRow, tableBids, tableSanction, tableRow};
 use binary::bytes::store_u8;
 use binary::bytes::store_u16;
 use binary::bytes::store_u32;
@@ -50,7 +50,7 @@ fn write_bids(row: &mut [u8], bids: [u32; 24])
 // All the bytes of one row.
 fn write_row(row: &mut [u8], r: Row)
     requires { ⌜ length (now row) ≡ rowWidth ⌝ }
-    ensures { λ _. ⌜ now (row .exit) ≡ rowBytes r ⌝ }
+    ensures { λ _. ⌜ now (row .exit) ≡ writtenRow r ⌝ }
 {
     store_u32(row, 0, r.flags);
     store_u32(row, 4, r.mitigated);

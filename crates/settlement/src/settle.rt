@@ -7,7 +7,7 @@ ghost use Rattle.casefile.specs.Decode.{referencesIn, caseIn};
 ghost use Rattle.default_bids.specs.Mitigation.{totalMakeUp};
 ghost use Rattle.settlement.specs.Row.{rowsOf};
 ghost use Rattle.settlement.specs.Settled.{settlementOf, answerOf, rowsAfter};
-ghost use Rattle.settlement.specs.Stages.{AcceptedSections, FoundFlags, FoundBids, FoundPenalties, totalsOf};
+ghost use Rattle.settlement.specs.StageSections.{AcceptedSections, FoundFlags, FoundBids, FoundPenalties, totalsOf};
 use crate::rows::write_rows;
 use casefile::check::check;
 use casefile::header::section;

@@ -6,7 +6,7 @@ use native.Mathlib.Omega.{arith}
 use borrow.Author.Tests.{le-leb, lt-leb, ne-eqb}
 use lib.Dec.{ltb, leb}
 use Rattle.tariff.specs.declared.comparisons.Comparison.{Comparison}
-use Rattle.tariff.specs.Conduct.{compared, exceeds, increase, lowerTest, constrainedComparison, constrainedTest, percentTest, totalComparison, timeTest, maximumTest, bidTest, capabilityComparison, rateComparison, unitComparison, shareComparison, groupComparison, withheldTest, dispatchTest}
+use Rattle.tariff.specs.ConductTests.{compared, exceeds, increase, lowerTest, constrainedComparison, constrainedTest, percentTest, totalComparison, timeTest, maximumTest, bidTest, capabilityComparison, rateComparison, unitComparison, shareComparison, groupComparison, withheldTest, dispatchTest}
 use Rattle.tariff.specs.Comparisons.{noComparison, firstFailed, comparisonsOf, firstBidComparison, secondBidComparison, bidComparisons, withheldComparisons, dispatchComparisons, fuelComparisons, FailsBy, ComparisonsDecide}
 
 -- ---- four comparisons

@@ -9,7 +9,7 @@ use Rattle.binary.specs.Word.{positivePart}
 use Rattle.binary.proofs.Implies.{same-test}
 use Rattle.tariff.specs.declared.threshold.Threshold.{Threshold}
 use Rattle.tariff.specs.Threshold.{thresholdOf}
-use Rattle.tariff.specs.Conduct.{exceeds, increase, whole, percentOf, percentTest, minimumComparison, maximumTest}
+use Rattle.tariff.specs.ConductTests.{exceeds, increase, whole, percentOf, percentTest, minimumComparison, maximumTest}
 
 same-lt : (x y m n : ℕ) → (x < y → m < n) → (m < n → x < y) → ltb x y ≡ ltb m n
 same-lt x y m n f g = same-test _ _ (λ h. lt-ltb m n (f (ltb-true x y h))) (λ h. lt-ltb x y (g (ltb-true m n h)))

@@ -12,8 +12,8 @@ use Rattle.binary.specs.Word.{positivePart}
 use Rattle.binary.proofs.Implies.{_⇒_, mono, and-given, or-mono, and-right}
 use Rattle.tariff.specs.Threshold.{thresholdOf}
 use Rattle.tariff.specs.declared.threshold.Threshold.{Threshold}
-use Rattle.tariff.specs.Conduct.{exceeds, increase, lowerTest, constrainedTest, percentTest, timeTest, minimumComparison, maximumTest, bidTest, withheldTest, dispatchTest}
-use Rattle.tariff.specs.Sanctions.{cents, ladder, withheldPenalty, dispatchPenalty, fuelCharge, fuelPenalty}
+use Rattle.tariff.specs.ConductTests.{exceeds, increase, lowerTest, constrainedTest, percentTest, timeTest, minimumComparison, maximumTest, bidTest, withheldTest, dispatchTest}
+use Rattle.tariff.specs.SanctionRules.{cents, ladder, withheldPenalty, dispatchPenalty, fuelCharge, fuelPenalty}
 
 -- ---- conduct tests
 

@@ -7,7 +7,7 @@ use lib.Dec.{ltb, leb, eqb}
 use Rattle.tariff.specs.declared.comparisons.Comparison.{Comparison}
 use Rattle.tariff.specs.declared.comparisons.Comparisons.{Comparisons}
 use Rattle.tariff.specs.Threshold.{thresholdOf}
-use Rattle.tariff.specs.Conduct.{comparedWhere, compared, exceeds, increase, lowerComparison, constrainedComparison, percentComparison, stepComparison, totalComparison, minimumComparison, maximumComparison, bidTest, capabilityComparison, rateComparison, unitComparison, shareComparison, groupComparison, withheldTest, dispatchTest}
+use Rattle.tariff.specs.ConductTests.{comparedWhere, compared, exceeds, increase, lowerComparison, constrainedComparison, percentComparison, stepComparison, totalComparison, minimumComparison, maximumComparison, bidTest, capabilityComparison, rateComparison, unitComparison, shareComparison, groupComparison, withheldTest, dispatchTest}
 
 -- ---- four comparisons
 

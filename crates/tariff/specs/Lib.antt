@@ -1,6 +1,6 @@
 pub mod Ranges
 pub mod Threshold
-pub mod Conduct
+pub mod ConductTests
 pub mod Comparisons
-pub mod Sanctions
-pub mod DefaultBids
+pub mod SanctionRules
+pub mod DefaultBidRules

@@ -1,9 +1,9 @@
 // The rules of document 01 on plain numbers.
 pub mod comparisons;
-pub mod conduct;
-pub mod default_bids;
+pub mod conduct_tests;
+pub mod default_bid_rules;
 pub mod ranges;
-pub mod sanctions;
+pub mod sanction_rules;
 pub mod threshold;
 
 pub use threshold::Threshold;

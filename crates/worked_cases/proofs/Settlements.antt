@@ -8,9 +8,9 @@ use Rattle.binary.specs.Bytes.{valueAt, bytesOf}
 use Rattle.binary.specs.Word.{positivePart, negativePart, within}
 use Rattle.tariff.specs.Ranges.{referenceInRange, bidInRange}
 use Rattle.tariff.specs.Threshold.{thresholdOf}
-use Rattle.tariff.specs.Conduct.{increase, lowerTest, constrainedTest, percentTest, timeTest, maximumTest, bidTest, unitLimit, groupLimit, withheldTest, dispatchTest}
-use Rattle.tariff.specs.Sanctions.{cents, periodCounts, ladder, withheldPenalty, dispatchPenalty, fuelDayCounts, fuelCharge, fuelPenalty}
-use Rattle.tariff.specs.DefaultBids.{between, spanned, atMost, lesser, greater, defaultBid, restores, correctedBid, correctedInForce, excess, hourMakeUp, makeUp}
+use Rattle.tariff.specs.ConductTests.{increase, lowerTest, constrainedTest, percentTest, timeTest, maximumTest, bidTest, unitLimit, groupLimit, withheldTest, dispatchTest}
+use Rattle.tariff.specs.SanctionRules.{cents, periodCounts, ladder, withheldPenalty, dispatchPenalty, fuelDayCounts, fuelCharge, fuelPenalty}
+use Rattle.tariff.specs.DefaultBidRules.{between, spanned, atMost, lesser, greater, defaultBid, restores, correctedBid, correctedInForce, excess, hourMakeUp, makeUp}
 use Rattle.casefile.specs.Decode.{caseIn, offsetOf, lengthOf, sectionOf, recordAt, unitsIn, referencesIn, violationIn, pastIn, eventsIn, amountsIn, decode}
 use Rattle.casefile.specs.Lookup.{referenceKey, isUnit, isListed, placeOf, unitOf, groupOf, isReference, hasReference, levelOf, correctReferences, correctIn, referenceOf, readsCorrect}
 use Rattle.casefile.specs.Refusal.{lengthFine, versionFine, sectionsFine, pairsFine, sizeFine, sizesFine, rises, unitFieldsFine, unitSpareFine, unitFine, unitsFine, referenceFieldsFine, referenceFine, referencesFine, correctionFine, violationFine, entryFine, pastFine, maskFine, quantitiesFine, fieldsFine, cellFine, hourFine, eventFine, eventsFine, eventKey, orderFine, eventListed, eventsListed, withinCapability, amountFine, amountsFine, referenceFound, referencesFound, rowsFine, refusal}
@@ -20,7 +20,7 @@ use Rattle.sanctions.specs.Penalties.{flaggedWithImpact, isInstance, countsHere
 use Rattle.default_bids.specs.Mitigation.{hit, mitigated, mitigatedMask, correctOf, bidInForce, makeUpTenths, makeUpOf, totalMakeUp}
 use Rattle.binary.specs.Lists.{joinTo}
 use Rattle.settlement.specs.Row.{bidBytes, rowOf, rowsOf}
-use Rattle.settlement.specs.Settled.{refused, accepted, answerOf, rowsAfter, settled}
+use Rattle.settlement.specs.Settled.{refusedAnswer, accepted, answerOf, rowsAfter, settled}
 use Rattle.worked_cases.specs.Cases.{at, tightUnit, cellBytes, eventOf, rowBytes, noBids, bidReferences, bidEvents, bids, bidRows, minimumGeneration}
 
 -- the byte beyond the last row stays
@@ -30,7 +30,7 @@ pub record Examples : Type 0 where
         answer = record { number = 0; rowCount = 1; penalties = 200400; makeUps = 0 };
         rows = rowBytes 1 0 200400 0 2 1 1 noBids ++ (9 ∷ []);
       }
-  pub rows-short : settled listing [] (replicate 127 9) ≡ record { answer = refused 15; rows = replicate 127 9 }
+  pub rows-short : settled listing [] (replicate 127 9) ≡ record { answer = refusedAnswer 15; rows = replicate 127 9 }
   pub bids-case : settled bids (referenceBytes 20 0 2500) (replicate 641 9)
       ≡ record {
         answer = record { number = 0; rowCount = 5; penalties = 0; makeUps = 150000 };

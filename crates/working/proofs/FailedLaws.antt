@@ -11,8 +11,8 @@ use Rattle.casefile.specs.Decode.{decode}
 use Rattle.casefile.specs.Lookup.{unitOf, referenceOf}
 use Rattle.casefile.specs.Refusal.{refusal}
 use Rattle.conduct.specs.Flags.{tight, sumTogether, timeTotal, bidFlag, groupCapability, groupSum, withheldFlag, dispatchFlag, fuelFlag, flagged}
-use Rattle.conduct.specs.Parties.{bidLevel}
-use Rattle.conduct.specs.Stages.{partySum}
+use Rattle.casefile.specs.Lookup.{bidLevel}
+use Rattle.conduct.specs.StageFlags.{partySum}
 use Rattle.conduct.proofs.SumLaws.{sum-union}
 use Rattle.working.specs.Working.{fuelEvents, sumsOf, totalOf, figuresWith, figuresOf, comparisonsFor, workingFrom, workingAt, refusedWorking, mostRows, workingOf, FlaggedWhereFailed}
 use Rattle.working.proofs.WorkingLaws.{fuel-sum}

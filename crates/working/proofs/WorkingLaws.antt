@@ -13,15 +13,16 @@ use Rattle.binary.specs.Lists.{Bytes, Holds}
 use Rattle.binary.proofs.Implies.{and-l, and-r}
 use Rattle.binary.proofs.BoundedLaws.{sum-same}
 use Rattle.binary.proofs.MaskLaws.{bit-mask}
-use Rattle.tariff.specs.Conduct.{increase}
+use Rattle.tariff.specs.ConductTests.{increase}
 use Rattle.casefile.specs.Layout.{eventWidth}
 use Rattle.casefile.specs.Case.{Case}
 use Rattle.casefile.specs.Decode.{recordAt, sectionOf, unitsIn, referencesIn, eventsIn, caseIn, decode}
 use Rattle.casefile.specs.Lookup.{unitOf, groupOf, referenceOf, correctReferences}
 use Rattle.casefile.specs.Refusal.{refusal}
 use Rattle.conduct.specs.Flags.{tight, together, sumTogether, timeBid, timeTotal, groupCapability, groupSum, flagged, flagMask}
-use Rattle.conduct.specs.Parties.{leaderOf, bidLevel}
-use Rattle.conduct.specs.Stages.{partyFigure, ledSum, partySum, Below, capabilityOf, timeTotalIn, totalRead}
+use Rattle.conduct.specs.StageParties.{leaderOf}
+use Rattle.casefile.specs.Lookup.{bidLevel}
+use Rattle.conduct.specs.StageFlags.{partyFigure, ledSum, partySum, Below, capabilityOf, timeTotalIn, totalRead}
 use Rattle.conduct.proofs.PartyLaws.{together-fields, leader-le, leader-eqb}
 use Rattle.conduct.proofs.SumLaws.{cond-given, cond-le, party-sum-le, sum-amounts, capability-is}
 use Rattle.settlement.proofs.SettleLaws.{found-sections}
@@ -30,7 +31,7 @@ use Rattle.working.specs.declared.figures.Figures.{Figures}
 use Rattle.working.specs.declared.figures.Counts.{Counts}
 use Rattle.working.specs.declared.figures.Working.{Working}
 use Rattle.working.specs.Working.{fuelEvents, sumsOf, totalOf, figuresWith, figuresOf, workingFrom, countsOf, workingAt, refusedWorking, mostRows, workingOf}
-use Rattle.working.specs.Stages.{AcceptedCase}
+use Rattle.working.specs.StageWorking.{AcceptedCase}
 
 -- ---- sums of a party-day
 

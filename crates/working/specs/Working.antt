@@ -9,15 +9,15 @@ use lib.ListN.{replicate}
 use Rattle.binary.specs.Bounded.{bitOf}
 use Rattle.binary.specs.Word.{positivePart, negativePart}
 use Rattle.tariff.specs.declared.comparisons.Comparisons.{Comparisons}
-use Rattle.tariff.specs.Conduct.{increase}
+use Rattle.tariff.specs.ConductTests.{increase}
 use Rattle.tariff.specs.Comparisons.{noComparison, comparisonsOf, withheldComparisons, dispatchComparisons, fuelComparisons, bidComparisons}
-use Rattle.casefile.specs.Layout.{hours, mostEvents, rowWidth}
+use Rattle.casefile.specs.Layout.{mostHours, mostEvents, rowWidth}
 use Rattle.casefile.specs.Case.{Case}
 use Rattle.casefile.specs.Decode.{decode}
 use Rattle.casefile.specs.Lookup.{unitOf}
 use Rattle.casefile.specs.Refusal.{refusal}
 use Rattle.conduct.specs.Flags.{tight, sumTogether, timeTotal, groupCapability, groupSum, flagged}
-use Rattle.conduct.specs.Parties.{bidLevel}
+use Rattle.casefile.specs.Lookup.{bidLevel}
 use Rattle.sanctions.specs.Penalties.{N3, N2}
 use Rattle.working.specs.declared.figures.Sums.{Sums}
 use Rattle.working.specs.declared.figures.Figures.{Figures}
@@ -138,7 +138,7 @@ mostRows = rowWidth * mostEvents
 unfoldable pub workingOf : (file correction : List ℕ) (event hour : ℕ) → Working
 workingOf f k i h =
     cond (eqb (refusal f k mostRows) 0)
-    (cond (ltb i (decode f .events .count) && ltb h hours) (workingAt (decode f) i h) (refusedWorking 10))
+    (cond (ltb i (decode f .events .count) && ltb h mostHours) (workingAt (decode f) i h) (refusedWorking 10))
     (refusedWorking (refusal f k mostRows))
 
 -- a working shows why its hour is flagged: the hour is flagged exactly where a comparison fails

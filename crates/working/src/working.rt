@@ -4,14 +4,14 @@ ghost use mathlib.Core.Path.{_≡_};
 ghost use Prim.Native.Nat.{_/_, _≤_, _<_};
 ghost use lib.ListN.{length, getD};
 ghost use Rattle.binary.specs.Lists.{Holds};
-ghost use Rattle.casefile.specs.Layout.{eventWidth, hours, mostEvents, longestFile, unitWidth};
+ghost use Rattle.casefile.specs.Layout.{eventWidth, mostHours, mostEvents, longestFile, unitWidth};
 ghost use Rattle.casefile.specs.Decode.{caseIn};
 ghost use Rattle.casefile.specs.Lookup.{unitOf, groupOf};
-ghost use Rattle.conduct.specs.Parties.{leaderOf};
-ghost use Rattle.conduct.specs.Stages.{Below, ledSum, totalRead};
-ghost use Rattle.sanctions.specs.Found.{Accepted, Found};
-ghost use Rattle.settlement.specs.Stages.{FoundFlags};
-ghost use Rattle.working.specs.Stages.{AcceptedCase};
+ghost use Rattle.conduct.specs.StageParties.{leaderOf};
+ghost use Rattle.conduct.specs.StageFlags.{Below, ledSum, totalRead};
+ghost use Rattle.sanctions.specs.StageFound.{Accepted, FoundMasks};
+ghost use Rattle.settlement.specs.StageSections.{FoundFlags};
+ghost use Rattle.working.specs.StageWorking.{AcceptedCase};
 ghost use Rattle.working.specs.Working.{sumsOf, figuresWith, comparisonsFor, decrease, workingFrom, countsOf, workingAt, refusedWorking, workingOf};
 use crate::figures::Counts;
 use crate::figures::Figures;
@@ -45,14 +45,14 @@ use tariff::comparisons::dispatch_comparisons;
 use tariff::comparisons::fuel_comparisons;
 use tariff::comparisons::no_comparisons;
 use tariff::comparisons::withheld_comparisons;
-use tariff::conduct::increase;
+use tariff::conduct_tests::increase;
 
 // Limit 15 never applies: rows for every case.
 const MOST_ROWS: usize = layout::ROW_WIDTH * layout::MOST_EVENTS;
 
 // The sum of hour h that stands with event i's leader.
 fn leader_sum(events: &[u8], leaders: &[usize], i: usize, h: usize) -> u64
-    requires { ⌜ (i < length (now events) / eventWidth) × (h < hours) × (length (now events) / eventWidth ≤ mostEvents) × (length (now events) / eventWidth ≤ length (now leaders)) ⌝ }
+    requires { ⌜ (i < length (now events) / eventWidth) × (h < mostHours) × (length (now events) / eventWidth ≤ mostEvents) × (length (now events) / eventWidth ≤ length (now leaders)) ⌝ }
     requires { ⌜ Below (length (now events) / eventWidth) (now leaders) ⌝ }
     ensures { λ r. ⌜ r ≡ ledSum (caseIn [] [] [] (now (events .entry))) (now (leaders .entry)) (length (now (events .entry)) / eventWidth) (getD (now (leaders .entry)) i 0) h ⌝ }
 {
@@ -71,7 +71,7 @@ fn party_figures(
     i: usize,
     h: usize,
 ) -> Sums
-    requires { ⌜ (i < length (now events) / eventWidth) × (h < hours) × (length (now events) / eventWidth ≤ mostEvents) × (length (now units) ≤ longestFile) × (length (now events) / eventWidth ≤ length (now groups)) × (length (now events) / eventWidth ≤ length (now leaders)) ⌝ }
+    requires { ⌜ (i < length (now events) / eventWidth) × (h < mostHours) × (length (now events) / eventWidth ≤ mostEvents) × (length (now units) ≤ longestFile) × (length (now events) / eventWidth ≤ length (now groups)) × (length (now events) / eventWidth ≤ length (now leaders)) ⌝ }
     requires { ⌜ Holds (length (now events) / eventWidth) (now groups) (groupOf (caseIn (now units) [] [] (now events))) ⌝ }
     requires { ⌜ Holds (length (now events) / eventWidth) (now leaders) (leaderOf (caseIn (now units) [] [] (now events))) ⌝ }
     ensures { λ r. ⌜ r ≡ sumsOf (caseIn (now (units .entry)) [] [] (now (events .entry))) i h ⌝ }
@@ -89,7 +89,7 @@ fn party_figures(
 
 // The positive d of event i's unit, day and market in hour h, added, where its component reads them.
 fn total_read(events: &[u8], levels: &[u32], i: usize, h: usize) -> u64
-    requires { ⌜ (i < length (now events) / eventWidth) × (h < hours) × (length (now events) / eventWidth ≤ mostEvents) × (length (now events) / eventWidth ≤ length (now levels)) ⌝ }
+    requires { ⌜ (i < length (now events) / eventWidth) × (h < mostHours) × (length (now events) / eventWidth ≤ mostEvents) × (length (now events) / eventWidth ≤ length (now levels)) ⌝ }
     ensures { λ r. ⌜ r ≡ totalRead (caseIn [] [] [] (now (events .entry))) (now (levels .entry)) i h ⌝ }
 {
     let event = record_at(events, i, layout::EVENT_WIDTH);
@@ -118,7 +118,7 @@ fn row_counts(
     i: usize,
 ) -> Counts
     requires { ⌜ Accepted (now units) (now past) (now events) ⌝ }
-    requires { ⌜ Found (caseIn (now units) (now references) (now past) (now events)) (length (now events) / eventWidth) (now groups) (now leaders) (now masks) ⌝ }
+    requires { ⌜ FoundMasks (caseIn (now units) (now references) (now past) (now events)) (length (now events) / eventWidth) (now groups) (now leaders) (now masks) ⌝ }
     requires { ⌜ i < length (now events) / eventWidth ⌝ }
     ensures { λ r. ⌜ r ≡ countsOf (caseIn (now (units .entry)) (now (references .entry)) (now (past .entry)) (now (events .entry))) i ⌝ }
 {
@@ -156,7 +156,7 @@ fn figures_at(
     i: usize,
     h: usize,
 ) -> Figures
-    requires { ⌜ (i < length (now events) / eventWidth) × (h < hours) × (place < length (now units) / unitWidth) ⌝ }
+    requires { ⌜ (i < length (now events) / eventWidth) × (h < mostHours) × (place < length (now units) / unitWidth) ⌝ }
     requires { ⌜ place ≡ unitOf (caseIn (now units) [] [] (now events)) i ⌝ }
     ensures { λ r. ⌜ r ≡ figuresWith (caseIn (now (units .entry)) [] [] (now (events .entry))) i h reference sums total ⌝ }
 {
@@ -292,7 +292,7 @@ fn working_found(
 ) -> Working
     requires { ⌜ AcceptedCase (now units) (now references) (now past) (now events) ⌝ }
     requires { ⌜ FoundFlags (now units) (now references) (now past) (now events) (now places) (now groups) (now leaders) (now levels) (now masks) ⌝ }
-    requires { ⌜ (i < length (now events) / eventWidth) × (h < hours) ⌝ }
+    requires { ⌜ (i < length (now events) / eventWidth) × (h < mostHours) ⌝ }
     ensures { λ r. ⌜ r ≡ workingAt (caseIn (now (units .entry)) (now (references .entry)) (now (past .entry)) (now (events .entry))) i h ⌝ }
 {
     let flagged = bit_of(masks[i], h);
@@ -313,7 +313,7 @@ fn working_at(
     h: usize,
 ) -> Working
     requires { ⌜ AcceptedCase (now units) (now references) (now past) (now events) ⌝ }
-    requires { ⌜ (i < length (now events) / eventWidth) × (h < hours) ⌝ }
+    requires { ⌜ (i < length (now events) / eventWidth) × (h < mostHours) ⌝ }
     ensures { λ r. ⌜ r ≡ workingAt (caseIn (now (units .entry)) (now (references .entry)) (now (past .entry)) (now (events .entry))) i h ⌝ }
 {
     let mut places = [0usize; 200];

@@ -14,7 +14,7 @@ use Rattle.binary.specs.Bytes.{byteAt, valueAt, u32At}
 use Rattle.binary.specs.Word.{positivePart, negativePart}
 use Rattle.binary.proofs.Implies.{and-left, and-right, or-cases, true→T}
 use Rattle.binary.proofs.ByteLaws.{value-one, stretch-length}
-use Rattle.casefile.specs.Layout.{eventWidth, hours}
+use Rattle.casefile.specs.Layout.{eventWidth, mostHours}
 use Rattle.casefile.specs.Decode.{caseIn, offsetOf, lengthOf, sectionOf, FollowOn, recordAt, unitsIn, referencesIn, pastIn, cellAt, eventsIn, amountsIn, decode}
 use Rattle.worse_conduct.specs.Changes.{cellPlace, cellWritten, moreWithheld, lowerBid, movedBid, worseBid, worseAmount, WorseCell}
 use Rattle.worse_conduct.proofs.StoredWord.{Stored, sets-stored, value-apart, stretch-apart, stretch-stored}
@@ -89,7 +89,7 @@ worse-than kind component x w t = go (or-cases (moreWithheld kind x w) (worseBid
 
 -- ---- the events section with a word stored into a cell
 
-module _ (s s′ : List ℕ) (i h w : ℕ) (lh : h < hours) (z : Stored s s′ (eventWidth * i + cellAt h) w) where
+module _ (s s′ : List ℕ) (i h w : ℕ) (lh : h < mostHours) (z : Stored s s′ (eventWidth * i + cellAt h) w) where
   other-record : (x : ℕ) → x ≢ i → recordAt eventWidth s′ x ≡ recordAt eventWidth s x
   unfolding recordAt
   other-record x n = stretch-apart z (eventWidth * x) eventWidth (λ j k lj lk e. n (omega arith))
@@ -123,7 +123,7 @@ module _ (s s′ : List ℕ) (i h w : ℕ) (lh : h < hours) (z : Stored s s′ (
         component = λ x. head-byte 6 (omega arith) x t;
         impact = λ x. head-byte 7 (omega arith) x t;
         day = λ x. field 4 8 (omega arith) x t;
-        hours = λ x. hours;
+        hours = λ x. mostHours;
         P = λ x. field 4 12 (omega arith) x t;
         Q = λ x. field 4 16 (omega arith) x t;
         R = λ x. field 4 20 (omega arith) x t;
@@ -205,7 +205,7 @@ module _ (f g : List ℕ) (L : FollowOn f) (q w : ℕ) (z : Stored f g (offsetOf
       record { units = omega arith; references = omega arith; past = omega arith; events = omega arith; end = omega arith }
 
 module _ (f : List ℕ) (L : FollowOn f) (i h w : ℕ) (c : WorseCell (decode f) i h w) where
-  in-range : (eventWidth * i + eventWidth ≤ lengthOf f 3) × (h < hours)
+  in-range : (eventWidth * i + eventWidth ≤ lengthOf f 3) × (h < mostHours)
   unfolding decode caseIn eventsIn sectionOf
   in-range =
       let n : length (sectionOf f 3) ≡ lengthOf f 3 = stretch-length f (offsetOf f 3) (lengthOf f 3) (omega arith) in

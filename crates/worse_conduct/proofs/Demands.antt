@@ -10,7 +10,7 @@ use lib.ListN.{length}
 use Rattle.casefile.specs.Refusal.{limits, refusal, MeetsAll, LowestBroken}
 use Rattle.casefile.proofs.LimitLaws.{accepted-meets, meets-accepted, refused-lowest, lowest-refused, lowest-number}
 use Rattle.settlement.specs.Row.{rowsOf}
-use Rattle.settlement.specs.Settled.{Answer, accepted, answerOf, settlementOf, answerOfSettlement, rowsAfter, settled}
+use Rattle.settlement.specs.Settled.{SettlementAnswer, accepted, answerOf, settlementOf, answerOfSettlement, rowsAfter, settled}
 use Rattle.settlement.specs.declared.settle.Settlement.{Settlement}
 use Rattle.settlement.specs.declared.settle.Settlement.the-variants as settlement
 use Rattle.settlement.proofs.SettleLaws.{told-answer}
@@ -62,8 +62,8 @@ module _ (file correction rows : List ℕ) (answer : Settlement) (after : List �
   demand-2 =
       record {
         rows-stated = λ h. run .left ∙ rw (eq-eqb _ _ h) refl;
-        penalties-stated = λ h. ap (λ (a : Answer). a .penalties) (is-accepted h);
-        make-ups-stated = λ h. ap (λ (a : Answer). a .makeUps) (is-accepted h);
+        penalties-stated = λ h. ap (λ (a : SettlementAnswer). a .penalties) (is-accepted h);
+        make-ups-stated = λ h. ap (λ (a : SettlementAnswer). a .makeUps) (is-accepted h);
       }
 
   -- a run is the settlement of the definitions

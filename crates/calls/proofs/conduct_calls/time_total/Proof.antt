@@ -1,10 +1,10 @@
 use borrow.Author.Needs.{needs}
-use Rattle.calls.specs.ConductCalls.{timeTotal}
+use Rattle.calls.specs.ConductCalls.{increaseTotal}
 use Rattle.calls.proofs.conduct_calls.time_total.Statement.{statement}
 use Rattle.calls.proofs.conduct_calls.time_total.Tie as tie
 
 pub time-total-spec : {M : Type 1} → statement M
-unfolding timeTotal
+unfolding increaseTotal
 time-total-spec =
     tie.close
     (tie.spec

@@ -1,5 +1,5 @@
 use borrow.Author.Needs.{needs}
-use Rattle.tariff.specs.DefaultBids.{correctedInForce}
+use Rattle.tariff.specs.DefaultBidRules.{correctedInForce}
 use Rattle.calls.specs.DefaultBidCalls.{correctedInForceAnswer}
 use Rattle.calls.proofs.default_bid_calls.corrected_bid_in_force.Statement.{statement}
 use Rattle.calls.proofs.default_bid_calls.corrected_bid_in_force.Tie as tie

@@ -4,16 +4,16 @@ use borrow.Author.Needs.{needs}
 use native.Mathlib.Omega.{arith}
 use Rattle.binary.specs.Bounded.{allTo}
 use Rattle.binary.proofs.BoundedLaws.{all-none, all-more}
-use Rattle.casefile.specs.Layout.{hours}
-use Rattle.casefile.specs.Read.{amountWithin}
+use Rattle.casefile.specs.Layout.{mostHours}
+use Rattle.casefile.specs.StageRead.{amountWithin}
 use Rattle.casefile.proofs.cells.amounts_within.Statement.{statement}
 use Rattle.casefile.proofs.cells.amounts_within.Tie as tie
 
 abbrev Inv-loop : tie.InvT-loop
-Inv-loop capability cells fine₀ h₀ fine h = (h ≤ hours) × (fine ≡ allTo h (amountWithin capability cells))
+Inv-loop capability cells fine₀ h₀ fine h = (h ≤ mostHours) × (fine ≡ allTo h (amountWithin capability cells))
 
 abbrev μ-loop : tie.MeasureT-loop
-μ-loop capability cells fine₀ h₀ fine h = hours - h
+μ-loop capability cells fine₀ h₀ fine h = mostHours - h
 
 pub amounts-within-spec : {M : Type 1} → statement M
 amounts-within-spec =
@@ -28,5 +28,5 @@ amounts-within-spec =
     (λ c. (omega arith, rw (c .before .before .loop .inv .1, c .amount-within .ensures, all-more)))
     (λ c.
     let s = c .before .before .before .args in
-    let e : c .before .loop .h ≡ hours = omega arith in
+    let e : c .before .loop .h ≡ mostHours = omega arith in
     rw (c .before .loop .inv .1, e)))

@@ -4,16 +4,16 @@ use borrow.Author.Needs.{needs}
 use native.Mathlib.Omega.{arith}
 use Rattle.binary.specs.Bounded.{allTo}
 use Rattle.binary.proofs.BoundedLaws.{all-none, all-more}
-use Rattle.casefile.specs.Layout.{hours}
-use Rattle.casefile.specs.Read.{cellFineAt}
+use Rattle.casefile.specs.Layout.{mostHours}
+use Rattle.casefile.specs.StageRead.{cellFineAt}
 use Rattle.casefile.proofs.cells.cells_fine.Statement.{statement}
 use Rattle.casefile.proofs.cells.cells_fine.Tie as tie
 
 abbrev Inv-loop : tie.InvT-loop
-Inv-loop kind component cells fine₀ h₀ fine h = (h ≤ hours) × (fine ≡ allTo h (cellFineAt kind component cells))
+Inv-loop kind component cells fine₀ h₀ fine h = (h ≤ mostHours) × (fine ≡ allTo h (cellFineAt kind component cells))
 
 abbrev μ-loop : tie.MeasureT-loop
-μ-loop kind component cells fine₀ h₀ fine h = hours - h
+μ-loop kind component cells fine₀ h₀ fine h = mostHours - h
 
 pub cells-fine-spec : {M : Type 1} → statement M
 cells-fine-spec =
@@ -28,5 +28,5 @@ cells-fine-spec =
     (λ c. (omega arith, rw (c .before .before .loop .inv .1, c .cell-fine-at .ensures, all-more)))
     (λ c.
     let s = c .before .before .before .args in
-    let e : c .before .loop .h ≡ hours = omega arith in
+    let e : c .before .loop .h ≡ mostHours = omega arith in
     rw (c .before .loop .inv .1, e)))

@@ -1,11 +1,11 @@
 use borrow.Author.Needs.{needs}
 use Rattle.casefile.specs.Decode.{eventsIn}
-use Rattle.casefile.specs.Read.{eventOf}
+use Rattle.casefile.specs.StageRead.{fieldsOf}
 use Rattle.casefile.proofs.events.event_at.Statement.{statement}
 use Rattle.casefile.proofs.events.event_at.Tie as tie
 
 pub event-at-spec : {M : Type 1} → statement M
-unfolding eventsIn eventOf
+unfolding eventsIn fieldsOf
 event-at-spec =
     tie.close
     (tie.spec

@@ -1,7 +1,7 @@
 use mathlib.Core.Bool.{Bool, true, false, _&&_}
 use mathlib.Core.Path.{_≡_}
 use borrow.Author.Needs.{needs}
-use Rattle.casefile.specs.Read.{readIf, readEvent}
+use Rattle.casefile.specs.StageRead.{readIf, readEvent}
 use Rattle.casefile.proofs.EventLaws.{read-is, read-number}
 use Rattle.casefile.proofs.events.read_event.Statement.{statement}
 use Rattle.casefile.proofs.events.read_event.Tie as tie

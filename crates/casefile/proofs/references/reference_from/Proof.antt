@@ -6,7 +6,8 @@ use lib.Dec.{ltb}
 use lib.ListN.{length}
 use Rattle.casefile.specs.Layout.{referenceWidth}
 use Rattle.casefile.specs.Decode.{referencesIn}
-use Rattle.casefile.specs.Lookup.{referenceKey, Between}
+use Rattle.casefile.specs.Lookup.{referenceKey}
+use Rattle.casefile.specs.StageLookup.{Between}
 use Rattle.casefile.proofs.SearchLaws.{halve, halve-less}
 use Rattle.casefile.proofs.references.reference_from.Statement.{statement}
 use Rattle.casefile.proofs.references.reference_from.Tie as tie

@@ -6,7 +6,7 @@ use lib.Dec.{ltb}
 use lib.ListN.{length}
 use Rattle.casefile.specs.Layout.{unitWidth}
 use Rattle.casefile.specs.Decode.{unitsIn}
-use Rattle.casefile.specs.Lookup.{Between}
+use Rattle.casefile.specs.StageLookup.{Between}
 use Rattle.casefile.proofs.SearchLaws.{halve, halve-less}
 use Rattle.casefile.proofs.units.unit_from.Statement.{statement}
 use Rattle.casefile.proofs.units.unit_from.Tie as tie

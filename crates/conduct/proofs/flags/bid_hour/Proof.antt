@@ -1,5 +1,5 @@
 use borrow.Author.Needs.{needs}
-use Rattle.conduct.specs.Stages.{bidIn}
+use Rattle.conduct.specs.StageFlags.{bidIn}
 use Rattle.conduct.proofs.flags.bid_hour.Statement.{statement}
 use Rattle.conduct.proofs.flags.bid_hour.Tie as tie
 

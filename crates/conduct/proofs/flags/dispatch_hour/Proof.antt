@@ -1,5 +1,5 @@
 use borrow.Author.Needs.{needs}
-use Rattle.conduct.specs.Stages.{dispatchIn}
+use Rattle.conduct.specs.StageFlags.{dispatchIn}
 use Rattle.conduct.proofs.flags.dispatch_hour.Statement.{statement}
 use Rattle.conduct.proofs.flags.dispatch_hour.Tie as tie
 

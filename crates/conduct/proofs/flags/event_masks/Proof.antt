@@ -8,7 +8,7 @@ use Rattle.binary.specs.Lists.{listTo}
 use Rattle.binary.proofs.ListLaws.{fill-none, fill-more, holds-fill}
 use Rattle.casefile.specs.Layout.{eventWidth}
 use Rattle.casefile.specs.Decode.{caseIn}
-use Rattle.conduct.specs.Stages.{HasRow, totalBefore, flagMaskIn}
+use Rattle.conduct.specs.StageFlags.{HasRow, totalBefore, flagMaskIn}
 use Rattle.conduct.proofs.FlagLaws.{totals-first, totals-next}
 use Rattle.conduct.proofs.flags.event_masks.Statement.{statement}
 use Rattle.conduct.proofs.flags.event_masks.Tie as tie

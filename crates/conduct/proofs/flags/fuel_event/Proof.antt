@@ -1,6 +1,6 @@
 use borrow.Author.Needs.{needs}
 use borrow.Author.Tests.{lt-ltb, le-ltb}
-use Rattle.conduct.specs.Stages.{fuelMaskIn}
+use Rattle.conduct.specs.StageFlags.{fuelMaskIn}
 use Rattle.conduct.proofs.flags.fuel_event.Statement.{statement}
 use Rattle.conduct.proofs.flags.fuel_event.Tie as tie
 

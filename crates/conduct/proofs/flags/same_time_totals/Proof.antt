@@ -1,7 +1,7 @@
 use borrow.Author.Needs.{needs}
 use borrow.Author.Tests.{ne-eqb}
 use Rattle.casefile.specs.Decode.{eventsIn}
-use Rattle.conduct.specs.Stages.{sameTotals}
+use Rattle.conduct.specs.StageFlags.{sameTotals}
 use Rattle.conduct.proofs.flags.same_time_totals.Statement.{statement}
 use Rattle.conduct.proofs.flags.same_time_totals.Tie as tie
 

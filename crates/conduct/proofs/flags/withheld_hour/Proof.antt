@@ -1,5 +1,5 @@
 use borrow.Author.Needs.{needs}
-use Rattle.conduct.specs.Stages.{withheldIn}
+use Rattle.conduct.specs.StageFlags.{withheldIn}
 use Rattle.conduct.proofs.flags.withheld_hour.Statement.{statement}
 use Rattle.conduct.proofs.flags.withheld_hour.Tie as tie
 

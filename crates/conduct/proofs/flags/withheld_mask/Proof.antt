@@ -3,7 +3,7 @@ use mathlib.Core.Path.{_≡_, refl}
 use native.Mathlib.Omega.{arith}
 use Rattle.binary.specs.Bounded.{maskTo}
 use Rattle.binary.proofs.MaskLaws.{MaskTurn, mask-none, mask-turn}
-use Rattle.conduct.specs.Stages.{withheldIn}
+use Rattle.conduct.specs.StageFlags.{withheldIn}
 use Rattle.conduct.proofs.flags.withheld_mask.Statement.{statement}
 use Rattle.conduct.proofs.flags.withheld_mask.Tie as tie
 

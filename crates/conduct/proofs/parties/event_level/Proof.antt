@@ -2,7 +2,7 @@ use mathlib.Core.Path.{_≡_}
 use borrow.Author.Needs.{needs}
 use borrow.Author.Tests.{eq-eqb, ne-eqb}
 use Rattle.casefile.specs.Decode.{referencesIn, eventsIn}
-use Rattle.conduct.specs.Parties.{bidLevel}
+use Rattle.casefile.specs.Lookup.{bidLevel}
 use Rattle.conduct.proofs.StageLaws.{level-there}
 use Rattle.conduct.proofs.parties.event_level.Statement.{statement}
 use Rattle.conduct.proofs.parties.event_level.Tie as tie

@@ -1,6 +1,6 @@
 use borrow.Author.Needs.{needs}
 use Rattle.casefile.specs.Decode.{eventsIn}
-use Rattle.conduct.specs.Stages.{keyIn}
+use Rattle.conduct.specs.StageFlags.{keyIn}
 use Rattle.conduct.proofs.parties.party_key.Statement.{statement}
 use Rattle.conduct.proofs.parties.party_key.Tie as tie
 

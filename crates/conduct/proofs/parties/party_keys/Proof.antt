@@ -8,7 +8,7 @@ use Rattle.binary.specs.Lists.{listTo}
 use Rattle.binary.proofs.ListLaws.{fill-none, fill-more}
 use Rattle.casefile.specs.Layout.{eventWidth}
 use Rattle.casefile.specs.Decode.{eventsIn}
-use Rattle.conduct.specs.Stages.{keyIn}
+use Rattle.conduct.specs.StageFlags.{keyIn}
 use Rattle.conduct.proofs.parties.party_keys.Statement.{statement}
 use Rattle.conduct.proofs.parties.party_keys.Tie as tie
 

@@ -9,7 +9,8 @@ use Rattle.binary.proofs.BoundedLaws.{all-at}
 use Rattle.binary.proofs.ListLaws.{fill-none, fill-more}
 use Rattle.casefile.specs.Layout.{eventWidth}
 use Rattle.casefile.specs.Decode.{referencesIn, eventsIn}
-use Rattle.conduct.specs.Parties.{bidLevel, levelFound, levelsFound}
+use Rattle.conduct.specs.StageParties.{levelFound, levelsFound}
+use Rattle.casefile.specs.Lookup.{bidLevel}
 use Rattle.conduct.proofs.parties.reference_levels.Statement.{statement}
 use Rattle.conduct.proofs.parties.reference_levels.Tie as tie
 

@@ -6,7 +6,7 @@ use native.Mathlib.Omega.{arith}
 use lib.ListN.{length, length-set}
 use Rattle.binary.specs.Bytes.{byteAt, u32At}
 use Rattle.casefile.specs.Decode.{eventsIn, caseIn}
-use Rattle.conduct.specs.Stages.{Added, partyFigure}
+use Rattle.conduct.specs.StageFlags.{Added, partyFigure}
 use Rattle.conduct.proofs.SumLaws.{added-none, added-kept, added-more, figure-is}
 use Rattle.conduct.proofs.sums.add_event.Statement.{statement}
 use Rattle.conduct.proofs.sums.add_event.Tie as tie

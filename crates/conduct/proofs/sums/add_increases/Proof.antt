@@ -5,7 +5,7 @@ use borrow.Author.Tests.{not-true, not-false}
 use native.Mathlib.Omega.{arith}
 use lib.ListN.{length, length-set}
 use Rattle.casefile.specs.Decode.{amountsIn}
-use Rattle.conduct.specs.Stages.{Added, countedIncrease}
+use Rattle.conduct.specs.StageFlags.{Added, countedIncrease}
 use Rattle.conduct.proofs.SumLaws.{added-none, row-kept, row-more, counted-none, counted-is}
 use Rattle.conduct.proofs.sums.add_increases.Statement.{statement}
 use Rattle.conduct.proofs.sums.add_increases.Tie as tie

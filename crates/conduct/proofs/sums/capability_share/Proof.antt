@@ -1,6 +1,6 @@
 use borrow.Author.Needs.{needs}
 use Rattle.casefile.specs.Decode.{unitsIn}
-use Rattle.conduct.specs.Stages.{capabilityShare}
+use Rattle.conduct.specs.StageFlags.{capabilityShare}
 use Rattle.conduct.proofs.sums.capability_share.Statement.{statement}
 use Rattle.conduct.proofs.sums.capability_share.Tie as tie
 

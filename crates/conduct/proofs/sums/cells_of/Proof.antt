@@ -1,7 +1,7 @@
 use borrow.Author.Needs.{needs}
 use lib.ListN.{length-drop}
 use Rattle.casefile.proofs.RecordLaws.{rest}
-use Rattle.conduct.specs.Stages.{cellsIn}
+use Rattle.conduct.specs.StageFlags.{cellsIn}
 use Rattle.conduct.proofs.sums.cells_of.Statement.{statement}
 use Rattle.conduct.proofs.sums.cells_of.Tie as tie
 

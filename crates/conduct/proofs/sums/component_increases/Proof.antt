@@ -7,7 +7,7 @@ use lib.ListN.{length, getD}
 use Rattle.binary.specs.Lists.{Holds}
 use Rattle.casefile.specs.Layout.{eventWidth}
 use Rattle.casefile.specs.Decode.{amountsIn}
-use Rattle.conduct.specs.Stages.{countedIncrease, keyedIncrease}
+use Rattle.conduct.specs.StageFlags.{countedIncrease, keyedIncrease}
 use Rattle.conduct.proofs.SumLaws.{zeros-at, increases-none, increases-more, added-bound, counted-bound}
 use Rattle.conduct.proofs.sums.component_increases.Statement.{statement}
 use Rattle.conduct.proofs.sums.component_increases.Tie as tie

@@ -6,7 +6,7 @@ use lib.ListN.{length}
 use Rattle.binary.specs.Bounded.{sumTo}
 use Rattle.binary.proofs.BoundedLaws.{sum-none, sum-more}
 use Rattle.casefile.specs.Decode.{unitsIn}
-use Rattle.conduct.specs.Stages.{capabilityShare, capabilityOf}
+use Rattle.conduct.specs.StageFlags.{capabilityShare, capabilityOf}
 use Rattle.conduct.proofs.sums.group_capability.Statement.{statement}
 use Rattle.conduct.proofs.sums.group_capability.Tie as tie
 

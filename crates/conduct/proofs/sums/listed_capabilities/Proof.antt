@@ -8,7 +8,7 @@ use Rattle.binary.specs.Lists.{listTo}
 use Rattle.binary.proofs.ListLaws.{fill-none, fill-more, holds-fill}
 use Rattle.casefile.specs.Layout.{eventWidth}
 use Rattle.casefile.specs.Decode.{caseIn}
-use Rattle.conduct.specs.Stages.{listedCapability}
+use Rattle.conduct.specs.StageFlags.{listedCapability}
 use Rattle.conduct.proofs.sums.listed_capabilities.Statement.{statement}
 use Rattle.conduct.proofs.sums.listed_capabilities.Tie as tie
 

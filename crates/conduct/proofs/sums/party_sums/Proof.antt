@@ -6,7 +6,7 @@ use native.Mathlib.Omega.{arith}
 use lib.ListN.{length, getD}
 use Rattle.casefile.specs.Layout.{eventWidth}
 use Rattle.casefile.specs.Decode.{caseIn}
-use Rattle.conduct.specs.Stages.{HasSums}
+use Rattle.conduct.specs.StageFlags.{HasSums}
 use Rattle.conduct.proofs.SumLaws.{sums-none, sums-more, added-bound, figure-le}
 use Rattle.conduct.proofs.sums.party_sums.Statement.{statement}
 use Rattle.conduct.proofs.sums.party_sums.Tie as tie

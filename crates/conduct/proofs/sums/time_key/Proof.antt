@@ -1,6 +1,6 @@
 use borrow.Author.Needs.{needs}
 use Rattle.casefile.specs.Decode.{eventsIn}
-use Rattle.conduct.specs.Stages.{timeKey}
+use Rattle.conduct.specs.StageFlags.{timeKey}
 use Rattle.conduct.proofs.sums.time_key.Statement.{statement}
 use Rattle.conduct.proofs.sums.time_key.Tie as tie
 

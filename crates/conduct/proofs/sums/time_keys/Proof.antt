@@ -8,7 +8,7 @@ use Rattle.binary.specs.Lists.{listTo}
 use Rattle.binary.proofs.ListLaws.{fill-none, fill-more, holds-fill}
 use Rattle.casefile.specs.Layout.{eventWidth}
 use Rattle.casefile.specs.Decode.{eventsIn}
-use Rattle.conduct.specs.Stages.{timeKey}
+use Rattle.conduct.specs.StageFlags.{timeKey}
 use Rattle.conduct.proofs.sums.time_keys.Statement.{statement}
 use Rattle.conduct.proofs.sums.time_keys.Tie as tie
 

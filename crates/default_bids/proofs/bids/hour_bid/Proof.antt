@@ -1,6 +1,6 @@
 use borrow.Author.Needs.{needs}
-use Rattle.tariff.specs.DefaultBids.{correctedInForce}
-use Rattle.default_bids.specs.Figures.{hourBid}
+use Rattle.tariff.specs.DefaultBidRules.{correctedInForce}
+use Rattle.default_bids.specs.StageFigures.{hourBid}
 use Rattle.default_bids.proofs.bids.hour_bid.Statement.{statement}
 use Rattle.default_bids.proofs.bids.hour_bid.Tie as tie
 

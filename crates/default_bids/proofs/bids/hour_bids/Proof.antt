@@ -6,7 +6,7 @@ use native.Mathlib.Omega.{arith}
 use lib.ListN.{drop}
 use Rattle.binary.specs.Lists.{listTo}
 use Rattle.binary.proofs.ListLaws.{fill-none, fill-more}
-use Rattle.default_bids.specs.Figures.{bidAt}
+use Rattle.default_bids.specs.StageFigures.{bidAt}
 use Rattle.default_bids.proofs.bids.hour_bids.Statement.{statement}
 use Rattle.default_bids.proofs.bids.hour_bids.Tie as tie
 

@@ -1,6 +1,6 @@
 use borrow.Author.Needs.{needs}
 use Rattle.casefile.specs.Decode.{unitsIn, eventsIn}
-use Rattle.default_bids.specs.Figures.{termsOf}
+use Rattle.default_bids.specs.StageFigures.{termsOf}
 use Rattle.default_bids.proofs.bids.terms_of.Statement.{statement}
 use Rattle.default_bids.proofs.bids.terms_of.Tie as tie
 

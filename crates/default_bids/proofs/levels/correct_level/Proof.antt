@@ -3,7 +3,7 @@ use mathlib.Core.Path.{_≡_}
 use borrow.Author.Needs.{needs}
 use Rattle.casefile.specs.Decode.{referencesIn, eventsIn}
 use Rattle.casefile.specs.Lookup.{readsCorrect}
-use Rattle.default_bids.specs.Figures.{readsLevel}
+use Rattle.default_bids.specs.StageFigures.{readsLevel}
 use Rattle.default_bids.proofs.LevelLaws.{found-read, level-read, level-unread}
 use Rattle.default_bids.proofs.levels.correct_level.Statement.{statement}
 use Rattle.default_bids.proofs.levels.correct_level.Tie as tie

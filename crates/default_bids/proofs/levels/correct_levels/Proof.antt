@@ -9,7 +9,7 @@ use Rattle.binary.proofs.BoundedLaws.{all-at}
 use Rattle.binary.proofs.ListLaws.{fill-none, fill-more}
 use Rattle.casefile.specs.Layout.{eventWidth}
 use Rattle.casefile.specs.Decode.{referencesIn, eventsIn}
-use Rattle.default_bids.specs.Figures.{correctLevel, correctFound, correctsFound}
+use Rattle.default_bids.specs.StageFigures.{correctLevel, correctFound, correctsFound}
 use Rattle.default_bids.proofs.levels.correct_levels.Statement.{statement}
 use Rattle.default_bids.proofs.levels.correct_levels.Tie as tie
 

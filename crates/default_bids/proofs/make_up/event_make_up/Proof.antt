@@ -6,7 +6,7 @@ use lib.Dec.{eqb}
 use Rattle.binary.proofs.Implies.{and-l}
 use Rattle.casefile.specs.Decode.{eventsIn}
 use Rattle.casefile.proofs.RecordLaws.{rest}
-use Rattle.default_bids.specs.Figures.{makeUpBy}
+use Rattle.default_bids.specs.StageFigures.{makeUpBy}
 use Rattle.default_bids.proofs.MakeUpBounds.{make-up-bound, megawatts-fine}
 use Rattle.default_bids.proofs.make_up.event_make_up.Statement.{statement}
 use Rattle.default_bids.proofs.make_up.event_make_up.Tie as tie

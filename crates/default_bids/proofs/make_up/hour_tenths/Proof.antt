@@ -1,6 +1,6 @@
 use mathlib.Core.Path.{_≡_}
 use borrow.Author.Needs.{needs}
-use Rattle.default_bids.specs.Figures.{tenthsAt}
+use Rattle.default_bids.specs.StageFigures.{tenthsAt}
 use Rattle.default_bids.proofs.MakeUpBounds.{tenths-bound}
 use Rattle.default_bids.proofs.make_up.hour_tenths.Statement.{statement}
 use Rattle.default_bids.proofs.make_up.hour_tenths.Tie as tie

@@ -3,7 +3,7 @@ use mathlib.Core.Path.{_≡_}
 use native.Mathlib.Omega.{arith}
 use Rattle.binary.specs.Bounded.{sumTo}
 use Rattle.binary.proofs.BoundedLaws.{sum-none, sum-more}
-use Rattle.default_bids.specs.Figures.{tenthsAt}
+use Rattle.default_bids.specs.StageFigures.{tenthsAt}
 use Rattle.default_bids.proofs.make_up.sum_tenths.Statement.{statement}
 use Rattle.default_bids.proofs.make_up.sum_tenths.Tie as tie
 

@@ -1,6 +1,6 @@
 use borrow.Author.Needs.{needs}
 use Rattle.casefile.specs.Decode.{eventsIn}
-use Rattle.default_bids.specs.Figures.{mitigatedBy}
+use Rattle.default_bids.specs.StageFigures.{mitigatedBy}
 use Rattle.default_bids.proofs.mitigated.mitigated_mask.Statement.{statement}
 use Rattle.default_bids.proofs.mitigated.mitigated_mask.Tie as tie
 

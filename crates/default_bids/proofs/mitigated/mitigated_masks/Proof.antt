@@ -9,7 +9,7 @@ use Rattle.binary.proofs.ListLaws.{fill-none, fill-more}
 use Rattle.casefile.specs.Layout.{eventWidth}
 use Rattle.casefile.specs.Decode.{eventsIn, caseIn}
 use Rattle.default_bids.specs.Mitigation.{mitigatedMask}
-use Rattle.default_bids.specs.Figures.{mitigatedBy}
+use Rattle.default_bids.specs.StageFigures.{mitigatedBy}
 use Rattle.default_bids.proofs.FigureLaws.{mitigated-by}
 use Rattle.default_bids.proofs.mitigated.mitigated_masks.Statement.{statement}
 use Rattle.default_bids.proofs.mitigated.mitigated_masks.Tie as tie

@@ -4,7 +4,7 @@ use mathlib.Core.Path.{_≡_, sym, ap}
 use borrow.Author.Needs.{needs}
 use native.Mathlib.Omega.{arith}
 use lib.ListN.{length}
-use Rattle.report.specs.Put.{Put}
+use Rattle.report.specs.StagePut.{Put}
 use Rattle.report.proofs.PutLaws.{then, nothing, same-text, put-size}
 use Rattle.report.specs.Line.{eventFields, rowFields, linesTo}
 use Rattle.report.proofs.LineLaws.{lines-none, lines-more}

@@ -1,7 +1,7 @@
 use mathlib.Core.Path.{sym, _∙_}
 use borrow.Author.Needs.{needs}
 use borrow.Author.Tests.{not-true, not-false}
-use Rattle.sanctions.specs.Tables.{noSanction, dispatchRow}
+use Rattle.sanctions.specs.StageTables.{noSanction, dispatchRow}
 use Rattle.sanctions.proofs.dispatch.dispatch.Statement.{statement}
 use Rattle.sanctions.proofs.dispatch.dispatch.Tie as tie
 

@@ -1,5 +1,5 @@
 use borrow.Author.Needs.{needs}
-use Rattle.sanctions.specs.Tables.{hourRevenue}
+use Rattle.sanctions.specs.StageTables.{hourRevenue}
 use Rattle.sanctions.proofs.dispatch.hour_revenue.Statement.{statement}
 use Rattle.sanctions.proofs.dispatch.hour_revenue.Tie as tie
 

@@ -4,7 +4,7 @@ use borrow.Author.Needs.{needs}
 use native.Mathlib.Omega.{arith}
 use Rattle.binary.specs.Bounded.{sumTo}
 use Rattle.binary.proofs.BoundedLaws.{sum-none, sum-more}
-use Rattle.sanctions.specs.Tables.{hourRevenue}
+use Rattle.sanctions.specs.StageTables.{hourRevenue}
 use Rattle.sanctions.proofs.dispatch.revenue.Statement.{statement}
 use Rattle.sanctions.proofs.dispatch.revenue.Tie as tie
 

@@ -5,7 +5,7 @@ use native.Mathlib.Omega.{arith}
 use Rattle.binary.specs.Bounded.{sumTo}
 use Rattle.binary.specs.Word.{positivePart, negativePart}
 use Rattle.binary.proofs.BoundedLaws.{sum-none}
-use Rattle.sanctions.specs.Tables.{hourEnergy, energyIn, energyOf}
+use Rattle.sanctions.specs.StageTables.{hourEnergy, energyIn, energyOf}
 use Rattle.sanctions.proofs.TableLaws.{positive-part, negative-part, energy-turn}
 use Rattle.sanctions.proofs.fuel.event_energy.Statement.{statement}
 use Rattle.sanctions.proofs.fuel.event_energy.Tie as tie

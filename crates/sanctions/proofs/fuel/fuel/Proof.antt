@@ -1,7 +1,7 @@
 use Prim.Native.Nat.{_≤_}
 use borrow.Author.Needs.{needs}
 use Rattle.casefile.specs.Decode.{eventsIn}
-use Rattle.sanctions.specs.Tables.{multiplierAt, partyPenalty, fuelRow}
+use Rattle.sanctions.specs.StageTables.{multiplierAt, partyPenalty, fuelRow}
 use Rattle.sanctions.proofs.TableLaws.{SmallDay, day-small, after-small}
 use Rattle.sanctions.proofs.fuel.fuel.Statement.{statement}
 use Rattle.sanctions.proofs.fuel.fuel.Tie as tie

@@ -1,6 +1,6 @@
 use borrow.Author.Needs.{needs}
 use Rattle.casefile.specs.Decode.{eventsIn}
-use Rattle.sanctions.specs.Tables.{fuelRowCounts}
+use Rattle.sanctions.specs.StageTables.{fuelRowCounts}
 use Rattle.sanctions.proofs.fuel.is_prior.Statement.{statement}
 use Rattle.sanctions.proofs.fuel.is_prior.Tie as tie
 

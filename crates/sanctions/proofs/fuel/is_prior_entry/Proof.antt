@@ -1,7 +1,7 @@
 use borrow.Author.Needs.{needs}
 use Rattle.casefile.specs.Decode.{pastIn, violationIn}
 use Rattle.sanctions.specs.Penalties.{countsFuel}
-use Rattle.sanctions.specs.Tables.{fuelEntryCounts}
+use Rattle.sanctions.specs.StageTables.{fuelEntryCounts}
 use Rattle.sanctions.proofs.fuel.is_prior_entry.Statement.{statement}
 use Rattle.sanctions.proofs.fuel.is_prior_entry.Tie as tie
 

@@ -6,7 +6,7 @@ use lib.ListN.{length}
 use Rattle.binary.specs.Bounded.{sumTo}
 use Rattle.binary.specs.Word.{positivePart, negativePart}
 use Rattle.casefile.specs.Layout.{eventWidth}
-use Rattle.sanctions.specs.Tables.{ledBy, energyAt, tccAt, partyDay}
+use Rattle.sanctions.specs.StageTables.{ledBy, energyAt, tccAt, partyDay}
 use Rattle.sanctions.proofs.TableLaws.{positive-part, negative-part, sum-turn, shares, energy-led, tcc-led, none-before}
 use Rattle.sanctions.proofs.fuel.party_day.Statement.{statement}
 use Rattle.sanctions.proofs.fuel.party_day.Tie as tie

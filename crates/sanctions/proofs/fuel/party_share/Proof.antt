@@ -1,7 +1,7 @@
 use borrow.Author.Needs.{needs}
 use borrow.Author.Tests.{eq-eqb, ne-eqb}
 use Rattle.casefile.specs.Decode.{eventsIn}
-use Rattle.sanctions.specs.Tables.{energyOf, ledBy, partyShare}
+use Rattle.sanctions.specs.StageTables.{energyOf, ledBy, partyShare}
 use Rattle.sanctions.proofs.TableLaws.{led-amounts}
 use Rattle.sanctions.proofs.fuel.party_share.Statement.{statement}
 use Rattle.sanctions.proofs.fuel.party_share.Tie as tie

@@ -4,7 +4,7 @@ use borrow.Author.Needs.{needs}
 use native.Mathlib.Omega.{arith}
 use Rattle.binary.specs.Bounded.{anyTo}
 use Rattle.binary.proofs.BoundedLaws.{any-none, any-more}
-use Rattle.sanctions.specs.Tables.{fuelRowCounts}
+use Rattle.sanctions.specs.StageTables.{fuelRowCounts}
 use Rattle.sanctions.proofs.fuel.prior_here.Statement.{statement}
 use Rattle.sanctions.proofs.fuel.prior_here.Tie as tie
 

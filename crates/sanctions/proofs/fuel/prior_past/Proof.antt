@@ -5,7 +5,7 @@ use native.Mathlib.Omega.{arith}
 use lib.ListN.{length}
 use Rattle.binary.specs.Bounded.{anyTo}
 use Rattle.binary.proofs.BoundedLaws.{any-none, any-more}
-use Rattle.sanctions.specs.Tables.{fuelEntryCounts}
+use Rattle.sanctions.specs.StageTables.{fuelEntryCounts}
 use Rattle.sanctions.proofs.fuel.prior_past.Statement.{statement}
 use Rattle.sanctions.proofs.fuel.prior_past.Tie as tie
 

@@ -4,7 +4,7 @@ use native.Mathlib.Omega.{arith}
 use lib.ListN.{length}
 use Rattle.binary.proofs.BoundedLaws.{count-bound}
 use Rattle.casefile.specs.Decode.{eventsIn}
-use Rattle.sanctions.specs.Tables.{instancesHere, instancesPast, instancesAt}
+use Rattle.sanctions.specs.StageTables.{instancesHere, instancesPast, instancesAt}
 use Rattle.sanctions.proofs.instances.instances_at.Statement.{statement}
 use Rattle.sanctions.proofs.instances.instances_at.Tie as tie
 

@@ -4,7 +4,7 @@ use borrow.Author.Needs.{needs}
 use native.Mathlib.Omega.{arith}
 use Rattle.binary.specs.Bounded.{countTo}
 use Rattle.binary.proofs.BoundedLaws.{count-none}
-use Rattle.sanctions.specs.Tables.{rowCounts, instancesHere}
+use Rattle.sanctions.specs.StageTables.{rowCounts, instancesHere}
 use Rattle.sanctions.proofs.TableLaws.{CountTurn, count-turn}
 use Rattle.sanctions.proofs.instances.instances_here.Statement.{statement}
 use Rattle.sanctions.proofs.instances.instances_here.Tie as tie

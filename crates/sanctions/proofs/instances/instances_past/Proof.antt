@@ -5,7 +5,7 @@ use native.Mathlib.Omega.{arith}
 use lib.ListN.{length}
 use Rattle.binary.specs.Bounded.{countTo}
 use Rattle.binary.proofs.BoundedLaws.{count-none}
-use Rattle.sanctions.specs.Tables.{entryCounts, instancesPast}
+use Rattle.sanctions.specs.StageTables.{entryCounts, instancesPast}
 use Rattle.sanctions.proofs.TableLaws.{CountTurn, count-turn}
 use Rattle.sanctions.proofs.instances.instances_past.Statement.{statement}
 use Rattle.sanctions.proofs.instances.instances_past.Tie as tie

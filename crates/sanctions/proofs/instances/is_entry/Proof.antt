@@ -1,6 +1,6 @@
 use borrow.Author.Needs.{needs}
 use Rattle.casefile.specs.Decode.{pastIn, violationIn}
-use Rattle.sanctions.specs.Tables.{entryOf}
+use Rattle.sanctions.specs.StageTables.{entryOf}
 use Rattle.sanctions.proofs.instances.is_entry.Statement.{statement}
 use Rattle.sanctions.proofs.instances.is_entry.Tie as tie
 

@@ -1,6 +1,6 @@
 use borrow.Author.Needs.{needs}
 use Rattle.casefile.specs.Decode.{eventsIn}
-use Rattle.sanctions.specs.Tables.{instanceOf}
+use Rattle.sanctions.specs.StageTables.{instanceOf}
 use Rattle.sanctions.proofs.instances.is_instance.Statement.{statement}
 use Rattle.sanctions.proofs.instances.is_instance.Tie as tie
 

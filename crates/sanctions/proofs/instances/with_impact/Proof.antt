@@ -1,6 +1,6 @@
 use borrow.Author.Needs.{needs}
 use Rattle.casefile.specs.Decode.{eventsIn}
-use Rattle.sanctions.specs.Tables.{withImpact}
+use Rattle.sanctions.specs.StageTables.{withImpact}
 use Rattle.sanctions.proofs.instances.with_impact.Statement.{statement}
 use Rattle.sanctions.proofs.instances.with_impact.Tie as tie
 

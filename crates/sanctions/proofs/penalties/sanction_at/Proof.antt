@@ -6,7 +6,7 @@ use lib.Dec.{eqb}
 use lib.ListN.{getD}
 use Rattle.binary.proofs.Implies.{and-l}
 use Rattle.casefile.specs.Decode.{eventsIn}
-use Rattle.sanctions.specs.Tables.{noSanction, rowAt}
+use Rattle.sanctions.specs.StageTables.{noSanction, rowAt}
 use Rattle.sanctions.proofs.penalties.sanction_at.Statement.{statement}
 use Rattle.sanctions.proofs.penalties.sanction_at.Tie as tie
 

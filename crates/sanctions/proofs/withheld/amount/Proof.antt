@@ -5,7 +5,7 @@ use native.Mathlib.Omega.{arith}
 use Rattle.binary.specs.Bounded.{sumTo}
 use Rattle.binary.specs.Word.{positivePart}
 use Rattle.binary.proofs.BoundedLaws.{sum-none, sum-more}
-use Rattle.sanctions.specs.Tables.{hourEnergy}
+use Rattle.sanctions.specs.StageTables.{hourEnergy}
 use Rattle.sanctions.proofs.TableLaws.{positive-part, hour-small}
 use Rattle.sanctions.proofs.withheld.amount.Statement.{statement}
 use Rattle.sanctions.proofs.withheld.amount.Tie as tie

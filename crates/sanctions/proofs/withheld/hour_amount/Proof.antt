@@ -1,5 +1,5 @@
 use borrow.Author.Needs.{needs}
-use Rattle.sanctions.specs.Tables.{hourEnergy}
+use Rattle.sanctions.specs.StageTables.{hourEnergy}
 use Rattle.sanctions.proofs.withheld.hour_amount.Statement.{statement}
 use Rattle.sanctions.proofs.withheld.hour_amount.Tie as tie
 

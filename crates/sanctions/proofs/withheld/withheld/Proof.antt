@@ -1,7 +1,7 @@
 use mathlib.Core.Path.{sym, _∙_}
 use borrow.Author.Needs.{needs}
 use borrow.Author.Tests.{not-true, not-false}
-use Rattle.sanctions.specs.Tables.{noSanction, instanceRow, withheldRow}
+use Rattle.sanctions.specs.StageTables.{noSanction, instanceRow, withheldRow}
 use Rattle.sanctions.proofs.withheld.withheld.Statement.{statement}
 use Rattle.sanctions.proofs.withheld.withheld.Tie as tie
 

@@ -1,5 +1,5 @@
 use borrow.Author.Needs.{needs}
-use Rattle.settlement.specs.Written.{tableBids}
+use Rattle.settlement.specs.StageRow.{tableBids}
 use Rattle.settlement.proofs.rows.bids_at.Statement.{statement}
 use Rattle.settlement.proofs.rows.bids_at.Tie as tie
 

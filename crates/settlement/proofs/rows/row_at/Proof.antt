@@ -1,6 +1,6 @@
 use mathlib.Core.Path.{refl}
 use borrow.Author.Needs.{needs}
-use Rattle.settlement.specs.Written.{tableRow}
+use Rattle.settlement.specs.StageRow.{tableRow}
 use Rattle.settlement.proofs.rows.row_at.Statement.{statement}
 use Rattle.settlement.proofs.rows.row_at.Tie as tie
 

@@ -1,6 +1,6 @@
 use mathlib.Core.Path.{refl}
 use borrow.Author.Needs.{needs}
-use Rattle.settlement.specs.Written.{tableSanction}
+use Rattle.settlement.specs.StageRow.{tableSanction}
 use Rattle.settlement.proofs.rows.sanction_at.Statement.{statement}
 use Rattle.settlement.proofs.rows.sanction_at.Tie as tie
 

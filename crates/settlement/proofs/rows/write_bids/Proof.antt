@@ -4,7 +4,7 @@ use borrow.Author.Needs.{needs}
 use native.Mathlib.Omega.{arith}
 use lib.Seq.{sets, length-sets}
 use Rattle.binary.specs.Lists.{joinTo}
-use Rattle.settlement.specs.Written.{wordOf, wordsOf}
+use Rattle.settlement.specs.StageRow.{wordOf, wordsOf}
 use Rattle.settlement.proofs.WriteLaws.{words-more}
 use Rattle.settlement.proofs.rows.write_bids.Statement.{statement}
 use Rattle.settlement.proofs.rows.write_bids.Tie as tie

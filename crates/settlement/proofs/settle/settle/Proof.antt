@@ -40,5 +40,5 @@ settle-spec =
     (c .before .before .before .before .before .before .section3 .ensures) (c .before .before .before .before .correct-references .ensures) (c .before .before .before .before .before .section4 .ensures) _ _ (fine (c .before .before .before .before .before .before .before .before .before)) (s .0) in (
       settled-told _ _ _ _ e,
       settled-rows (a .file .now) (a .correction .now) _ _ _ _ _ (c .before .before .before .before .before .before .before .before .section .ensures) (c .before .before .before .before .before .before .before .section2 .ensures)
-            (c .before .before .before .before .before .before .section3 .ensures) (c .before .before .before .before .correct-references .ensures) (c .before .before .before .before .before .section4 .ensures) (a .rows .now) _ (fine (c .before .before .before .before .before .before .before .before .before)) (s .1),
+          (c .before .before .before .before .before .before .section3 .ensures) (c .before .before .before .before .correct-references .ensures) (c .before .before .before .before .before .section4 .ensures) (a .rows .now) _ (fine (c .before .before .before .before .before .before .before .before .before)) (s .1),
     )))

@@ -2,7 +2,7 @@ use Prim.Native.Nat.{ℕ}
 use mathlib.Core.Path.{ap₂}
 use borrow.Author.Needs.{needs}
 use Rattle.binary.proofs.ListLaws.{holds-fill, fill-long}
-use Rattle.settlement.specs.Stages.{totalsOf}
+use Rattle.settlement.specs.StageSections.{totalsOf}
 use Rattle.settlement.proofs.settle.settle_flags.Statement.{statement}
 use Rattle.settlement.proofs.settle.settle_flags.Tie as tie
 

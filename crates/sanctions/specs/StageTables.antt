@@ -1,0 +1,190 @@
+-- The figures of a row as the code finds them: in the bytes of past and events, in the tables that earlier stages have
+-- filled (groups, leaders, masks), and in the rows before it (N3, penalties).
+use Prim.Native.Nat.{ℕ, _+_, _-_, _*_, _/_}
+use mathlib.Core.Bool.{Bool, cond, _&&_, _||_}
+use mathlib.Core.List.{List}
+use lib.Dec.{ltb, eqb}
+use lib.ListN.{length, getD}
+use Rattle.binary.specs.Bounded.{sumTo, countTo, anyTo, bitOf}
+use Rattle.binary.specs.Word.{positivePart, negativePart}
+use Rattle.tariff.specs.SanctionRules.{periodCounts, ladder, withheldPenalty, dispatchPenalty, fuelDayCounts, fuelPenalty}
+use Rattle.casefile.specs.Layout.{eventWidth, pastWidth, mostHours}
+use Rattle.casefile.specs.Decode.{pastIn, eventsIn}
+use Rattle.casefile.specs.StageRead.{cellOf}
+use Rattle.conduct.specs.StageFlags.{cellsIn}
+use Rattle.sanctions.specs.Penalties.{countsFuel, fuelMultiplierAfter}
+use Rattle.sanctions.specs.declared.instances.Instances.{Instances}
+use Rattle.sanctions.specs.declared.fuel.Energy.{Energy}
+use Rattle.sanctions.specs.declared.fuel.PartyDay.{PartyDay}
+use Rattle.sanctions.specs.declared.sanction.Sanction.{Sanction}
+
+-- ---- the hours of an event's cells that a mask has
+
+-- a × the given part of b
+unfoldable pub hourEnergy : (part : ℕ → ℕ) (cells : List ℕ) (mask h : ℕ) → ℕ
+hourEnergy part cells mask h = cond (bitOf mask h) (cellOf cells h .a * part (cellOf cells h .b)) 0
+
+-- b
+unfoldable pub hourRevenue : (cells : List ℕ) (mask h : ℕ) → ℕ
+hourRevenue cells mask h = cond (bitOf mask h) (cellOf cells h .b) 0
+
+-- ---- Withheld
+
+-- row j is an instance (its N3 is above 0) of this group and market
+unfoldable pub instanceOf : (events groups n3 : List ℕ) (group market j : ℕ) → Bool
+instanceOf events groups n3 group market j =
+    ltb 0 (getD n3 j 0) && eqb (getD groups j 0) group && eqb (eventsIn events .market j) market
+
+-- and its period is the own one or one of the k before
+unfoldable pub rowCounts : (events groups n3 : List ℕ) (group market period k j : ℕ) → Bool
+rowCounts events groups n3 group market period k j =
+    instanceOf events groups n3 group market j && periodCounts k period (eventsIn events .period j)
+
+-- past entry j is of kind 1, and of this group and market
+unfoldable pub entryOf : (past : List ℕ) (group market j : ℕ) → Bool
+entryOf past group market j =
+    eqb (pastIn past .entry j .kind) 1 && eqb (pastIn past .entry j .group) group && eqb (pastIn past .entry j .market) market
+
+unfoldable pub entryCounts : (past : List ℕ) (group market period k j : ℕ) → Bool
+entryCounts past group market period k j =
+    entryOf past group market j && periodCounts k period (pastIn past .entry j .period)
+
+-- the instances on the first i rows
+unfoldable pub instancesHere : (events groups n3 : List ℕ) (group market period i : ℕ) → Instances
+instancesHere events groups n3 group market period i =
+    record {
+      n3 = countTo i (rowCounts events groups n3 group market period 2);
+      n2 = countTo i (rowCounts events groups n3 group market period 1);
+    }
+
+-- the past entries
+unfoldable pub instancesPast : (past : List ℕ) (group market period : ℕ) → Instances
+instancesPast past group market period =
+    record {
+      n3 = countTo (length past / pastWidth) (entryCounts past group market period 2);
+      n2 = countTo (length past / pastWidth) (entryCounts past group market period 1);
+    }
+
+-- N3 and N2 of row i, where it is an instance: 1 plus both
+unfoldable pub instancesAt : (past events groups n3 : List ℕ) (i : ℕ) → Instances
+instancesAt past events groups n3 i =
+    onePlus (instancesHere events groups n3 (getD groups i 0) (eventsIn events .market i) (eventsIn events .period i) i)
+    (instancesPast past (getD groups i 0) (eventsIn events .market i) (eventsIn events .period i))
+  where
+    onePlus : Instances → Instances → Instances
+    onePlus here outside = record { n3 = 1 + here .n3 + outside .n3; n2 = 1 + here .n2 + outside .n2 }
+
+-- impact 1 and a flagged hour
+unfoldable pub withImpact : (events masks : List ℕ) (i : ℕ) → Bool
+withImpact events masks i = eqb (eventsIn events .impact i) 1 && ltb 0 (getD masks i 0)
+
+unfoldable pub noSanction : Sanction
+noSanction = record { multiplier = 0; n3 = 0; n2 = 0; penalty = 0 }
+
+-- the row of an instance
+unfoldable pub instanceRow : Instances → (amount : ℕ) → Sanction
+instanceRow x amount =
+    record {
+      multiplier = ladder (x .n3) (x .n2);
+      n3 = x .n3;
+      n2 = x .n2;
+      penalty = withheldPenalty (ladder (x .n3) (x .n2)) amount;
+    }
+
+unfoldable pub withheldRow : (past events groups masks n3 : List ℕ) (i : ℕ) → Sanction
+withheldRow past events groups masks n3 i =
+    cond (withImpact events masks i)
+    (instanceRow (instancesAt past events groups n3 i)
+    (sumTo mostHours (hourEnergy (positivePart 32) (cellsIn events i) (getD masks i 0))))
+    noSanction
+
+-- ---- Dispatch
+
+unfoldable pub dispatchRow : (events masks : List ℕ) (i : ℕ) → Sanction
+dispatchRow events masks i =
+    cond (withImpact events masks i)
+    (record {
+      multiplier = 3;
+      n3 = 0;
+      n2 = 0;
+      penalty = dispatchPenalty (sumTo mostHours (hourRevenue (cellsIn events i) (getD masks i 0)));
+    })
+    noSanction
+
+-- ---- Fuel
+
+-- an event's part of E, by the given part of signed words
+unfoldable pub energyIn : (part : ℕ → ℕ) (Q : ℕ) (cells : List ℕ) (mask : ℕ) → ℕ
+energyIn part Q cells mask = 10 * part Q + sumTo mostHours (hourEnergy part cells mask)
+
+unfoldable pub energyOf : (Q : ℕ) (cells : List ℕ) (mask : ℕ) → Energy
+energyOf Q cells mask = record { gain = energyIn (positivePart 32) Q cells mask; loss = energyIn (negativePart 32) Q cells mask }
+
+-- a figure of event j, where event i is its leader
+unfoldable pub ledBy : (leaders : List ℕ) (i : ℕ) (figure : ℕ → ℕ) (j : ℕ) → ℕ
+ledBy leaders i figure j = cond (eqb (getD leaders j 0) i) (figure j) 0
+
+-- the figures of event j that its party-day sums
+abbrev pub energyAt : (part : ℕ → ℕ) (events : List ℕ) (mask j : ℕ) → ℕ
+energyAt part events mask j = energyIn part (eventsIn events .Q j) (cellsIn events j) mask
+
+abbrev pub tccAt : (part : ℕ → ℕ) (events : List ℕ) (j : ℕ) → ℕ
+tccAt part events j = part (eventsIn events .R j)
+
+unfoldable pub partyShare : (events leaders : List ℕ) (mask i j : ℕ) → PartyDay
+partyShare events leaders mask i j =
+    record {
+      gain = ledBy leaders i (energyAt (positivePart 32) events mask) j;
+      loss = ledBy leaders i (energyAt (negativePart 32) events mask) j;
+      rise = ledBy leaders i (tccAt (positivePart 32) events) j;
+      fall = ledBy leaders i (tccAt (negativePart 32) events) j;
+    }
+
+-- the sums over the first n events
+unfoldable pub partyDay : (events leaders : List ℕ) (mask i n : ℕ) → PartyDay
+partyDay events leaders mask i n =
+    record {
+      gain = sumTo n (ledBy leaders i (energyAt (positivePart 32) events mask));
+      loss = sumTo n (ledBy leaders i (energyAt (negativePart 32) events mask));
+      rise = sumTo n (ledBy leaders i (tccAt (positivePart 32) events));
+      fall = sumTo n (ledBy leaders i (tccAt (negativePart 32) events));
+    }
+
+-- row j has a fuel penalty above 0 of this group, 1 to 183 days before
+unfoldable pub fuelRowCounts : (events groups penalties : List ℕ) (day group j : ℕ) → Bool
+fuelRowCounts events groups penalties day group j =
+    ltb 0 (getD penalties j 0) && eqb (eventsIn events .kind j) 3 && eqb (getD groups j 0) group
+    && fuelDayCounts day (eventsIn events .day j)
+
+unfoldable pub fuelEntryCounts : (past : List ℕ) (day group j : ℕ) → Bool
+fuelEntryCounts past day group j = countsFuel day group (pastIn past .entry j)
+
+unfoldable pub multiplierAt : (past events groups penalties : List ℕ) (i : ℕ) → ℕ
+multiplierAt past events groups penalties i =
+    fuelMultiplierAfter
+    (anyTo i (fuelRowCounts events groups penalties (eventsIn events .day i) (getD groups i 0))
+    || anyTo (length past / pastWidth) (fuelEntryCounts past (eventsIn events .day i) (getD groups i 0)))
+
+-- the penalty of a party-day under M
+unfoldable pub partyPenalty : (M : ℕ) → PartyDay → ℕ
+partyPenalty M d = fuelPenalty M (d .gain) (d .loss) (d .rise - d .fall)
+
+unfoldable pub fuelRow : (past events groups leaders masks penalties : List ℕ) (i : ℕ) → Sanction
+fuelRow past events groups leaders masks penalties i =
+    record {
+      multiplier = multiplierAt past events groups penalties i;
+      n3 = 0;
+      n2 = 0;
+      penalty =
+          partyPenalty (multiplierAt past events groups penalties i)
+          (partyDay events leaders (getD masks i 0) i (length events / eventWidth));
+    }
+
+-- ---- every kind
+
+unfoldable pub rowAt : (past events groups leaders masks n3 penalties : List ℕ) (i : ℕ) → Sanction
+rowAt past events groups leaders masks n3 penalties i =
+    cond (eqb (eventsIn events .kind i) 1) (withheldRow past events groups masks n3 i)
+    (cond (eqb (eventsIn events .kind i) 2) (dispatchRow events masks i)
+    (cond (eqb (eventsIn events .kind i) 3 && eqb (getD leaders i 0) i) (fuelRow past events groups leaders masks penalties i)
+    noSanction))

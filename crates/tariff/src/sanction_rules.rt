@@ -1,0 +1,68 @@
+// Multipliers in halves and penalties in cents (tariff 23.4.3).
+ghost use mathlib.Core.Path.{_≡_};
+ghost use Prim.Native.Nat.{_+_, _≤_, _<_};
+ghost use Rattle.tariff.specs.SanctionRules.{cents, periodCounts, ladder, withheldPenalty, dispatchPenalty, fuelDayCounts, fuelPenalty};
+
+// x in that many parts of a cent, rounded halves up to the cent.
+pub fn cents(parts: u64, x: u64) -> u64
+    requires { ⌜ (0 < parts) × (x + parts < 18446744073709551616) ⌝ }
+    ensures { λ r. ⌜ r ≡ cents parts x ⌝ }
+{
+    (x + parts / 2) / parts
+}
+
+// Whether a period is the own one or one of the k before it.
+pub fn period_counts(k: u8, own: u16, period: u16) -> bool
+    ensures { λ r. ⌜ r ≡ periodCounts k own period ⌝ }
+{
+    (period <= own) & ((own as u32) <= (period as u32) + (k as u32))
+}
+
+// The multiplier of an instance.
+pub fn ladder(n3: u32, n2: u32) -> u8
+    ensures { λ r. ⌜ r ≡ ladder n3 n2 ⌝ }
+{
+    if 4 <= n2 {
+        return 6;
+    }
+    if 3 <= n3 {
+        return 4;
+    }
+    2
+}
+
+// amount is the sum over flagged hours of a × (b, or 0 if negative).
+pub fn withheld_penalty(multiplier: u8, amount: u64) -> u64
+    requires { ⌜ amount ≤ 10000000000000000 ⌝ }
+    ensures { λ r. ⌜ r ≡ withheldPenalty multiplier amount ⌝ }
+{
+    cents(20, (multiplier as u64) * amount)
+}
+
+// revenue is the flagged hours' added revenue.
+pub fn dispatch_penalty(revenue: u64) -> u64
+    requires { ⌜ revenue ≤ 1000000000000000000 ⌝ }
+    ensures { λ r. ⌜ r ≡ dispatchPenalty revenue ⌝ }
+{
+    cents(2, 3 * revenue)
+}
+
+// Whether day e is 1 to 183 days before day d.
+pub fn fuel_day_counts(d: u32, e: u32) -> bool
+    ensures { λ r. ⌜ r ≡ fuelDayCounts d e ⌝ }
+{
+    (e < d) & ((d as u64) <= (e as u64) + 183)
+}
+
+// The penalty for inaccurate fuel data where E is gain less loss.
+pub fn fuel_penalty(m: u8, gain: u64, loss: u64, t: u64) -> u64
+    requires { ⌜ (m ≤ 3) × (gain ≤ 1000000000000000000) × (loss ≤ 1000000000000000000) × (t ≤ 100000000000000000) ⌝ }
+    ensures { λ r. ⌜ r ≡ fuelPenalty m gain loss t ⌝ }
+{
+    let up = (m as u64) * gain + 20 * t;
+    let down = (m as u64) * loss;
+    if up < 10000000 + down {
+        return 0;
+    }
+    cents(20, up - down)
+}
