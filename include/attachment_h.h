@@ -63,7 +63,7 @@ typedef struct {
 /*
  * number is 0 and the rest is the working of one hour of one event; or number is that of the refusal and the rest 0.
  *
- * A conduct test is at most four comparisons, each of which fails where left exceeds right, in document 01's order:
+ * A conduct test is at most four comparisons, each of which fails where left exceeds right, in the order of docs/RULES.md, F:
  *
  *    kind 1         10 x a, capability | a, 1,000 (tight 500) | 20 x S, G | S, 2,000 (tight 1,000)
  *    kind 2         a, 15 x rate | a, 1,000 (tight 500) | S, 2,000 (tight 1,000)

@@ -6,7 +6,7 @@ Needs the archive as a shared object:
     cc -shared -Wl,--whole-archive target/staticlib/libapi.a -Wl,--no-whole-archive -o rust/target/libattachment_h.so
 
 ATTACHMENT_H_LIBRARY names another place of it. Every function answers a number, a bool or a tuple of them, or raises Refused
-with document 01's number; the ranges are those of include/attachment_h.h. ctypes would cut an int to the width of its
+with the number of docs/RULES.md; the ranges are those of include/attachment_h.h. ctypes would cut an int to the width of its
 argument: one that does not fit raises OverflowError.
 """
 

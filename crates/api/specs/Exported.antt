@@ -6,7 +6,7 @@ use Rattle.api.specs.declared.exported_answers.ExportedAnswer.{ExportedA
 use Rattle.api.specs.declared.exported_answers.ExportedTimes.{ExportedTimes}
 use Rattle.api.specs.declared.case.Outcome.{Outcome}
 
--- document 01's number, and 0 for no figure; or 0 and the figure
+-- the refusal's number, and 0 for no figure; or 0 and the figure
 abbrev pub exported : calls.Answer → ExportedAnswer
 exported (calls.refused n) = record { number = n; figure = 0 }
 exported (calls.given x) = record { number = 0; figure = x }

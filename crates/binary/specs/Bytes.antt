@@ -1,4 +1,4 @@
--- Little-endian numbers in a list of bytes (document 01, The case file). Past the list's end every byte is 0.
+-- Little-endian numbers in a list of bytes (docs/RULES.md, B). Past the list's end every byte is 0.
 use Prim.Native.Nat.{ℕ, zero, suc, _+_, _*_, _/_, _%_}
 use mathlib.Core.List.{List, [], _∷_}
 use lib.ListN.{getD}

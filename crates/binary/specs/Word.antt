@@ -1,5 +1,5 @@
 -- A signed number of some bits, kept as its two's complement word w. Its value is `positivePart` less `negativePart`, one of
--- which is 0; "or 0 if negative" of document 01 is the positive part.
+-- which is 0; where the rules cut a number at 0, they mean the positive part.
 use Prim.Native.Nat.{ℕ, _-_, _^_}
 use mathlib.Core.Bool.{Bool, cond, _&&_}
 use lib.Dec.{ltb, leb}

@@ -1,4 +1,4 @@
--- What a smaller public call answers (document 01, What a case can break, last paragraph): a refusal's number and no figure, or a figure.
+-- What a smaller public call answers (docs/RULES.md, C1 to C3): a refusal's number and no figure, or a figure.
 use Prim.Native.Nat.{ℕ}
 use mathlib.Core.Bool.{Bool, cond}
 use lib.Dec.{eqb}

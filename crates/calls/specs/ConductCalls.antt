@@ -1,4 +1,4 @@
--- The smaller calls of the conduct tests (document 01, Flags): first 7, then 10, then 1 where the test fails.
+-- The smaller calls of the conduct tests (docs/RULES.md, C4 to C7): first 7, then 10, then 1 where the test fails.
 use Prim.Native.Nat.{ℕ, _+_}
 use mathlib.Core.Bool.{Bool, false, not, _||_}
 use lib.Dec.{ltb}
@@ -26,7 +26,7 @@ timesAnswer x y z =
     (timeTest (thresholdOf 5) (positivePart 32 y) (increaseTotal x y z))
     (timeTest (thresholdOf 6) (positivePart 32 z) (increaseTotal x y z))
 
--- "a above capability" is out of its range here too
+-- an a above the capability is out of its range
 unfoldable pub withheldAnswer : (a capability S G : ℕ) (tight : Bool) → Answer
 withheldAnswer a capability S G tight =
     answer false

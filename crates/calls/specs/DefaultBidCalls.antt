@@ -1,4 +1,4 @@
--- The smaller calls of mitigated hours, bids in force and make-up (document 01, Default bids and make-up): first 7, then 10, then the figure.
+-- The smaller calls of mitigated hours, bids in force and make-up (docs/RULES.md, C14 to C17): first 7, then 10, then the figure.
 use Prim.Native.Nat.{ℕ, _^_}
 use mathlib.Core.Bool.{Bool, false, not, _||_}
 use lib.Dec.{ltb, leb}

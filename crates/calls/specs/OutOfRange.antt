@@ -1,4 +1,4 @@
--- References, bids and units' fields out of their ranges (document 01, What a case can break, last paragraph).
+-- References, bids and units' fields out of their ranges (docs/RULES.md, C1 to C3).
 use Prim.Native.Nat.{ℕ}
 use mathlib.Core.Bool.{Bool, not, _&&_, _||_}
 use lib.Dec.{ltb, leb}

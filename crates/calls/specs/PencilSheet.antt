@@ -1,4 +1,4 @@
--- The starred lines of document 01's pencil sheet, about the definitions themselves, each by computation.
+-- The starred lines of the pencil sheet (docs/RULES.md, C18), about the definitions themselves, each by computation.
 use Prim.Native.Nat.{ℕ, _+_, _-_, _^_}
 use mathlib.Core.Bool.{true, false}
 use mathlib.Core.List.{[], _∷_}

@@ -1,4 +1,4 @@
--- The smaller calls of multipliers, penalties and windows (document 01, Multipliers and penalties): first 10, then the figure.
+-- The smaller calls of multipliers, penalties and windows (docs/RULES.md, C8 to C13): first 10, then the figure.
 use Prim.Native.Nat.{ℕ, _*_}
 use mathlib.Core.Bool.{Bool, false, not, _||_}
 use mathlib.Core.List.{List}
@@ -16,13 +16,14 @@ unfoldable pub multiplierAnswer : (N3 N2 : ℕ) → Answer
 multiplierAnswer N3 N2 =
     answer false (ltb N3 fewestInstances || ltb mostInstances N3 || ltb N2 fewestInstances || ltb N3 N2) (ladder N3 N2)
 
--- the flagged hours' a and b are as many, at most a day's; the multiplier is 0, 2, 4 or 6 halves
+-- in halves, what the ladder gives, or 0 for no instance
 unfoldable pub badMultiplier : (multiplier : ℕ) → Bool
 badMultiplier multiplier = not (eqb multiplier 0 || eqb multiplier 2 || eqb multiplier 4 || eqb multiplier 6)
 
 unfoldable pub badHour : (a b : List ℕ) → ℕ → Bool
 badHour a b h = ltb highestCapability (getD a h 0) || not (within 32 highestPrice (getD b h 0))
 
+-- the flagged hours' a and b are as many, at most a day's
 unfoldable pub badHours : (a b : List ℕ) → Bool
 badHours a b = not (eqb (length a) (length b)) || ltb dayHours (length a) || anyTo (length a) (badHour a b)
 
@@ -35,7 +36,7 @@ withheldPenaltyAnswer multiplier a b =
     answer false (badMultiplier multiplier || badHours a b)
     (withheldPenalty multiplier (sumTo (length a) (amountAt a b)))
 
--- b is of the flagged hours
+-- the flagged hours' b
 unfoldable pub badRevenue : (b : List ℕ) → ℕ → Bool
 badRevenue b h = ltb highestRevenue (getD b h 0)
 

@@ -34,6 +34,7 @@ pub fn multiplier(n3: u32, n2: u32) -> Figure
     figure_of(false, ten, value as u64)
 }
 
+// Whether the flagged hours' a and b are not as many, more than a day's, or one of them out of its range.
 fn bad_hours(a: &[u32], b: &[u32]) -> bool
     ensures { λ r. ⌜ r ≡ badHours (now (a .entry)) (now (b .entry)) ⌝ }
 {
@@ -80,6 +81,7 @@ pub fn withheld_penalty(multiplier: u8, a: &[u32], b: &[u32]) -> Figure
     Figure::Value(sanction_rules::withheld_penalty(multiplier, amount_of(a, b)))
 }
 
+// Whether the flagged hours' b are more than a day's, or one of them out of its range.
 fn bad_revenues(b: &[u32]) -> bool
     ensures { λ r. ⌜ r ≡ badRevenues (now (b .entry)) ⌝ }
 {

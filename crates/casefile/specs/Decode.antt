@@ -1,4 +1,4 @@
--- From the bytes of a case file to the case (document 01, The case file).
+-- From the bytes of a case file to the case (docs/RULES.md, B).
 use Prim.Native.Nat.{ℕ, _+_, _*_, _/_, _≤_, _<_}
 use mathlib.Core.List.{List}
 use mathlib.Core.Path.{_≡_}

@@ -1,4 +1,4 @@
--- The numbers of the layout (document 01, The case file): widths in bytes, the hours of a day, and the limits.
+-- The numbers of the layout (docs/RULES.md, B): widths in bytes, the hours of a day, and the limits.
 use Prim.Native.Nat.{ℕ}
 use Rattle.tariff.specs.DefaultBidRules.{dayHours}
 

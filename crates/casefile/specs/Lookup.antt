@@ -42,11 +42,11 @@ levelOf r unit component = r .value (lastTo (r .count) (isReference r unit compo
 unfoldable pub referenceKey : References → ℕ → ℕ
 referenceKey r i = 256 * r .unit i + r .component i
 
--- the correction slice where it isn't empty, otherwise the case's own reference section (document 01, Default bids and make-up)
+-- the correction slice where it isn't empty, otherwise the case's own reference section (docs/RULES.md, D6)
 unfoldable pub correctReferences : (correction own : List ℕ) → List ℕ
 correctReferences correction own = cond (eqb (length correction) 0) own correction
 
--- "Only components 0, 1 and 3 read c"
+-- components 0, 1 and 3 read c, and no others (docs/RULES.md, D5)
 unfoldable pub readsCorrect : (component : ℕ) → Bool
 readsCorrect component = leb component 1 || eqb component 3
 

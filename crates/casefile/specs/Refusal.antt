@@ -1,4 +1,4 @@
--- What a case can break (document 01): the number of the first limit broken, or 0. Each test is of one number of the table.
+-- What a case can break (docs/RULES.md, L): the number of the first limit broken, or 0. Each test is of one number of the table.
 use Prim.Native.Nat.{ℕ, _+_, _-_, _*_, _/_, _%_, _^_}
 use mathlib.Core.Bool.{Bool, true, false, cond, not, _&&_, _||_}
 use mathlib.Core.List.{List, [], _∷_, _++_}

@@ -1,4 +1,4 @@
--- Mitigated hours, bids in force and make-up of a case's events (document 01, Default bids and make-up; tariff 23.4.2). The
+-- Mitigated hours, bids in force and make-up of a case's events (docs/RULES.md, D; tariff 23.4.2). The
 -- references that the correct reference c is found in are `correct`.
 use Prim.Native.Nat.{ℕ}
 use mathlib.Core.Bool.{Bool, cond, _&&_}

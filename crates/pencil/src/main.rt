@@ -1,4 +1,4 @@
-// The pencil sheet of document 01, run on the small public calls: each line with its answer.
+// The pencil sheet (docs/RULES.md, C18), run on the small public calls: each line with its answer.
 mod conduct_lines;
 mod default_bid_lines;
 mod lines;

@@ -1,4 +1,4 @@
--- The line of an event and its row (document 01, Rows and listing): fields in decimal, single spaces, a line feed at the end.
+-- The line of an event and its row (docs/RULES.md, R): fields in decimal, single spaces, a line feed at the end.
 use Prim.Native.Nat.{ℕ}
 use mathlib.Core.List.{List, _++_}
 use Rattle.binary.specs.Bytes.{byteAt, u16At, u32At, u64At}

@@ -1,4 +1,4 @@
--- The listing of a case (document 01, Rows and listing), as bytes: a line for each event and the totals, or the refusal.
+-- The listing of a case (docs/RULES.md, R), as bytes: a line for each event and the totals, or the refusal.
 use Prim.Native.Nat.{ℕ}
 use mathlib.Core.Bool.{cond}
 use mathlib.Core.List.{List, [], _∷_, _++_}

@@ -1,4 +1,4 @@
--- Multipliers in halves and penalties in cents of a case's events (document 01, Multipliers and penalties; tariff 23.4.3).
+-- Multipliers in halves and penalties in cents of a case's events (docs/RULES.md, S; tariff 23.4.3).
 use Prim.Native.Nat.{ℕ, zero, suc, _+_, _-_, _*_, _<_}
 use mathlib.Core.Bool.{Bool, true, false, cond, not, _&&_, _||_}
 use mathlib.Core.List.{List}

@@ -1,4 +1,4 @@
--- A row of the rows buffer, and the buffer (document 01, Rows and listing).
+-- A row of the rows buffer, and the buffer (docs/RULES.md, R).
 use Prim.Native.Nat.{ℕ, _*_}
 use mathlib.Core.List.{List, _++_}
 use lib.ListN.{drop}

@@ -1,5 +1,5 @@
--- What settling a case answers and leaves in the rows buffer, also where the case is refused (document 01, Rows and listing;
--- What a case can break).
+-- What settling a case answers and leaves in the rows buffer, also where the case is refused (docs/RULES.md, R
+-- and L).
 use Prim.Native.Nat.{ℕ}
 use mathlib.Core.Bool.{cond}
 use mathlib.Core.List.{List}
@@ -14,7 +14,7 @@ use Rattle.settlement.specs.Row.{rowsOf}
 use Rattle.settlement.specs.declared.settle.Settlement.{Settlement}
 use Rattle.settlement.specs.declared.settle.Settlement.the-variants as settlement
 
--- document 01's number, 0 where the case is accepted; the row count; the totals of penalties and of make-ups
+-- the refusal's number, 0 where the case is accepted; the row count; the totals of penalties and of make-ups
 pub record SettlementAnswer : Type 0 where
   pub number : ℕ
   pub rowCount : ℕ

@@ -1,4 +1,4 @@
--- The tests of a percent in hundredths, as the code has them, are the comparisons of document 01.
+-- The tests of a percent in hundredths, as the code has them, are the comparisons of the definitions.
 use Prim.Native.Nat.{ℕ, _+_, _-_, _*_, _/_, _<_, min}
 use mathlib.Core.Bool.{Bool, true, false, _&&_}
 use mathlib.Core.Path.{_≡_, refl}

@@ -1,4 +1,4 @@
--- The comparisons of each conduct test together, in document 01's order (Flags; tariff 23.3.1), and the first that fails.
+-- The comparisons of each conduct test together, in the order of docs/RULES.md, F (tariff 23.3.1), and the first that fails.
 use Prim.Native.Nat.{ℕ, _+_}
 use mathlib.Core.Bool.{Bool, false, cond, _&&_}
 use mathlib.Core.List.{[], _∷_}

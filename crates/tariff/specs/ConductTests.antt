@@ -1,4 +1,4 @@
--- The conduct tests on plain numbers (document 01, Flags; tariff 23.3.1), each by its comparisons. A bid a is its signed word of
+-- The conduct tests on plain numbers (docs/RULES.md, F; tariff 23.3.1), each by its comparisons. A bid a is its signed word of
 -- 32 bits.
 use Prim.Native.Nat.{ℕ, _+_, _-_, _*_, _/_, min}
 use mathlib.Core.Bool.{Bool, true, cond, _&&_, _||_}
@@ -17,7 +17,7 @@ comparedWhere t l r = record { taken = t; left = l; right = r }
 abbrev pub compared : (left right : ℕ) → Comparison
 compared l r = comparedWhere true l r
 
--- "Every threshold must be exceeded"
+-- a threshold that is met is not exceeded (F1)
 abbrev pub exceeds : Comparison → Bool
 exceeds c = c .taken && ltb (c .right) (c .left)
 
@@ -42,11 +42,11 @@ lowerComparison t r a = comparedWhere (leb (t .floor) (positivePart 32 a)) (incr
 unfoldable pub lowerTest : Threshold → (r a : ℕ) → Bool
 lowerTest t r a = exceeds (lowerComparison t r a)
 
--- "10 × d × H": H in tenths of an hour
+-- d × H counts tenths of an hour (F6)
 abbrev pub hourTenths : ℕ
 hourTenths = 10
 
--- "1,752 × Average Price": 2% of a year's 8,760 hours, in tenths
+-- of Average Price: 2% of a year's 8,760 hours, in tenths (F6)
 abbrev pub yearShare : ℕ
 yearShare = 1752
 
@@ -69,7 +69,7 @@ percentTest t r d = exceeds (percentComparison t r d)
 abbrev pub stepComparison : Threshold → (d : ℕ) → Comparison
 stepComparison t d = compared d (t .step)
 
--- "the positive d of that unit, day, market and hour add to over 360"
+-- in minutes, for the positive d of one unit, day, market and hour (F10)
 abbrev pub timeLimit : ℕ
 timeLimit = 360
 
@@ -104,19 +104,19 @@ bidTest component r a market tight averagePrice H total =
 
 -- ---- Withheld and dispatch
 
--- "10 × a > capability"
+-- a tenth of the capability (F15)
 abbrev pub unitShare : ℕ
 unitShare = 10
 
--- "20 × S > G"
+-- a twentieth of G (F15)
 abbrev pub groupShare : ℕ
 groupShare = 20
 
--- "a > 15 × rate"
+-- minutes at the response rate (F18)
 abbrev pub responseMinutes : ℕ
 responseMinutes = 15
 
--- "in a tight hour 500 and 1,000 replace 1,000 and 2,000"
+-- in tenths of MW, of a tight hour and of any other (F16)
 unfoldable pub unitLimit : (tight : Bool) → ℕ
 unitLimit tight = cond tight 500 1000
 

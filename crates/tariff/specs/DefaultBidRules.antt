@@ -1,4 +1,4 @@
--- Mitigated hours, bids in force and make-up on plain numbers (document 01, Default bids and make-up; tariff 23.4.2). Bids and
+-- Mitigated hours, bids in force and make-up on plain numbers (docs/RULES.md, D; tariff 23.4.2). Bids and
 -- prices are signed words of 32 bits.
 use Prim.Native.Nat.{ℕ, _+_, _-_, _*_, max}
 use mathlib.Core.Bool.{Bool, cond, not, _&&_, _||_}

@@ -1,5 +1,5 @@
--- The limits of the fields of a case (document 01, The case file) and of the arguments of the smaller calls (What a case can
--- break, last paragraph), each under one name.
+-- The limits of the fields of a case (docs/RULES.md, L6 to L10) and of the arguments of the smaller calls (C4 to C17), each under
+-- one name.
 use Prim.Native.Nat.{ℕ}
 use mathlib.Core.Bool.{Bool, cond}
 use lib.Dec.{leb, eqb}

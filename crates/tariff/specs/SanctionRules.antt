@@ -1,9 +1,9 @@
--- Multipliers in halves and penalties in cents, on plain numbers (document 01, Multipliers and penalties; tariff 23.4.3).
+-- Multipliers in halves and penalties in cents, on plain numbers (docs/RULES.md, S; tariff 23.4.3).
 use Prim.Native.Nat.{ℕ, _+_, _-_, _*_, _/_}
 use mathlib.Core.Bool.{Bool, cond, _&&_}
 use lib.Dec.{ltb, leb}
 
--- "Money is rounded once, at the end, halves up to the cent": x is in that many parts of a cent
+-- rounded once, at the end, half a cent up (S16): x is in that many parts of a cent
 unfoldable pub cents : (parts x : ℕ) → ℕ
 cents parts x = (x + parts / 2) / parts
 
@@ -31,7 +31,7 @@ fuelDayCounts d e = ltb e d && leb d (e + 183)
 unfoldable pub fuelCharge : (M gain loss T : ℕ) → ℕ
 fuelCharge M gain loss T = M * gain + 20 * T - M * loss
 
--- "Below 10,000,000 ($5,000) the penalty is 0"
+-- an X below $5,000 is no penalty (S14)
 unfoldable pub fuelPenalty : (M gain loss T : ℕ) → ℕ
 fuelPenalty M gain loss T =
     cond (ltb (fuelCharge M gain loss T) 10000000) 0 (cents 20 (fuelCharge M gain loss T))

@@ -1,4 +1,4 @@
--- "Each component has its own fixed percent, step and floor" (document 01, Flags). What a component lacks is 0.
+-- The fixed percent, step and floor of each component (docs/RULES.md, F4). What a component lacks is 0.
 use Prim.Native.Nat.{ℕ}
 use mathlib.Core.Bool.{cond}
 use lib.Dec.{eqb}

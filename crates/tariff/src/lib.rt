@@ -1,4 +1,4 @@
-// The rules of document 01 on plain numbers.
+// The rules on plain numbers.
 pub mod comparisons;
 pub mod conduct_tests;
 pub mod default_bid_rules;

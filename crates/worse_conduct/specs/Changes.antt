@@ -1,4 +1,4 @@
--- The changes of demand 3 (document 01, Worse conduct): their effect on the bytes of the file as it stands at that moment, and
+-- The changes of demand 3 (docs/RULES.md, W): their effect on the bytes of the file as it stands at that moment, and
 -- which of them a file takes.
 use Prim.Native.Nat.{ℕ, _+_, _*_, _^_, _≤_, _<_}
 use mathlib.Core.Bool.{Bool, true, cond, _&&_, _||_}

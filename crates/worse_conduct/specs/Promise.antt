@@ -1,4 +1,4 @@
--- What demand 3 compares, and its premise (document 01, Worse conduct).
+-- What demand 3 compares, and its premise (docs/RULES.md, W).
 use Prim.Native.Nat.{ℕ, _+_, _*_, _≤_, _<_}
 use mathlib.Core.Bool.{true}
 use mathlib.Core.Path.{_≡_}

@@ -1,7 +1,7 @@
 //! The proved Attachment H settlement, called from Rust.
 //!
 //! Every function is a call of the archive that `rt staticlib api` writes, with nothing tested here:
-//! the proved functions take every value of every argument. Ranges are those of document 01, and
+//! the proved functions take every value of every argument. Ranges are those of docs/RULES.md, and
 //! an argument out of its range is answered with a refusal's number.
 //!
 //! ```
@@ -93,7 +93,7 @@ pub struct Working {
     /// The number, 1 to 4, of the first comparison that is taken and fails; 0 where none does. It is
     /// above 0 exactly where the hour is flagged.
     pub failed: u8,
-    /// The comparisons of the test, in document 01's order, `left` and `right`:
+    /// The comparisons of the test, in the order of docs/RULES.md, F, `left` and `right`:
     ///
     /// - kind 1: 10 × a and the capability; a and 1,000 (tight 500); 20 × S and G; S and 2,000 (tight
     ///   1,000)

@@ -1,4 +1,4 @@
-//! Every limit of a case on and just past its edge. The numbers are written here, from document 01;
+//! Every limit of a case on and just past its edge. The numbers are written here, from docs/RULES.md;
 //! the second implementation has to agree as well.
 
 use attachment_h::{Refused, check};

@@ -56,7 +56,7 @@ fn main() {
     measure("mixed 200", rounds, &mixed());
 }
 
-/// Document 01's own case: one withheld event.
+/// The shipped case: one withheld event.
 fn worked_example() -> Input {
     let unit = |unit, capability| Unit {
         unit,

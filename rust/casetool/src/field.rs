@@ -1,4 +1,4 @@
-//! A field of a record: where it stands, what document 01 calls it, how it stands in text, and its
+//! A field of a record: where it stands, what docs/FORMAT.md calls it, how it stands in text, and its
 //! limits.
 
 use crate::amounts::Measure;
@@ -13,7 +13,7 @@ pub enum Form {
     Amount(Measure),
     /// An amount, in the file signed.
     Signed(Measure),
-    /// A word for each number that document 01 names; other numbers as they are.
+    /// A word for each number that has one; other numbers as they are.
     Name(Names),
     /// A mask of hours.
     Hours,
@@ -79,7 +79,7 @@ impl Form {
     }
 }
 
-/// The values that document 01 allows in a field.
+/// The values that the limits allow in a field.
 #[derive(Clone, Copy, Debug, PartialEq, Eq)]
 pub enum Limit {
     /// Whatever its bytes can hold.
@@ -107,7 +107,7 @@ impl Limit {
 /// A field of a record.
 #[derive(Clone, Copy, Debug, PartialEq, Eq)]
 pub struct Field {
-    /// Its name in document 01.
+    /// Its name in docs/FORMAT.md.
     pub name: &'static str,
     /// Its key in the text form.
     pub key: &'static str,

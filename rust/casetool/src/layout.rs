@@ -1,4 +1,4 @@
-//! The case file as four sections of records: document 01, "The case file".
+//! The case file as four sections of records: docs/FORMAT.md.
 
 /// Bytes before the first section.
 pub const HEADER_BYTES: usize = 36;
@@ -52,7 +52,7 @@ impl Section {
         }
     }
 
-    /// Its name in document 01.
+    /// Its name in docs/FORMAT.md.
     pub fn name(self) -> &'static str {
         match self {
             Section::Units => "units",

@@ -120,7 +120,7 @@ fn field_sentence(field: &Field, record: &[u8]) -> String {
     )
 }
 
-/// The name of document 01, and the key of the text where it is another word.
+/// The name in docs/RULES.md, and the key of the text where it is another word.
 fn field_name(field: &Field) -> String {
     let same = field.name.to_lowercase().replace(' ', "-") == field.key || field.name == field.key;
     if same || field.name == "unit number" {

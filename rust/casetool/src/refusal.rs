@@ -4,7 +4,7 @@ use attachment_h::Refused;
 
 use crate::place;
 
-/// What a number means: document 01, "What a case can break".
+/// What a number means: docs/RULES.md, L.
 pub fn meaning(number: u8) -> &'static str {
     match number {
         1 => "the file's length is outside 36 to 65,000 bytes",
@@ -28,7 +28,7 @@ pub fn meaning(number: u8) -> &'static str {
             "an event of kind 4 has no reference r, or no correct reference c where its component reads one"
         }
         15 => "the rows buffer has fewer than 128 bytes for each event",
-        _ => "document 01 has no such number",
+        _ => "no limit has this number",
     }
 }
 

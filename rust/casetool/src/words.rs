@@ -1,4 +1,4 @@
-//! The words of document 01 for kinds, markets and components.
+//! The words for kinds, markets and components.
 
 /// Words that stand for the numbers from `first` on.
 #[derive(Clone, Copy, Debug, PartialEq, Eq)]

@@ -1,4 +1,4 @@
-//! The pencil working of one hour: the comparisons of its conduct test in document 01's words, with the
+//! The pencil working of one hour: the comparisons of its conduct test in the words of docs/RULES.md, with the
 //! figures of the proved library.
 
 use attachment_h::{Comparison, Working};
@@ -20,7 +20,7 @@ pub struct Hour<'a> {
     pub hour: usize,
 }
 
-/// A comparison of a conduct test: what document 01 says of it, and when it counts.
+/// A comparison of a conduct test: what docs/RULES.md says of it, and when it counts.
 struct Step {
     words: String,
     /// d is on its left.
@@ -119,7 +119,7 @@ impl Hour<'_> {
         found
     }
 
-    /// The comparisons that document 01 has for this kind and component. Fixed lines are the library's.
+    /// The comparisons that the rules have for this kind and component. Fixed lines are the library's.
     fn steps(&self, working: &Working) -> Vec<Step> {
         let above = |what: &str, place: usize| {
             let right = number(working.comparisons[place].right);

@@ -12,7 +12,7 @@ use casetool::layout::Section;
 use casetool::place::{Part, Place, find};
 use casetool::refusal::{describe, meaning};
 
-/// Where the fields of a unit, a reference, a past entry and an event's head begin: document 01.
+/// Where the fields of a unit, a reference, a past entry and an event's head begin: docs/FORMAT.md.
 const FIELDS: [&[usize]; 4] = [
     &[0, 2, 4, 5, 6, 7, 8, 12, 16, 20, 22, 23],
     &[0, 2, 3, 4],
@@ -392,5 +392,5 @@ fn every_number_has_a_meaning() {
         assert!(!meanings[..place].contains(text));
         assert!(!text.contains("no such number"));
     }
-    assert_eq!(meaning(16), "document 01 has no such number");
+    assert_eq!(meaning(16), "no limit has this number");
 }

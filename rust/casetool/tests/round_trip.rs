@@ -97,7 +97,7 @@ fn noise(random: &mut Random) -> Vec<u8> {
     file_of(&sections)
 }
 
-/// Gives the units and events of a file of noise mostly what document 01 has: units of three numbers, so
+/// Gives the units and events of a file of noise mostly what the limits allow: units of three numbers, so
 /// that events find none, one or two of them, areas, kinds, markets and components.
 fn liken(file: &mut [u8], random: &mut Random) {
     let (units, length) = section_place(file, 0);

@@ -1,4 +1,4 @@
-//! The pencil sheet of document 01, line by line, on the smaller calls and on whole cases.
+//! The pencil sheet (docs/RULES.md, C18), line by line, on the smaller calls and on whole cases.
 
 mod common;
 
