@@ -1,38 +1,33 @@
 -- The tests of a percent in hundredths, as the code has them, are the comparisons of the definitions.
-use Prim.Native.Nat.{ℕ, _+_, _-_, _*_, _/_, _<_, min}
+use Prim.Native.Nat.{ℕ, _*_, min}
 use mathlib.Core.Bool.{Bool, true, false, _&&_}
-use mathlib.Core.Path.{_≡_, refl}
+use mathlib.Core.Path.{_≡_, refl, ap}
 use native.Mathlib.Omega.{arith}
 use borrow.Author.Tests.{ltb-true, lt-ltb, eqb-true}
-use lib.Dec.{ltb, eqb}
+use lib.Dec.{ltb, leb, eqb}
 use Rattle.binary.specs.Word.{positivePart}
 use Rattle.binary.proofs.Implies.{same-test}
 use Rattle.tariff.specs.declared.threshold.Threshold.{Threshold}
 use Rattle.tariff.specs.Threshold.{thresholdOf}
-use Rattle.tariff.specs.ConductTests.{exceeds, increase, whole, percentOf, percentTest, minimumComparison, maximumTest}
+use Rattle.tariff.specs.ConductTests.{exceeds, increase, whole, lowerTest, percentTest, minimumComparison, maximumTest}
 
-same-lt : (x y m n : ℕ) → (x < y → m < n) → (m < n → x < y) → ltb x y ≡ ltb m n
-same-lt x y m n f g = same-test _ _ (λ h. lt-ltb m n (f (ltb-true x y h))) (λ h. lt-ltb x y (g (ltb-true m n h)))
+pub lower-is : (t : Threshold) (r a : ℕ)
+    → (leb (t .floor) (positivePart 32 a) && ltb (min (t .percent * r) (whole * t .step)) (whole * increase r a)) ≡ lowerTest t r a
+unfolding lowerTest
+lower-is t r a = ap (λ (b : Bool). leb (t .floor) (positivePart 32 a) && b) (same-test _ _ (λ h. omega (arith, ltb-true, lt-ltb)) (λ h. omega (arith, ltb-true, lt-ltb)))
 
-pub hundredths : (x s d : ℕ) → ltb (min x (whole * s)) (whole * d) ≡ ltb (min (x / whole) s) d
-hundredths x s d = same-lt (min x (whole * s)) (whole * d) (min (x / whole) s) d (λ h. omega arith) (λ h. omega arith)
-
-pub hundredth : (x d : ℕ) → ltb x (whole * d) ≡ ltb (x / whole) d
-hundredth x d = same-lt x (whole * d) (x / whole) d (λ h. omega arith) (λ h. omega arith)
+pub percent-is : (t : Threshold) (r d : ℕ) → ltb (t .percent * r) (whole * d) ≡ percentTest t r d
+unfolding percentTest
+percent-is t r d = same-test _ _ (λ h. omega (arith, ltb-true, lt-ltb)) (λ h. omega (arith, ltb-true, lt-ltb))
 
 -- component 7 asks d, as component 3 does
 pub minimum-is : (t : Threshold) (r a : ℕ) → percentTest t r (increase r a) ≡ exceeds (minimumComparison t r a)
 unfolding percentTest increase
-minimum-is t r a =
-    let p : ℕ = percentOf t r in
-    let x : ℕ = positivePart 32 a in
-    same-lt p (x - r) (r + p) x (λ h. omega arith) (λ h. omega arith)
+minimum-is t r a = same-test _ _ (λ h. omega (arith, ltb-true, lt-ltb)) (λ h. omega (arith, ltb-true, lt-ltb))
 
 pub maximum-is : (r a : ℕ) → ltb (whole * positivePart 32 a) (thresholdOf 8 .percent * r) ≡ maximumTest (thresholdOf 8) r a
 unfolding thresholdOf maximumTest
-maximum-is r a =
-    let x : ℕ = positivePart 32 a in
-    same-lt (whole * x) (thresholdOf 8 .percent * r) (whole * x / thresholdOf 8 .percent) r (λ h. omega arith) (λ h. omega arith)
+maximum-is r a = same-test _ _ (λ h. omega (arith, ltb-true, lt-ltb)) (λ h. omega (arith, ltb-true, lt-ltb))
 
 -- no other component asks it
 pub at-maximum : (k r a : ℕ) → (eqb k 8 && maximumTest (thresholdOf 8) r a) ≡ (eqb k 8 && maximumTest (thresholdOf k) r a)
