@@ -8,11 +8,11 @@ ghost use Rattle.working.specs.Working.{workingOf};
 ghost use Rattle.report.specs.Listing.{listedLength, listedOut, listedRows};
 ghost use Rattle.api.specs.Exported.{exportedSettlement};
 use casefile::check;
-use report::listing;
+use report::case_listing;
 use settlement::settle;
 use settlement::settle::Settlement;
 use working::figures::Working;
-use working::working::working;
+use working::hour::working;
 
 // The refusal's number, or 0 and the row count and both totals in cents.
 #[repr(C)]
@@ -87,5 +87,5 @@ pub extern "C" fn attachment_h_listing(file: &[u8], rows: &mut [u8], out: &mut [
     ensures { λ _. ⌜ now (rows .exit) ≡ listedRows (now (file .entry)) (now (rows .entry)) (now (out .entry)) ⌝ }
     ensures { λ r. ⌜ (r ≤ length (now (out .exit))) × (r ≡ length (take r (now (out .exit)))) ⌝ }
 {
-    listing::listing(file, rows, out)
+    case_listing::listing(file, rows, out)
 }

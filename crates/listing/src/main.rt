@@ -5,6 +5,6 @@ fn main() {
     let n = io::read_full(libc::STDIN_FILENO, &mut file);
     let mut rows = [0u8; 25600];
     let mut out = [0u8; 42048];
-    let length = report::listing::listing(&file[..n], &mut rows, &mut out);
+    let length = report::case_listing::listing(&file[..n], &mut rows, &mut out);
     io::write_all(libc::STDOUT_FILENO, &out[..length]);
 }

@@ -1,112 +1,112 @@
 // Arguments on the edge of their range and just past it: first 7, then 10.
-use crate::lines;
+use crate::call_lines;
 
 pub fn reference_refusals() {
-    lines::heading(b"Refused: 7, a reference out of its component's range\n");
-    lines::bid(2, 1000000, 0);
-    lines::bid(0, 1000001, 0);
-    lines::bid(1, 1000001, 0);
-    lines::bid(2, 1000001, 0);
-    lines::bid(3, 1000000000, 0);
-    lines::bid(3, 1000000001, 0);
-    lines::bid(8, 1000000001, 0);
-    lines::bid(0, 1000001, 1000001);
-    lines::bid(9, 4000000000, 0);
-    lines::bid_in_force(0, 0, 1000001, true);
-    lines::corrected_bid(3, 0, 1000000001, 0);
-    lines::corrected_bid(3, 0, 0, 1000000001);
-    lines::make_up(0, 0, 0, 1000001, 0);
-    lines::make_up(0, 0, 0, 0, 1000001);
+    call_lines::heading(b"Refused: 7, a reference out of its component's range\n");
+    call_lines::bid(2, 1000000, 0);
+    call_lines::bid(0, 1000001, 0);
+    call_lines::bid(1, 1000001, 0);
+    call_lines::bid(2, 1000001, 0);
+    call_lines::bid(3, 1000000000, 0);
+    call_lines::bid(3, 1000000001, 0);
+    call_lines::bid(8, 1000000001, 0);
+    call_lines::bid(0, 1000001, 1000001);
+    call_lines::bid(9, 4000000000, 0);
+    call_lines::bid_in_force(0, 0, 1000001, true);
+    call_lines::corrected_bid(3, 0, 1000000001, 0);
+    call_lines::corrected_bid(3, 0, 0, 1000000001);
+    call_lines::make_up(0, 0, 0, 1000001, 0);
+    call_lines::make_up(0, 0, 0, 0, 1000001);
 }
 
 pub fn bid_refusals() {
-    lines::heading(b"Refused: 10, a bid, market, price or hours out of range\n");
-    lines::bid(0, 0, 4293967296);
-    lines::bid(0, 0, 4293967295);
-    lines::bid(1, 0, 1000001);
-    lines::bid(2, 0, 4294967295);
-    lines::bid(2, 0, 1000001);
-    lines::bid(3, 0, 1000000001);
-    lines::bid(8, 0, 4294967295);
-    lines::bid(9, 0, 0);
-    lines::bid_in_market(0, 0, 0, 2, false, 0, 0);
-    lines::bid_in_market(0, 0, 0, 0, false, 1000001, 0);
-    lines::bid_in_market(0, 0, 0, 0, false, 0, 8784);
-    lines::bid_in_market(0, 0, 0, 0, false, 0, 8785);
-    lines::times_fail(1000000001, 0, 0);
-    lines::times_fail(0, 1000000001, 0);
-    lines::times_fail(0, 0, 3294967295);
+    call_lines::heading(b"Refused: 10, a bid, market, price or hours out of range\n");
+    call_lines::bid(0, 0, 4293967296);
+    call_lines::bid(0, 0, 4293967295);
+    call_lines::bid(1, 0, 1000001);
+    call_lines::bid(2, 0, 4294967295);
+    call_lines::bid(2, 0, 1000001);
+    call_lines::bid(3, 0, 1000000001);
+    call_lines::bid(8, 0, 4294967295);
+    call_lines::bid(9, 0, 0);
+    call_lines::bid_in_market(0, 0, 0, 2, false, 0, 0);
+    call_lines::bid_in_market(0, 0, 0, 0, false, 1000001, 0);
+    call_lines::bid_in_market(0, 0, 0, 0, false, 0, 8784);
+    call_lines::bid_in_market(0, 0, 0, 0, false, 0, 8785);
+    call_lines::times_fail(1000000001, 0, 0);
+    call_lines::times_fail(0, 1000000001, 0);
+    call_lines::times_fail(0, 0, 3294967295);
 }
 
 pub fn withheld_refusals() {
-    lines::heading(b"Refused: 10, withheld and dispatch\n");
-    lines::withheld_fails(0, 0, 0, 0, false);
-    lines::withheld_fails(0, 50001, 0, 0, false);
-    lines::withheld_fails(5001, 5000, 0, 0, false);
-    lines::withheld_fails(0, 5000, 3200001, 0, false);
-    lines::withheld_fails(0, 5000, 0, 3200001, false);
-    lines::dispatch_fails(50001, 0, 0, false);
-    lines::dispatch_fails(0, 50001, 0, false);
-    lines::dispatch_fails(0, 0, 3200001, false);
+    call_lines::heading(b"Refused: 10, withheld and dispatch\n");
+    call_lines::withheld_fails(0, 0, 0, 0, false);
+    call_lines::withheld_fails(0, 50001, 0, 0, false);
+    call_lines::withheld_fails(5001, 5000, 0, 0, false);
+    call_lines::withheld_fails(0, 5000, 3200001, 0, false);
+    call_lines::withheld_fails(0, 5000, 0, 3200001, false);
+    call_lines::dispatch_fails(50001, 0, 0, false);
+    call_lines::dispatch_fails(0, 50001, 0, false);
+    call_lines::dispatch_fails(0, 0, 3200001, false);
 }
 
 pub fn sanction_refusals() {
-    lines::heading(b"Refused: 10, sanctions\n");
-    lines::multiplier(456, 456);
-    lines::multiplier(457, 1);
-    lines::multiplier(0, 0);
-    lines::multiplier(1, 0);
-    lines::multiplier(3, 4);
+    call_lines::heading(b"Refused: 10, sanctions\n");
+    call_lines::multiplier(456, 456);
+    call_lines::multiplier(457, 1);
+    call_lines::multiplier(0, 0);
+    call_lines::multiplier(1, 0);
+    call_lines::multiplier(3, 4);
     let a0 = [1u32];
     let b0 = [1u32];
-    lines::withheld_penalty(3, &a0, &b0);
+    call_lines::withheld_penalty(3, &a0, &b0);
     let a1 = [50001u32];
     let b1 = [0u32];
-    lines::withheld_penalty(2, &a1, &b1);
+    call_lines::withheld_penalty(2, &a1, &b1);
     let a2 = [1u32];
     let b2 = [1000001u32];
-    lines::withheld_penalty(2, &a2, &b2);
+    call_lines::withheld_penalty(2, &a2, &b2);
     let a3 = [1u32];
     let b3 = [4293967295u32];
-    lines::withheld_penalty(2, &a3, &b3);
+    call_lines::withheld_penalty(2, &a3, &b3);
     let a4 = [1u32, 1];
     let b4 = [1u32];
-    lines::withheld_penalty(2, &a4, &b4);
+    call_lines::withheld_penalty(2, &a4, &b4);
     let a5 = [0u32; 25];
     let b5 = [0u32; 25];
-    lines::withheld_penalty(2, &a5, &b5);
+    call_lines::withheld_penalty(2, &a5, &b5);
     let b6 = [100000001u32];
-    lines::dispatch_penalty(&b6);
+    call_lines::dispatch_penalty(&b6);
     let b7 = [0u32; 25];
-    lines::dispatch_penalty(&b7);
+    call_lines::dispatch_penalty(&b7);
 }
 
 pub fn fuel_refusals() {
-    lines::heading(b"Refused: 10, fuel and windows\n");
-    lines::fuel_penalty(100000000000000, 64000000000, 3);
-    lines::fuel_penalty(100000000000001, 0, 2);
-    lines::fuel_penalty(18446644073709551615, 0, 2);
-    lines::fuel_penalty(0, 64000000001, 2);
-    lines::fuel_penalty(0, 0, 1);
-    lines::fuel_penalty(0, 0, 4);
-    lines::fuel_day_counts(1000001, 1000000);
-    lines::fuel_day_counts(1000000, 1000001);
-    lines::period_counts(0, 44, 44);
-    lines::period_counts(3, 44, 44);
+    call_lines::heading(b"Refused: 10, fuel and windows\n");
+    call_lines::fuel_penalty(100000000000000, 64000000000, 3);
+    call_lines::fuel_penalty(100000000000001, 0, 2);
+    call_lines::fuel_penalty(18446644073709551615, 0, 2);
+    call_lines::fuel_penalty(0, 64000000001, 2);
+    call_lines::fuel_penalty(0, 0, 1);
+    call_lines::fuel_penalty(0, 0, 4);
+    call_lines::fuel_day_counts(1000001, 1000000);
+    call_lines::fuel_day_counts(1000000, 1000001);
+    call_lines::period_counts(0, 44, 44);
+    call_lines::period_counts(3, 44, 44);
 }
 
 pub fn default_bid_refusals() {
-    lines::heading(b"Refused: 10, mitigated hours, bids in force and make-up\n");
-    lines::mitigated_span(16777216, 0);
-    lines::mitigated_span(1, 25);
-    lines::bid_in_force(9, 0, 4000000000, true);
-    lines::bid_in_force(0, 1000001, 0, true);
-    lines::corrected_bid(9, 0, 4000000000, 4000000000);
-    lines::corrected_bid(1, 1000001, 0, 0);
-    lines::corrected_bid_in_market(2, 0, 0);
-    lines::corrected_bid_in_market(0, 1000001, 0);
-    lines::corrected_bid_in_market(0, 0, 8785);
-    lines::make_up(1000001, 0, 0, 0, 0);
-    lines::make_up(0, 4293967295, 0, 0, 0);
-    lines::make_up(0, 0, 50001, 0, 0);
+    call_lines::heading(b"Refused: 10, mitigated hours, bids in force and make-up\n");
+    call_lines::mitigated_span(16777216, 0);
+    call_lines::mitigated_span(1, 25);
+    call_lines::bid_in_force(9, 0, 4000000000, true);
+    call_lines::bid_in_force(0, 1000001, 0, true);
+    call_lines::corrected_bid(9, 0, 4000000000, 4000000000);
+    call_lines::corrected_bid(1, 1000001, 0, 0);
+    call_lines::corrected_bid_in_market(2, 0, 0);
+    call_lines::corrected_bid_in_market(0, 1000001, 0);
+    call_lines::corrected_bid_in_market(0, 0, 8785);
+    call_lines::make_up(1000001, 0, 0, 0, 0);
+    call_lines::make_up(0, 4293967295, 0, 0, 0);
+    call_lines::make_up(0, 0, 50001, 0, 0);
 }

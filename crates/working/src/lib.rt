@@ -1,3 +1,3 @@
 // The pencil working of one hour of one event: its figures, and the comparisons of its conduct test.
 pub mod figures;
-pub mod working;
+pub mod hour;

@@ -1,0 +1,17 @@
+use borrow.Author.Needs.{needs}
+use native.Mathlib.Omega.{arith}
+use Rattle.report.proofs.PutLaws.{then, put-size}
+use Rattle.report.proofs.case_listing.put_settlement.Statement.{statement}
+use Rattle.report.proofs.case_listing.put_settlement.Tie as tie
+
+pub put-settlement-spec : {M : Type 1} → statement M
+put-settlement-spec =
+    tie.close
+    (tie.spec
+    (λ c κs. omega arith)
+    (λ c κs. let p = c .before .before .before .put-lines .ensures in omega (arith, p .1, put-size (p .0)))
+    (λ c. search needs)
+    (λ c.
+    let p = c .before .before .before .before .before .before .put-lines .ensures in
+    let q = c .before .before .put-totals .ensures in
+    (then (p .0) (q .0), omega (arith, p .1, q .1))))
