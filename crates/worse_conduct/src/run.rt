@@ -17,7 +17,23 @@ pub fn settled_once<'a>(file: &'a [u8], correction: &'a [u8], rows: &mut [u8]) -
     settle(file, correction, rows)
 }
 
-// The cases before and after a list of changes, settled whole with one correction, each into a rows buffer of its own.
+// Two cases settled whole with one correction, each into a rows buffer of its own.
+fn both_settled<'a>(
+    file: &'a [u8],
+    worse: &'a [u8],
+    correction: &'a [u8],
+    first: &mut [u8],
+    second: &mut [u8],
+) -> Answers
+    ensures { λ r. ⌜ Run (now (file .entry)) (now (correction .entry)) (now (first .entry)) (r .before) (now (first .exit)) ⌝ }
+    ensures { λ r. ⌜ Run (now (worse .entry)) (now (correction .entry)) (now (second .entry)) (r .after) (now (second .exit)) ⌝ }
+{
+    let before = settled_once(file, correction, first);
+    let after = settled_once(worse, correction, second);
+    Answers { before, after }
+}
+
+// The cases before and after a list of changes: two runs, of which demand 3 holds.
 pub fn settled_twice<'a>(
     file: &'a [u8],
     worse: &'a [u8],
@@ -29,7 +45,5 @@ pub fn settled_twice<'a>(
     ensures { λ r. ⌜ Run (now (worse .entry)) (now (correction .entry)) (now (second .entry)) (r .after) (now (second .exit)) ⌝ }
     ensures { λ r. ⌜ Demand3 (now (file .entry)) (now (worse .entry)) (now (correction .entry)) (now (first .entry)) (now (second .entry)) (r .before) (r .after) (now (first .exit)) (now (second .exit)) ⌝ }
 {
-    let before = settled_once(file, correction, first);
-    let after = settled_once(worse, correction, second);
-    Answers { before, after }
+    both_settled(file, worse, correction, first, second)
 }

@@ -7,11 +7,9 @@ pub settled-twice-spec : {M : Type 1} → statement M
 settled-twice-spec =
     tie.close
     (tie.spec
-    (λ c κs. tt)
-    (λ c κs. tt)
+    (λ c κs. search needs)
     (λ c. search needs)
     (λ c. search needs)
     (λ c.
-    let run = c .before .before .before .before .before .before .settled-once .ensures .0 in
-    let worse = c .before .before .settled-once2 .ensures .0 in
-    (run, (worse, demand-3 _ _ _ _ _ _ _ _ _ run worse))))
+    let runs = c .before .before .before .before .both-settled .ensures in
+    (runs .0, (runs .1, demand-3 _ _ _ _ _ _ _ _ _ (runs .0) (runs .1)))))
