@@ -10,7 +10,7 @@ use binary::numbers::product;
 use binary::numbers::smaller;
 use binary::words::positive_part;
 
-// The numbers of the tests, as specs/Conduct has them.
+// The numbers of the tests, as specs/ConductTests has them.
 pub const WHOLE: u64 = 100;
 
 pub const HOUR_TENTHS: u64 = 10;

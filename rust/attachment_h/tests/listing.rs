@@ -6,7 +6,7 @@ use cases::generator::{any_case, case, random_bytes};
 use cases::{Case, Event, Random, Size, Unit, Wanted};
 
 #[test]
-fn document_01() {
+fn shipped_case() {
     let unit = |unit, capability| Unit {
         unit,
         group: 7,
