@@ -21,6 +21,10 @@ pub fn bids() {
     call_lines::bid(0, 5000, 15001);
     call_lines::bid_in_market(0, 2000, 2876, 1, true, 5000, 1000);
     call_lines::bid_in_market(0, 2000, 2877, 1, true, 5000, 1000);
+    other_bids();
+}
+
+fn other_bids() {
     call_lines::bid(2, 0, 499);
     call_lines::bid(2, 0, 500);
     call_lines::bid(3, 1000, 3000);

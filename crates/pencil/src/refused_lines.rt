@@ -12,6 +12,10 @@ pub fn reference_refusals() {
     call_lines::bid(8, 1000000001, 0);
     call_lines::bid(0, 1000001, 1000001);
     call_lines::bid(9, 4000000000, 0);
+    correct_refusals();
+}
+
+fn correct_refusals() {
     call_lines::bid_in_force(0, 0, 1000001, true);
     call_lines::corrected_bid(3, 0, 1000000001, 0);
     call_lines::corrected_bid(3, 0, 0, 1000000001);
@@ -29,6 +33,10 @@ pub fn bid_refusals() {
     call_lines::bid(3, 0, 1000000001);
     call_lines::bid(8, 0, 4294967295);
     call_lines::bid(9, 0, 0);
+    market_refusals();
+}
+
+fn market_refusals() {
     call_lines::bid_in_market(0, 0, 0, 2, false, 0, 0);
     call_lines::bid_in_market(0, 0, 0, 0, false, 1000001, 0);
     call_lines::bid_in_market(0, 0, 0, 0, false, 0, 8784);
@@ -57,28 +65,44 @@ pub fn sanction_refusals() {
     call_lines::multiplier(0, 0);
     call_lines::multiplier(1, 0);
     call_lines::multiplier(3, 4);
+    megawatts();
+    prices();
+    hours();
+    revenues();
+}
+
+fn megawatts() {
     let a0 = [1u32];
     let b0 = [1u32];
     call_lines::withheld_penalty(3, &a0, &b0);
     let a1 = [50001u32];
     let b1 = [0u32];
     call_lines::withheld_penalty(2, &a1, &b1);
-    let a2 = [1u32];
-    let b2 = [1000001u32];
-    call_lines::withheld_penalty(2, &a2, &b2);
-    let a3 = [1u32];
-    let b3 = [4293967295u32];
-    call_lines::withheld_penalty(2, &a3, &b3);
-    let a4 = [1u32, 1];
-    let b4 = [1u32];
-    call_lines::withheld_penalty(2, &a4, &b4);
-    let a5 = [0u32; 25];
-    let b5 = [0u32; 25];
-    call_lines::withheld_penalty(2, &a5, &b5);
-    let b6 = [100000001u32];
-    call_lines::dispatch_penalty(&b6);
-    let b7 = [0u32; 25];
-    call_lines::dispatch_penalty(&b7);
+}
+
+fn prices() {
+    let a0 = [1u32];
+    let b0 = [1000001u32];
+    call_lines::withheld_penalty(2, &a0, &b0);
+    let a1 = [1u32];
+    let b1 = [4293967295u32];
+    call_lines::withheld_penalty(2, &a1, &b1);
+}
+
+fn hours() {
+    let a0 = [1u32, 1];
+    let b0 = [1u32];
+    call_lines::withheld_penalty(2, &a0, &b0);
+    let a1 = [0u32; 25];
+    let b1 = [0u32; 25];
+    call_lines::withheld_penalty(2, &a1, &b1);
+}
+
+fn revenues() {
+    let b0 = [100000001u32];
+    call_lines::dispatch_penalty(&b0);
+    let b1 = [0u32; 25];
+    call_lines::dispatch_penalty(&b1);
 }
 
 pub fn fuel_refusals() {

@@ -6,22 +6,38 @@ pub fn penalties() {
     call_lines::multiplier(4, 3);
     call_lines::multiplier(4, 4);
     call_lines::multiplier(2, 2);
+    one_hour();
+    two_hours();
+    revenues();
+    fuel();
+}
+
+fn one_hour() {
     let a0 = [501u32];
     let b0 = [4005u32];
     call_lines::withheld_penalty(2, &a0, &b0);
     let a1 = [501u32];
     let b1 = [4294967196u32];
     call_lines::withheld_penalty(2, &a1, &b1);
-    let a2 = [501u32, 501];
-    let b2 = [4005u32, 4294963291];
-    call_lines::withheld_penalty(2, &a2, &b2);
-    let a3 = [1u32, 1];
-    let b3 = [5u32, 5];
-    call_lines::withheld_penalty(2, &a3, &b3);
-    let b4 = [1u32, 1];
-    call_lines::dispatch_penalty(&b4);
-    let b5 = [1u32];
-    call_lines::dispatch_penalty(&b5);
+}
+
+fn two_hours() {
+    let a0 = [501u32, 501];
+    let b0 = [4005u32, 4294963291];
+    call_lines::withheld_penalty(2, &a0, &b0);
+    let a1 = [1u32, 1];
+    let b1 = [5u32, 5];
+    call_lines::withheld_penalty(2, &a1, &b1);
+}
+
+fn revenues() {
+    let b0 = [1u32, 1];
+    call_lines::dispatch_penalty(&b0);
+    let b1 = [1u32];
+    call_lines::dispatch_penalty(&b1);
+}
+
+fn fuel() {
     call_lines::fuel_penalty(5000000, 0, 2);
     call_lines::fuel_penalty(4999990, 0, 2);
     call_lines::fuel_penalty(4999990, 0, 3);
