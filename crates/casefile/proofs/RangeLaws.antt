@@ -32,10 +32,6 @@ of-kind k kind t h e = or-right (not (eqb kind k)) t h (ap not (eq-eqb kind k e)
 
 -- ---- the ranges that settling a case goes by
 
--- a signed word of at most n either way
-above-most : (n w : ℕ) → within 32 n w ≡ true → positivePart 32 w ≤ n
-above-most n w h = within-positive 32 n w h
-
 pub capability-range : (s : List ℕ) (i : ℕ) → unitFine s i ≡ true → unitsIn s .capability i ≤ highestCapability
 unfolding unitFine unitFieldsFine
 capability-range s i h = leb-true (unitsIn s .capability i) highestCapability (search (and-l, and-r) depth 10)
@@ -66,8 +62,8 @@ event-range e a i h =
       plain = λ k. eqb-true (e .component i) 0
           (or-right (eqb (e .kind i) 4) (eqb (e .component i) 0) (search (and-l, and-r) depth 20) (ne-eqb (e .kind i) 4 (λ q. omega arith)));
       day = leb-true (e .day i) highestDay (search (and-l, and-r) depth 20);
-      guarantee = λ k. above-most highestFuelMoney (e .Q i) (let t = fuel k in search (and-l, and-r));
-      congestion = λ k. above-most highestFuelMoney (e .R i) (let t = fuel k in search (and-l, and-r));
+      guarantee = λ k. within-positive 32 highestFuelMoney (e .Q i) (let t = fuel k in search (and-l, and-r));
+      congestion = λ k. within-positive 32 highestFuelMoney (e .R i) (let t = fuel k in search (and-l, and-r));
     }
   where
     fuel : e .kind i ≡ 3
@@ -80,13 +76,13 @@ cell-range kind component a b m h =
     record {
       withheld = λ k.
           let t : (within 32 highestPrice b && eqb m 0) ≡ true = of-kind 1 kind _ (search (and-l, and-r)) k in
-          above-most highestPrice b (search (and-l, and-r));
+          within-positive 32 highestPrice b (search (and-l, and-r));
       dispatch = λ k.
           let t : (leb b highestRevenue && eqb m 0) ≡ true = of-kind 2 kind _ (search (and-l, and-r)) k in
           leb-true b highestRevenue (search (and-l, and-r));
       fuel = λ k.
           let t : (leb a highestEnergy && within 32 highestPriceChange b && eqb m 0) ≡ true = of-kind 3 kind _ (search (and-l, and-r)) k in
-          (leb-true a highestEnergy (search (and-l, and-r)), above-most highestPriceChange b (search (and-l, and-r)));
+          (leb-true a highestEnergy (search (and-l, and-r)), within-positive 32 highestPriceChange b (search (and-l, and-r)));
       bid = λ k.
           let t : (bidInRange component a && within 32 highestPrice b && leb m highestMegawatts) ≡ true = of-kind 4 kind _ (search (and-l, and-r)) k in
           leb-true m highestMegawatts (search (and-l, and-r));

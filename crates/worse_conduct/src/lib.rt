@@ -1,2 +1,2 @@
-// Behaving worse never costs less: specs/Promise has the claim, proofs/ its proof, and run the calls it is about.
+// The three demands: specs/Demands has the claims, proofs/ their proofs, and run the calls they are about.
 pub mod run;
