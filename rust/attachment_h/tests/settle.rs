@@ -1,10 +1,12 @@
 //! Whole cases against the second implementation: every byte of the rows buffer, the totals and the
 //! number, over buffers with something in them.
 
+use std::collections::BTreeSet;
+
 use attachment_h::{Refused, Settled, settle};
 use cases::faults::{FAULTS, faults_of};
 use cases::generator::{any_case, case, random_bytes};
-use cases::{Input, Random, Size, Wanted};
+use cases::{Event, Input, Random, Size, Wanted, growth};
 use second::Outcome;
 
 /// Settles a case with both, into buffers of the same noise; the outcome, in which they agree.
@@ -58,6 +60,22 @@ fn accepted_cases() {
     }
     println!("{cases} cases, {rows} rows; {penalties} with penalties, {make_ups} with make-ups");
     assert!(rows > 200_000 && penalties > 5_000 && make_ups > 300);
+}
+
+#[test]
+fn cases_of_every_growth_step() {
+    let mut random = Random::new(305);
+    let full = growth::full_cases();
+    for events in growth::STEPS {
+        for (place, full) in full.iter().enumerate() {
+            let what = format!("{events} events of case {place}");
+            let generated = growth::with_events(full, events);
+            let kinds: BTreeSet<u8> = generated.case.events.iter().map(Event::kind).collect();
+            assert_eq!(kinds.len(), 4, "{what}");
+            let settled = both(&mut random, &generated.input(), &what).expect(&what);
+            assert_eq!(settled.rows, events, "{what}");
+        }
+    }
 }
 
 /// A case with a fault, where it has a place for one.

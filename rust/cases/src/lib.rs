@@ -3,6 +3,7 @@
 //! - [`case`]: a case as typed records, and its bytes.
 //! - [`row`]: a row of the rows buffer, read back.
 //! - [`generator`]: random cases that break nothing, and random bytes.
+//! - [`growth`]: the cases that the benchmark times in turn, by their number of events.
 //! - [`faults`]: faults of every number, as functions on bytes.
 //! - [`worse`]: the worsening changes of demand 3, as functions on bytes.
 //! - [`random`]: the seeded sequence behind them.
@@ -10,6 +11,7 @@
 pub mod case;
 pub mod faults;
 pub mod generator;
+pub mod growth;
 pub mod random;
 pub mod row;
 pub mod worse;
