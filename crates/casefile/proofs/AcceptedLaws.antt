@@ -6,13 +6,13 @@ use native.Mathlib.Omega.{arith}
 use lib.ListN.{length, length-take, length-drop}
 use borrow.Author.Tests.{leb-true}
 use Rattle.binary.proofs.Implies.{and-l, and-r}
-use Rattle.casefile.specs.Layout.{sectionCount, longestFile, pastWidth, eventWidth, mostPast, mostEvents, rowWidth}
-use Rattle.casefile.specs.Decode.{caseIn, lengthOf, sectionOf, FollowOn, HasSection, unitsIn, pastIn, eventsIn, decode}
+use Rattle.casefile.specs.Layout.{sectionCount, longestFile, pastWidth, mostPast, mostEvents, rowWidth}
+use Rattle.casefile.specs.Decode.{caseIn, lengthOf, sectionOf, FollowOn, HasSection, pastIn, eventsIn, decode}
 use Rattle.casefile.specs.Lookup.{correctReferences}
-use Rattle.casefile.specs.StageLookup.{Rising, UnitsInOrder, InOrder}
+use Rattle.casefile.specs.StageLookup.{Rising}
 use Rattle.casefile.specs.Refusal.{sizesFine, eventKey, rowsFine, refusal}
 use Rattle.casefile.specs.StageRefusal.{eventsRefusal}
-use Rattle.casefile.proofs.RangeLaws.{EventRange, numbers-in-order, references-in-order, correct-in-order}
+use Rattle.casefile.proofs.RangeLaws.{EventRange}
 use Rattle.casefile.proofs.SectionLaws as section
 use Rattle.casefile.proofs.SectionLaws.{sized}
 use Rattle.casefile.proofs.RefusalLaws as stages
@@ -56,30 +56,13 @@ module _ (f k : List ℕ) (n : ℕ) (h : refusal f k n ≡ 0) where
   unfolding sizesFine
   past-sized = let t = header .sizes in sized (lengthOf f 2) pastWidth mostPast (search (and-l, and-r))
 
-  events-sized : (lengthOf f 3 % eventWidth ≡ 0) × (lengthOf f 3 / eventWidth ≤ mostEvents)
-  unfolding sizesFine
-  events-sized = let t = header .sizes in sized (lengthOf f 3) eventWidth mostEvents (search (and-l, and-r))
-
   pub past-count : decode f .past .count ≤ mostPast
   unfolding decode caseIn pastIn
   past-count = let e = section-length 2 (omega arith) in let s = past-sized in omega arith
 
   pub events-count : decode f .events .count ≤ mostEvents
   unfolding decode caseIn eventsIn
-  events-count = let e = section-length 3 (omega arith) in let s = events-sized in omega arith
-
-  -- units
-
-  pub units-rise : UnitsInOrder (sectionOf f 0)
-  units-rise = numbers-in-order (sectionOf f 0) (records .units-fine)
-
-  -- references, the correction's, and those that c is found in
-
-  pub references-rise : InOrder (sectionOf f 1)
-  references-rise = references-in-order (unitsIn (sectionOf f 0)) (sectionOf f 1) (records .references-fine)
-
-  pub correct-rise : InOrder (correctReferences k (sectionOf f 1))
-  correct-rise = correct-in-order (unitsIn (sectionOf f 0)) k (sectionOf f 1) (records .references-fine) (records .correction-fine)
+  events-count = section.events-fit f header
 
   -- events
 

@@ -1,20 +1,23 @@
 -- What the readers of events answer, and what checks 10 and 12 give to the checks after them.
-use Prim.Native.Nat.{ℕ, _-_, _/_, _≤_, _<_}
-use mathlib.Core.Bool.{Bool, true, false, _&&_}
+use Prim.Native.Nat.{ℕ, zero, suc, _+_, _-_, _≤_, _<_}
+use mathlib.Core.Bool.{Bool, true, false, _&&_, _||_}
 use mathlib.Core.List.{List}
-use mathlib.Core.Path.{_≡_, refl, sym, ap, ap₂, _∙_}
+use mathlib.Core.Path.{_≡_, refl, sym, ap, ap₂, subst, _∙_}
 use native.Mathlib.Nat.{add-assoc}
+use native.Mathlib.Omega.{arith}
+use lib.Dec.{ltb, eqb}
 use lib.ListN.{length, take, drop}
+use borrow.Author.Tests.{ne-eqb}
 use Rattle.binary.specs.Bounded.{allTo}
-use Rattle.binary.proofs.BoundedLaws.{all-at, all-same}
+use Rattle.binary.proofs.BoundedLaws.{all-more, all-at, all-same, all-true}
 use Rattle.binary.proofs.ByteLaws.{value-drop}
 use Rattle.tariff.specs.Ranges.{highestDay}
 use Rattle.casefile.specs.Layout.{eventWidth, cellsOffset, mostHours}
 use Rattle.casefile.specs.Case.{Units, Events}
 use Rattle.casefile.specs.Decode.{recordAt, eventsIn, amountsIn}
 use Rattle.casefile.specs.Lookup.{placeOf}
-use Rattle.casefile.specs.Refusal.{fieldsFine, hourFine, eventFine, eventsFine, eventListed, eventsListed, withinCapability, unless}
-use Rattle.casefile.specs.StageRead.{cellOf, cellFineAt, amountWithin, fieldsOf, numberOf, readIf, readEvent}
+use Rattle.casefile.specs.Refusal.{rises, fieldsFine, cellFine, hourFine, eventFine, eventKey, eventListed, eventsListed, withinCapability, unless}
+use Rattle.casefile.specs.StageRead.{cellOf, cellFineAt, amountWithin, fieldsOf, keyOf, numberOf, readIf, readEvent}
 use Rattle.casefile.specs.declared.events.Event.{Event}
 use Rattle.casefile.specs.declared.events.EventRead.{EventRead}
 use Rattle.casefile.specs.declared.events.EventRead.the-variants.{Event as Readable, Unreadable}
@@ -35,6 +38,13 @@ pub amounts-hours : (u : Units) (s : List ℕ) (i : ℕ)
     ≡ allTo (eventsIn s .hours i) (withinCapability u (eventsIn s) (amountsIn s) i)
 unfolding eventsIn amountsIn amountWithin cellOf withinCapability
 amounts-hours u s i = all-same mostHours _ _ (λ h l. simp value-drop)
+
+-- a cell of no kind breaks no limit of a kind
+pub other-kind : (kind component : ℕ) (cells : List ℕ) → (kind ≡ 1 → ⊥) → (kind ≡ 2 → ⊥) → (kind ≡ 3 → ⊥) → (kind ≡ 4 → ⊥)
+    → true ≡ allTo mostHours (cellFineAt kind component cells)
+unfolding cellFineAt cellFine
+other-kind kind component cells a b c d =
+    sym (all-true mostHours _ (λ h l. rw (ne-eqb kind 1 a, ne-eqb kind 2 b, ne-eqb kind 3 c, ne-eqb kind 4 d)))
 
 -- ---- the event reader
 
@@ -67,17 +77,18 @@ read-number s i a h = ap numberOf h ∙ go (eventFine (eventsIn s) (amountsIn s)
     go true = refl
     go false = refl
 
-readable-of : (b : Bool) (e e′ : Event) → readIf b e ≡ Readable e′ → b ≡ true
+readable-of : (b : Bool) (x e : Event) → readIf b x ≡ Readable e → (b ≡ true) × (e ≡ x)
 unfolding readIf
-readable-of true e e′ h = refl
-readable-of false e e′ h = cc
+readable-of true x e h = (refl, cc)
+readable-of false x e h = (cc, cc)
 
 unreadable-of : (b : Bool) (e : Event) → readIf b e ≡ Unreadable → b ≡ false
 unfolding readIf
 unreadable-of true e h = cc
 unreadable-of false e h = refl
 
-pub readable : (s : List ℕ) (i : ℕ) (e : Event) → readEvent s i ≡ Readable e → eventFine (eventsIn s) (amountsIn s) i ≡ true
+pub readable : (s : List ℕ) (i : ℕ) (e : Event) → readEvent s i ≡ Readable e
+    → (eventFine (eventsIn s) (amountsIn s) i ≡ true) × (e ≡ fieldsOf (eventsIn s) i)
 unfolding readEvent
 readable s i e h = readable-of _ _ e h
 
@@ -87,9 +98,32 @@ unreadable s i h = unreadable-of _ _ h
 
 -- ---- from one check to the next
 
-pub events-day : (s : List ℕ) (i : ℕ) → eventsFine s ≡ true → i < length s / eventWidth → eventsIn s .day i ≤ highestDay
-unfolding eventsFine eventsIn
-events-day s i h l = event-range (eventsIn s) (amountsIn s) i (all-at (length s / eventWidth) i (eventFine (eventsIn s) (amountsIn s)) l h) .day
+pub read-day : (s : List ℕ) (i : ℕ) (e : Event) → eventFine (eventsIn s) (amountsIn s) i ≡ true → e ≡ fieldsOf (eventsIn s) i → e .day ≤ highestDay
+unfolding fieldsOf
+read-day s i e fine same =
+    subst (λ (x : Event). x .day ≤ highestDay) (sym same) (event-range (eventsIn s) (amountsIn s) i fine .day)
+
+pub read-key : (s : List ℕ) (i : ℕ) (e : Event) → e ≡ fieldsOf (eventsIn s) i → keyOf e ≡ eventKey (eventsIn s) i
+unfolding keyOf fieldsOf eventKey
+read-key s i e same = ap keyOf same
+
+-- the order of one event more
+pub order-turn : (key : ℕ → ℕ) (i last k order : ℕ) → order ≡ unless (allTo i (rises key)) 11 0 → (0 < i → last ≡ key (i - 1)) → k ≡ key i
+    → unless (eqb i 0 || ltb last k) 11 order ≡ unless (allTo (i + 1) (rises key)) 11 0
+unfolding rises
+order-turn key i last k order f before e =
+    ap₂ (λ (t : Bool) (x : ℕ). unless t 11 x) (above i before ∙ ap (λ (x : ℕ). eqb i 0 || ltb (key (i - 1)) x) e) f
+    ∙ either (allTo i (rises key)) (rises key i)
+    ∙ ap (λ (t : Bool). unless t 11 0) (sym (all-more i (rises key)))
+  where
+    above : (j : ℕ) → (0 < j → last ≡ key (j - 1)) → (eqb j 0 || ltb last k) ≡ (eqb j 0 || ltb (key (j - 1)) k)
+    above zero l = refl
+    above (suc j) l = ap (λ (x : ℕ). eqb (suc j) 0 || ltb x k) (l (omega arith))
+
+    either : (a b : Bool) → unless b 11 (unless a 11 0) ≡ unless (a && b) 11 0
+    either true b = refl
+    either false true = refl
+    either false false = refl
 
 pub events-place : (u : Units) (e : Events) (i : ℕ) → eventsListed u e ≡ true → i < e .count → placeOf u (e .unit i) < u .count
 unfolding eventsListed eventListed

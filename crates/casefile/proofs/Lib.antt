@@ -5,5 +5,7 @@ pub mod RangeLaws
 pub mod EventLaws
 pub mod RefusalLaws
 pub mod LimitLaws
+pub mod CheckedLaws
 pub mod SectionLaws
 pub mod AcceptedLaws
+pub mod RunLaws

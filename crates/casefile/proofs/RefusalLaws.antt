@@ -21,9 +21,11 @@ pub passed : (t : Bool) (k m : ℕ) → unless t (suc k) m ≡ 0 → (t ≡ true
 passed true k m h = (refl, h)
 passed false k m h = absurd (suc-ne-zero k h)
 
-pub broken : (t : Bool) (k : ℕ) → (unless t k 0 ≡ 0 → ⊥) → t ≡ false
-broken true k h = absurd (h refl)
-broken false k h = refl
+-- 10 or 11, whatever follows
+pub order-broken : (a b : Bool) (next : ℕ) → (unless a 10 (unless b 11 0) ≡ 0 → ⊥) → unless a 10 (unless b 11 0) ≡ unless a 10 (unless b 11 next)
+order-broken true true next h = absurd (h refl)
+order-broken true false next h = refl
+order-broken false b next h = refl
 
 -- ---- the stages
 

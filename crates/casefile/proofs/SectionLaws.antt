@@ -1,28 +1,39 @@
 -- What the checks of sections say of each of their records, for stages that hold the sections alone.
 use Prim.Native.Nat.{ℕ, _+_, _*_, _/_, _%_, _≤_, _<_}
-use mathlib.Core.Bool.{true, not, _&&_, _||_}
+use mathlib.Core.Bool.{true, not}
 use mathlib.Core.List.{List}
-use mathlib.Core.Path.{_≡_, ap}
+use mathlib.Core.Path.{_≡_}
 use native.Mathlib.Nat.{le-trans}
 use native.Mathlib.Omega.{arith}
 use lib.Dec.{ltb}
+use lib.ListN.{length, length-take}
 use borrow.Author.Tests.{leb-true, eqb-true, le-ltb}
 use Rattle.binary.specs.Bounded.{allTo}
 use Rattle.binary.proofs.Implies.{and-l, and-r}
 use Rattle.binary.proofs.BoundedLaws.{all-at}
 use Rattle.tariff.specs.Ranges.{highestCapability}
-use Rattle.casefile.specs.Case.{References, Events}
-use Rattle.casefile.specs.Decode.{unitsIn, eventsIn, amountsIn}
-use Rattle.casefile.specs.Lookup.{isListed, placeOf, hasReference, readsCorrect}
+use Rattle.casefile.specs.Case.{Events}
+use Rattle.casefile.specs.Layout.{eventWidth, mostEvents}
+use Rattle.casefile.specs.Decode.{lengthOf, sectionOf, unitsIn, eventsIn, amountsIn}
+use Rattle.casefile.specs.Lookup.{placeOf}
 use Rattle.casefile.specs.StageLookup.{Rising}
-use Rattle.casefile.specs.Refusal.{sizeFine, rises, unitFine, unitsFine, hourFine, eventFine, eventsFine, eventKey, orderFine, eventListed, eventsListed, withinCapability, amountFine, amountsFine, referenceFound, referencesFound}
+use Rattle.casefile.specs.Refusal.{sizeFine, sizesFine, rises, unitFine, unitsFine, hourFine, eventFine, eventsFine, eventKey, orderFine, eventsListed, withinCapability, amountFine, amountsFine}
 use Rattle.casefile.proofs.EventLaws.{events-place}
-use Rattle.casefile.proofs.RangeLaws.{or-right, of-kind, EventRange, CellRange, capability-range, event-range, cell-range, rising}
+use Rattle.casefile.proofs.RangeLaws.{or-right, EventRange, CellRange, capability-range, event-range, cell-range, rising}
+use Rattle.casefile.proofs.RefusalLaws.{HeaderFine}
 
 -- a stretch of so many bytes is whole records, and not too many
 pub sized : (n width most : ℕ) → sizeFine n width most ≡ true → (n % width ≡ 0) × (n / width ≤ most)
 unfolding sizeFine
 sized n width most h = (eqb-true (n % width) 0 (search (and-l, and-r)), leb-true (n / width) most (search (and-l, and-r)))
+
+-- as many events as the tables have room for
+pub events-fit : (f : List ℕ) → HeaderFine f → length (sectionOf f 3) / eventWidth ≤ mostEvents
+unfolding sectionOf sizesFine
+events-fit f h =
+    let t = h .sizes in
+    let s = sized (lengthOf f 3) eventWidth mostEvents (search (and-l, and-r)) in
+    simp length-take (omega arith)
 
 -- ---- events
 
@@ -54,11 +65,6 @@ module _ (e : Events) (h : orderFine e ≡ true) where
 
 -- ---- an event's unit
 
-pub event-listed : (u e : List ℕ) → eventsListed (unitsIn u) (eventsIn e) ≡ true → (i : ℕ) → i < eventsIn e .count
-    → isListed (unitsIn u) (eventsIn e .unit i) ≡ true
-unfolding eventsListed eventListed
-event-listed u e h i l = all-at (eventsIn e .count) i (eventListed (unitsIn u) (eventsIn e)) l h
-
 -- a of kinds 1 and 2
 pub amount-capability : (u e : List ℕ) → amountsFine (unitsIn u) e ≡ true → (i x : ℕ) → i < eventsIn e .count → x < eventsIn e .hours i
     → eventsIn e .kind i ≤ 2 → amountsIn e i x ≤ unitsIn u .capability (placeOf (unitsIn u) (eventsIn e .unit i))
@@ -75,16 +81,3 @@ unfolding unitsFine
 amount-bound u e units listed h i x l m kind =
     let place = events-place (unitsIn u) (eventsIn e) i listed l in
     le-trans (amount-capability u e h i x l m kind) (capability-range u _ (all-at (unitsIn u .count) _ (unitFine u) place units))
-
--- ---- r and c of kind 4
-
-module _ (own correct : References) (e : Events) (h : referencesFound own correct e ≡ true) (i : ℕ) (l : i < e .count) (kind : e .kind i ≡ 4) where
-  found : (hasReference own (e .unit i) (e .component i) && (not (readsCorrect (e .component i)) || hasReference correct (e .unit i) (e .component i))) ≡ true
-  unfolding referencesFound referenceFound
-  found = of-kind 4 (e .kind i) _ (all-at (e .count) i (referenceFound own correct e) l h) kind
-
-  pub reference-there : hasReference own (e .unit i) (e .component i) ≡ true
-  reference-there = let t = found in search and-l
-
-  pub correct-there : readsCorrect (e .component i) ≡ true → hasReference correct (e .unit i) (e .component i) ≡ true
-  correct-there reads = let t = found in or-right (not (readsCorrect (e .component i))) _ (search and-r) (ap not reads)

@@ -6,3 +6,4 @@ pub mod StageLookup
 pub mod Refusal
 pub mod StageRefusal
 pub mod StageRead
+pub mod StageChecked

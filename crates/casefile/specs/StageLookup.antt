@@ -1,10 +1,15 @@
--- What the search for a unit or a reference leans on: records in order (checks 6 to 8).
+-- What the search for a unit or a reference leans on, records in order (checks 6 to 8), and what it finds.
 use Prim.Native.Nat.{ℕ, _/_, _≤_, _<_}
+use mathlib.Core.Bool.{Bool, cond, _&&_}
 use mathlib.Core.List.{List}
+use mathlib.Core.Path.{_≡_}
+use lib.Dec.{eqb}
 use lib.ListN.{length}
 use Rattle.casefile.specs.Layout.{unitWidth, referenceWidth}
+use Rattle.casefile.specs.Case.{Units, References, Events}
 use Rattle.casefile.specs.Decode.{unitsIn, referencesIn}
-use Rattle.casefile.specs.Lookup.{referenceKey}
+use Rattle.casefile.specs.Lookup.{isListed, placeOf, levelOf, readsCorrect, referenceKey}
+use Rattle.casefile.specs.declared.units.Place.{Place}
 
 -- keys strictly rise below n
 abbrev pub Rising : (key : ℕ → ℕ) (n : ℕ) → Type 0
@@ -24,3 +29,15 @@ pub record Between (key : ℕ → ℕ) (n target lo hi : ℕ) : Type 0 where
   pub end : hi ≤ n
   pub before : (j : ℕ) → j < lo → key j < target
   pub after : (j : ℕ) → hi ≤ j → j < n → target ≤ key j
+
+-- what the search for a unit's number finds: whether it is listed, and its place
+abbrev pub IsPlace : Units → (number : ℕ) → Place → Type 0
+IsPlace u number p = (p .listed ≡ isListed u number) × (p .at ≡ placeOf u number)
+
+-- event i is a bid on a component that reads c
+unfoldable pub readsLevel : Events → ℕ → Bool
+readsLevel e i = eqb (e .kind i) 4 && readsCorrect (e .component i)
+
+-- c where it is read; no figure depends on it elsewhere
+unfoldable pub correctLevel : (correct : References) → Events → ℕ → ℕ
+correctLevel correct e i = cond (readsLevel e i) (levelOf correct (e .unit i) (e .component i)) 0

@@ -1,13 +1,14 @@
 -- What the readers of events and hour cells answer.
 use Prim.Native.Nat.{ℕ, _+_, _*_}
-use mathlib.Core.Bool.{Bool, true, false}
+use mathlib.Core.Bool.{Bool, true, false, _&&_}
 use mathlib.Core.List.{List}
-use lib.Dec.{leb}
-use Rattle.binary.specs.Bytes.{u32At}
-use Rattle.casefile.specs.Layout.{cellWidth}
+use lib.Dec.{leb, eqb}
+use Rattle.binary.specs.Bytes.{byteAt, u32At}
+use Rattle.casefile.specs.Layout.{cellWidth, referenceWidth}
 use Rattle.casefile.specs.Case.{Events}
-use Rattle.casefile.specs.Decode.{eventsIn, amountsIn}
-use Rattle.casefile.specs.Refusal.{cellFine, eventFine}
+use Rattle.casefile.specs.Decode.{recordAt, referencesIn, eventsIn, amountsIn}
+use Rattle.casefile.specs.Lookup.{referenceKey}
+use Rattle.casefile.specs.Refusal.{rises, referenceFieldsFine, cellFine, eventFine}
 use Rattle.casefile.specs.declared.cells.Cell.{Cell}
 use Rattle.casefile.specs.declared.events.Event.{Event}
 use Rattle.casefile.specs.declared.events.EventRead.{EventRead}
@@ -39,6 +40,10 @@ fieldsOf e i =
       r = e .R i;
     }
 
+-- the place of a record of the code in the order of check 11
+unfoldable pub keyOf : Event → ℕ
+keyOf e = 1099511627776 * e .day + 4294967296 * e .kind + 16777216 * e .market + 256 * e .unit + e .component
+
 -- the refusal's number of an answer
 unfoldable pub numberOf : EventRead → ℕ
 numberOf (Readable e) = 0
@@ -52,3 +57,11 @@ readIf false e = Unreadable
 -- the reader's answer: the fields of event i, where all of them and all its cells are in their ranges
 unfoldable pub readEvent : (events : List ℕ) → ℕ → EventRead
 readEvent s i = readIf (eventFine (eventsIn s) (amountsIn s) i) (fieldsOf (eventsIn s) i)
+
+-- reference i, where it is known whether its unit is listed
+unfoldable pub referenceFineWhere : (references : List ℕ) → ℕ → (listed : Bool) → Bool
+referenceFineWhere s i listed =
+    referenceFieldsFine (referencesIn s .component i) (referencesIn s .value i)
+    && eqb (byteAt (recordAt referenceWidth s i) 3) 0
+    && listed
+    && rises (referenceKey (referencesIn s)) i

@@ -4,7 +4,6 @@ ghost use Prim.Native.Nat.{_*_, _<_};
 ghost use lib.ListN.{length};
 ghost use Rattle.binary.specs.Bounded.{allTo};
 ghost use Rattle.casefile.specs.Layout.{cellWidth, mostHours};
-ghost use Rattle.casefile.specs.Refusal.{cellFine};
 ghost use Rattle.casefile.specs.StageRead.{cellOf, cellFineAt, amountWithin};
 use crate::layout;
 use binary::bytes::load_u32;
@@ -30,48 +29,101 @@ pub fn cell_at(cells: &[u8], h: usize) -> Cell
     }
 }
 
-// The ranges of a cell, by kind.
-fn cell_fine(kind: u8, component: u8, a: u32, b: u32, m: u32) -> bool
-    ensures { λ r. ⌜ r ≡ cellFine kind component a b m ⌝ }
-{
-    let bid = ranges::bid_in_range(component, a);
-    let price = is_within(ranges::HIGHEST_PRICE, b);
-    let change = is_within(ranges::HIGHEST_PRICE_CHANGE, b);
-    ((kind != 1) | (price & (m == 0)))
-        & ((kind != 2) | ((b <= ranges::HIGHEST_REVENUE) & (m == 0)))
-        & ((kind != 3) | ((a <= ranges::HIGHEST_ENERGY) & change & (m == 0)))
-        & ((kind != 4) | (bid & price & (m <= ranges::HIGHEST_MEGAWATTS)))
-}
-
-fn cell_fine_at(kind: u8, component: u8, cells: &[u8], h: usize) -> bool
-    requires { ⌜ (h < mostHours) × (length (now cells) ≡ cellWidth * mostHours) ⌝ }
-    ensures { λ r. ⌜ r ≡ cellFineAt kind component (now (cells .entry)) h ⌝ }
-{
-    let cell = cell_at(cells, h);
-    cell_fine(kind, component, cell.a, cell.b, cell.m)
-}
-
-pub fn cells_fine(kind: u8, component: u8, cells: &[u8]) -> bool
+// The ranges of the cells of kind 1.
+fn withheld_cells(cells: &[u8]) -> bool
     requires { ⌜ length (now cells) ≡ cellWidth * mostHours ⌝ }
-    ensures { λ r. ⌜ r ≡ allTo mostHours (cellFineAt kind component (now (cells .entry))) ⌝ }
+    ensures { λ r. ⌜ r ≡ allTo mostHours (cellFineAt 1 0 (now (cells .entry))) ⌝ }
 {
     let mut fine = true;
     let mut h = 0;
     while h < layout::HOURS {
-        fine = fine & cell_fine_at(kind, component, cells, h);
+        let cell = cell_at(cells, h);
+        let b = cell.b;
+        let m = cell.m;
+        let price = is_within(ranges::HIGHEST_PRICE, b);
+        fine = fine & (price & (m == 0));
         h += 1;
     }
     fine
 }
 
-fn amount_within(capability: u32, cells: &[u8], h: usize) -> bool
-    requires { ⌜ (h < mostHours) × (length (now cells) ≡ cellWidth * mostHours) ⌝ }
-    ensures { λ r. ⌜ r ≡ amountWithin capability (now (cells .entry)) h ⌝ }
+// Of kind 2.
+fn dispatch_cells(cells: &[u8]) -> bool
+    requires { ⌜ length (now cells) ≡ cellWidth * mostHours ⌝ }
+    ensures { λ r. ⌜ r ≡ allTo mostHours (cellFineAt 2 0 (now (cells .entry))) ⌝ }
 {
-    let cell = cell_at(cells, h);
-    cell.a <= capability
+    let mut fine = true;
+    let mut h = 0;
+    while h < layout::HOURS {
+        let cell = cell_at(cells, h);
+        let b = cell.b;
+        let m = cell.m;
+        fine = fine & ((b <= ranges::HIGHEST_REVENUE) & (m == 0));
+        h += 1;
+    }
+    fine
 }
 
+// Of kind 3.
+fn fuel_cells(cells: &[u8]) -> bool
+    requires { ⌜ length (now cells) ≡ cellWidth * mostHours ⌝ }
+    ensures { λ r. ⌜ r ≡ allTo mostHours (cellFineAt 3 0 (now (cells .entry))) ⌝ }
+{
+    let mut fine = true;
+    let mut h = 0;
+    while h < layout::HOURS {
+        let cell = cell_at(cells, h);
+        let a = cell.a;
+        let b = cell.b;
+        let m = cell.m;
+        let change = is_within(ranges::HIGHEST_PRICE_CHANGE, b);
+        fine = fine & ((a <= ranges::HIGHEST_ENERGY) & change & (m == 0));
+        h += 1;
+    }
+    fine
+}
+
+// Of kind 4.
+fn bid_cells(component: u8, cells: &[u8]) -> bool
+    requires { ⌜ length (now cells) ≡ cellWidth * mostHours ⌝ }
+    ensures { λ r. ⌜ r ≡ allTo mostHours (cellFineAt 4 component (now (cells .entry))) ⌝ }
+{
+    let mut fine = true;
+    let mut h = 0;
+    while h < layout::HOURS {
+        let cell = cell_at(cells, h);
+        let a = cell.a;
+        let b = cell.b;
+        let m = cell.m;
+        let bid = ranges::bid_in_range(component, a);
+        let price = is_within(ranges::HIGHEST_PRICE, b);
+        fine = fine & (bid & price & (m <= ranges::HIGHEST_MEGAWATTS));
+        h += 1;
+    }
+    fine
+}
+
+// The ranges of an event's cells: the kind is asked once, and not in each hour.
+pub fn cells_fine(kind: u8, component: u8, cells: &[u8]) -> bool
+    requires { ⌜ length (now cells) ≡ cellWidth * mostHours ⌝ }
+    ensures { λ r. ⌜ r ≡ allTo mostHours (cellFineAt kind component (now (cells .entry))) ⌝ }
+{
+    if kind == 1 {
+        return withheld_cells(cells);
+    }
+    if kind == 2 {
+        return dispatch_cells(cells);
+    }
+    if kind == 3 {
+        return fuel_cells(cells);
+    }
+    if kind == 4 {
+        return bid_cells(component, cells);
+    }
+    true
+}
+
+// Whether no a is above the capability.
 pub fn amounts_within(capability: u32, cells: &[u8]) -> bool
     requires { ⌜ length (now cells) ≡ cellWidth * mostHours ⌝ }
     ensures { λ r. ⌜ r ≡ allTo mostHours (amountWithin capability (now (cells .entry))) ⌝ }
@@ -79,7 +131,9 @@ pub fn amounts_within(capability: u32, cells: &[u8]) -> bool
     let mut fine = true;
     let mut h = 0;
     while h < layout::HOURS {
-        fine = fine & amount_within(capability, cells, h);
+        let cell = cell_at(cells, h);
+        let a = cell.a;
+        fine = fine & (a <= capability);
         h += 1;
     }
     fine

@@ -1,12 +1,15 @@
 // The check of a whole case, in number order.
 ghost use mathlib.Core.Path.{_≡_};
+ghost use Prim.Native.Nat.{_/_, _≤_};
+ghost use lib.ListN.{length};
+ghost use Rattle.casefile.specs.Layout.{eventWidth, mostEvents};
 ghost use Rattle.casefile.specs.StageLookup.{UnitsInOrder, InOrder};
 ghost use Rattle.casefile.specs.Refusal.{refusal};
 ghost use Rattle.casefile.specs.StageRefusal.{recordsRefusal, eventsRefusal};
+ghost use Rattle.casefile.specs.StageChecked.{Found, HandedOn};
 use crate::events::amounts_fine;
 use crate::events::events_listed;
-use crate::events::order_fine;
-use crate::events::reading_refusal;
+use crate::events::order_refusal;
 use crate::events::references_found;
 use crate::header::header_refusal;
 use crate::header::section;
@@ -34,38 +37,47 @@ fn records_refusal(units: &[u8], references: &[u8], correction: &[u8], past: &[u
     unless(references_good, 7, from_8)
 }
 
-// The number of the first limit that the events break, or 0.
+// The number of the first limit that the events break, or 0: then the tables hold what was found of each event.
 fn events_refusal(
     units: &[u8],
     references: &[u8],
     correct: &[u8],
     events: &[u8],
     rows_length: usize,
+    places: &mut [usize; layout::MOST_EVENTS],
+    levels: &mut [u32; layout::MOST_EVENTS],
+    corrects: &mut [u32; layout::MOST_EVENTS],
 ) -> u8
-    requires { ⌜ UnitsInOrder (now units) × InOrder (now references) × InOrder (now correct) ⌝ }
+    requires { ⌜ UnitsInOrder (now units) × InOrder (now references) × InOrder (now correct) × (length (now events) / eventWidth ≤ mostEvents) ⌝ }
     ensures { λ r. ⌜ r ≡ eventsRefusal (now (units .entry)) (now (references .entry)) (now (correct .entry)) (now (events .entry)) «rows_length» ⌝ }
+    ensures { λ r. ⌜ (r ≡ 0 → Found (now (units .entry)) (now (references .entry)) (now (correct .entry)) (now (events .entry)) (now (places .exit)) (now (levels .exit)) (now (corrects .exit))) ⌝ }
 {
-    let unreadable = reading_refusal(events);
-    if unreadable != 0 {
-        return unreadable;
+    let order = order_refusal(events);
+    if order != 0 {
+        return order;
     }
-    if !order_fine(events) {
-        return 11;
-    }
-    if !events_listed(units, events) {
+    if !events_listed(units, events, places) {
         return 12;
     }
-    let amounts_good = amounts_fine(units, events);
-    let references_good = references_found(references, correct, events);
+    let amounts_good = amounts_fine(units, events, places);
+    let references_good = references_found(references, correct, events, levels, corrects);
     let rows = layout::ROW_WIDTH * (events.len() / layout::EVENT_WIDTH);
     let from_15 = unless(rows <= rows_length, 15, 0);
     let from_14 = unless(references_good, 14, from_15);
     unless(amounts_good, 13, from_14)
 }
 
-// The number of the first limit that the case breaks, or 0 where it is accepted.
-pub fn check<'a>(file: &'a [u8], correction: &'a [u8], rows_length: usize) -> u8
+// The number of the first limit that the case breaks, or 0 where it is accepted: then the tables hold what was found of each event.
+pub fn check_into<'a>(
+    file: &'a [u8],
+    correction: &'a [u8],
+    rows_length: usize,
+    places: &mut [usize; layout::MOST_EVENTS],
+    levels: &mut [u32; layout::MOST_EVENTS],
+    corrects: &mut [u32; layout::MOST_EVENTS],
+) -> u8
     ensures { λ r. ⌜ r ≡ refusal (now (file .entry)) (now (correction .entry)) «rows_length» ⌝ }
+    ensures { λ r. ⌜ (r ≡ 0 → HandedOn (now (file .entry)) (now (correction .entry)) (now (places .exit)) (now (levels .exit)) (now (corrects .exit))) ⌝ }
 {
     let header = header_refusal(file);
     if header != 0 {
@@ -80,5 +92,31 @@ pub fn check<'a>(file: &'a [u8], correction: &'a [u8], rows_length: usize) -> u8
     }
     let events = section(file, 3);
     let correct = correct_references(correction, references);
-    events_refusal(units, references, correct, events, rows_length)
+    events_refusal(
+        units,
+        references,
+        correct,
+        events,
+        rows_length,
+        places,
+        levels,
+        corrects,
+    )
+}
+
+// The number of the first limit that the case breaks, or 0 where it is accepted.
+pub fn check<'a>(file: &'a [u8], correction: &'a [u8], rows_length: usize) -> u8
+    ensures { λ r. ⌜ r ≡ refusal (now (file .entry)) (now (correction .entry)) «rows_length» ⌝ }
+{
+    let mut places = [0usize; layout::MOST_EVENTS];
+    let mut levels = [0u32; layout::MOST_EVENTS];
+    let mut corrects = [0u32; layout::MOST_EVENTS];
+    check_into(
+        file,
+        correction,
+        rows_length,
+        &mut places,
+        &mut levels,
+        &mut corrects,
+    )
 }

@@ -3,20 +3,22 @@ ghost use mathlib.Core.Bool.{true};
 ghost use mathlib.Core.Path.{_≡_};
 ghost use Prim.Native.Nat.{_/_, _<_, _≤_};
 ghost use lib.ListN.{length};
+ghost use Rattle.binary.specs.Lists.{Holds};
 ghost use Rattle.tariff.specs.Ranges.{highestDay};
-ghost use Rattle.casefile.specs.Layout.{eventWidth, mostHours};
+ghost use Rattle.casefile.specs.Layout.{unitWidth, eventWidth, mostHours, mostEvents};
 ghost use Rattle.casefile.specs.Decode.{unitsIn, referencesIn, eventsIn, amountsIn};
-ghost use Rattle.casefile.specs.Lookup.{readsCorrect};
-ghost use Rattle.casefile.specs.StageLookup.{UnitsInOrder, InOrder};
-ghost use Rattle.casefile.specs.Refusal.{quantitiesFine, fieldsFine, eventFine, eventsFine, rises, eventKey, orderFine, eventListed, eventsListed, amountFine, amountsFine, referenceFound, referencesFound, unless};
-ghost use Rattle.casefile.specs.StageRead.{fieldsOf, numberOf, readEvent};
+ghost use Rattle.casefile.specs.Lookup.{readsCorrect, bidLevel};
+ghost use Rattle.casefile.specs.StageLookup.{UnitsInOrder, InOrder, correctLevel};
+ghost use Rattle.casefile.specs.Refusal.{quantitiesFine, fieldsFine, eventFine, eventsFine, orderFine, eventsListed, amountFine, amountsFine, referencesFound, unless as unlessOf};
+ghost use Rattle.casefile.specs.StageRead.{fieldsOf, keyOf, numberOf, readEvent};
+ghost use Rattle.casefile.specs.StageChecked.{eventPlace, EventLevels};
 use crate::cells::amounts_within;
 use crate::cells::cells_fine;
 use crate::layout;
-use crate::records::place_before;
 use crate::records::record_at;
-use crate::references::has_reference;
-use crate::units::is_listed;
+use crate::references::reference_at;
+use crate::refusal::unless;
+use crate::units::next_place;
 use crate::units::unit_place;
 use binary::bytes::load_u8;
 use binary::bytes::load_u16;
@@ -104,7 +106,7 @@ fn fields_fine(
 // Event i, where its fields and its cells are in their ranges.
 pub fn read_event(events: &[u8], i: usize) -> EventRead
     requires { ⌜ i < length (now events) / eventWidth ⌝ }
-    ensures { λ r. ⌜ (r ≡ readEvent (now (events .entry)) i) × (numberOf r ≡ unless (eventFine (eventsIn (now (events .entry))) (amountsIn (now (events .entry))) i) 10 0) ⌝ }
+    ensures { λ r. ⌜ (r ≡ readEvent (now (events .entry)) i) × (numberOf r ≡ unlessOf (eventFine (eventsIn (now (events .entry))) (amountsIn (now (events .entry))) i) 10 0) ⌝ }
 {
     let e = event_at(events, i);
     let fields = fields_fine(
@@ -126,107 +128,90 @@ pub fn read_event(events: &[u8], i: usize) -> EventRead
     }
 }
 
-// 10 where an event can't be read, else 0.
-pub fn reading_refusal(events: &[u8]) -> u8
-    ensures { λ r. ⌜ r ≡ unless (eventsFine (now (events .entry))) 10 0 ⌝ }
+// The place of an event in the order: by day, kind, market, unit, component.
+fn event_key(e: Event) -> u64
+    requires { ⌜ e .day ≤ highestDay ⌝ }
+    ensures { λ r. ⌜ r ≡ keyOf e ⌝ }
+{
+    1_099_511_627_776 * (e.day as u64)
+        + 4_294_967_296 * (e.kind as u64)
+        + 16_777_216 * (e.market as u64)
+        + 256 * (e.unit as u64)
+        + (e.component as u64)
+}
+
+// 10 where an event can't be read, else 11 where one is out of order, else 0.
+pub fn order_refusal(events: &[u8]) -> u8
+    ensures { λ r. ⌜ r ≡ unlessOf (eventsFine (now (events .entry))) 10 (unlessOf (orderFine (eventsIn (now (events .entry)))) 11 0) ⌝ }
 {
     let n = events.len() / layout::EVENT_WIDTH;
+    let mut order = 0;
+    let mut last = 0;
     let mut i = 0;
     while i < n {
-        let EventRead::Event(_) = read_event(events, i) else {
+        let EventRead::Event(e) = read_event(events, i) else {
             return 10;
         };
+        let key = event_key(e);
+        order = unless((i == 0) | (last < key), 11, order);
+        last = key;
         i += 1;
     }
-    0
+    order
 }
 
-// The place of event i in the order: by day, kind, market, unit, component.
-fn event_key(events: &[u8], i: usize) -> u64
-    requires { ⌜ (i < length (now events) / eventWidth) × (eventsIn (now events) .day i ≤ highestDay) ⌝ }
-    ensures { λ r. ⌜ r ≡ eventKey (eventsIn (now (events .entry))) i ⌝ }
-{
-    let event = record_at(events, i, layout::EVENT_WIDTH);
-    let kind = load_u8(event, 0);
-    let market = load_u8(event, 1);
-    let unit = load_u16(event, 2);
-    let component = load_u8(event, 6);
-    let day = load_u32(event, 8);
-    1_099_511_627_776 * (day as u64)
-        + 4_294_967_296 * (kind as u64)
-        + 16_777_216 * (market as u64)
-        + 256 * (unit as u64)
-        + (component as u64)
-}
-
-fn event_rises(events: &[u8], i: usize) -> bool
-    requires { ⌜ (i < length (now events) / eventWidth) × (eventsFine (now events) ≡ true) ⌝ }
-    ensures { λ r. ⌜ r ≡ rises (eventKey (eventsIn (now (events .entry)))) i ⌝ }
-{
-    let last = event_key(events, place_before(i));
-    let key = event_key(events, i);
-    (i == 0) | (last < key)
-}
-
-pub fn order_fine(events: &[u8]) -> bool
-    requires { ⌜ eventsFine (now events) ≡ true ⌝ }
-    ensures { λ r. ⌜ r ≡ orderFine (eventsIn (now (events .entry))) ⌝ }
-{
-    let n = events.len() / layout::EVENT_WIDTH;
-    let mut fine = true;
-    let mut i = 0;
-    while i < n {
-        fine = fine & event_rises(events, i);
-        i += 1;
-    }
-    fine
-}
-
-fn event_listed(units: &[u8], events: &[u8], i: usize) -> bool
-    requires { ⌜ (i < length (now events) / eventWidth) × UnitsInOrder (now units) ⌝ }
-    ensures { λ r. ⌜ r ≡ eventListed (unitsIn (now (units .entry))) (eventsIn (now (events .entry))) i ⌝ }
-{
-    let event = record_at(events, i, layout::EVENT_WIDTH);
-    is_listed(units, load_u16(event, 2))
-}
-
-pub fn events_listed(units: &[u8], events: &[u8]) -> bool
-    requires { ⌜ UnitsInOrder (now units) ⌝ }
+// Whether each event's unit is listed; the table holds its place.
+pub fn events_listed(units: &[u8], events: &[u8], places: &mut [usize; layout::MOST_EVENTS]) -> bool
+    requires { ⌜ UnitsInOrder (now units) × (length (now events) / eventWidth ≤ mostEvents) ⌝ }
     ensures { λ r. ⌜ r ≡ eventsListed (unitsIn (now (units .entry))) (eventsIn (now (events .entry))) ⌝ }
+    ensures { λ r. ⌜ Holds (length (now (events .entry)) / eventWidth) (now (places .exit)) (eventPlace (unitsIn (now (units .entry))) (eventsIn (now (events .entry)))) ⌝ }
 {
+    // As a slice the table has a length that is known.
+    let table: &mut [usize] = places;
     let n = events.len() / layout::EVENT_WIDTH;
     let mut fine = true;
+    let mut last: u16 = 0;
+    let mut place = unit_place(units, 0);
     let mut i = 0;
     while i < n {
-        fine = fine & event_listed(units, events, i);
+        let unit = load_u16(record_at(events, i, layout::EVENT_WIDTH), 2);
+        place = next_place(units, unit, last, place);
+        last = unit;
+        let at = place.at;
+        let listed = place.listed;
+        table[i] = at;
+        fine = fine & listed;
         i += 1;
     }
     fine
 }
 
-// Whether a is within the capability in each hour of event i, where its kind asks that.
-fn amount_fine(units: &[u8], events: &[u8], i: usize) -> bool
-    requires { ⌜ (i < length (now events) / eventWidth) × UnitsInOrder (now units) × (eventsListed (unitsIn (now units)) (eventsIn (now events)) ≡ true) ⌝ }
+// Whether a is within the capability in each hour of event i, where its kind asks that; its unit is at this place.
+fn amount_fine(units: &[u8], events: &[u8], i: usize, place: usize) -> bool
+    requires { ⌜ (i < length (now events) / eventWidth) × (place < length (now units) / unitWidth) ⌝ }
+    requires { ⌜ place ≡ eventPlace (unitsIn (now units)) (eventsIn (now events)) i ⌝ }
     ensures { λ r. ⌜ r ≡ amountFine (unitsIn (now (units .entry))) (eventsIn (now (events .entry))) (amountsIn (now (events .entry))) i ⌝ }
 {
     let event = record_at(events, i, layout::EVENT_WIDTH);
     let kind = load_u8(event, 0);
-    let place = unit_place(units, load_u16(event, 2));
+    if 2 < kind {
+        return true;
+    }
     let unit = record_at(units, place, layout::UNIT_WIDTH);
     let capability = load_u32(unit, 8);
-    let within = amounts_within(capability, &event[layout::CELLS_OFFSET..]);
-    (2 < kind) | within
+    amounts_within(capability, &event[layout::CELLS_OFFSET..])
 }
 
-pub fn amounts_fine(units: &[u8], events: &[u8]) -> bool
-    requires { ⌜ UnitsInOrder (now units) × (eventsListed (unitsIn (now units)) (eventsIn (now events)) ≡ true) ⌝ }
+pub fn amounts_fine(units: &[u8], events: &[u8], places: &[usize; layout::MOST_EVENTS]) -> bool
+    requires { ⌜ (length (now events) / eventWidth ≤ mostEvents) × (eventsListed (unitsIn (now units)) (eventsIn (now events)) ≡ true) ⌝ }
+    requires { ⌜ Holds (length (now events) / eventWidth) (now places) (eventPlace (unitsIn (now units)) (eventsIn (now events))) ⌝ }
     ensures { λ r. ⌜ r ≡ amountsFine (unitsIn (now (units .entry))) (now (events .entry)) ⌝ }
 {
     let n = events.len() / layout::EVENT_WIDTH;
     let mut fine = true;
     let mut i = 0;
     while i < n {
-        fine = fine & amount_fine(units, events, i);
+        fine = fine & amount_fine(units, events, i, places[i]);
         i += 1;
     }
     fine
@@ -239,32 +224,71 @@ fn reads_correct(component: u8) -> bool
     (component <= 1) | (component == 3)
 }
 
-// Whether event i, of kind 4, has its reference, and the correct one where it is read.
-fn reference_found(references: &[u8], correct: &[u8], events: &[u8], i: usize) -> bool
+// r and c of an event, each where it is read; found: whether all that is read is there.
+pub struct Levels {
+    pub found: bool,
+    pub level: u32,
+    pub correct: u32,
+}
+
+fn event_levels(references: &[u8], correct: &[u8], events: &[u8], i: usize) -> Levels
     requires { ⌜ (i < length (now events) / eventWidth) × InOrder (now references) × InOrder (now correct) ⌝ }
-    ensures { λ r. ⌜ r ≡ referenceFound (referencesIn (now (references .entry))) (referencesIn (now (correct .entry))) (eventsIn (now (events .entry))) i ⌝ }
+    ensures { λ r. ⌜ EventLevels (referencesIn (now (references .entry))) (referencesIn (now (correct .entry))) (eventsIn (now (events .entry))) i r ⌝ }
 {
     let event = record_at(events, i, layout::EVENT_WIDTH);
     let kind = load_u8(event, 0);
     if kind != 4 {
-        return true;
+        return Levels {
+            found: true,
+            level: 0,
+            correct: 0,
+        };
     }
     let unit = load_u16(event, 2);
     let component = load_u8(event, 6);
-    let own = has_reference(references, unit, component);
-    let other = has_reference(correct, unit, component);
-    own & (!reads_correct(component) | other)
+    let own = reference_at(references, unit, component);
+    let there = own.there;
+    let level = own.level;
+    if reads_correct(component) {
+        let other = reference_at(correct, unit, component);
+        let found = there & other.there;
+        return Levels {
+            found,
+            level,
+            correct: other.level,
+        };
+    }
+    Levels {
+        found: there,
+        level,
+        correct: 0,
+    }
 }
 
-pub fn references_found(references: &[u8], correct: &[u8], events: &[u8]) -> bool
-    requires { ⌜ InOrder (now references) × InOrder (now correct) ⌝ }
+// Whether each event of kind 4 has its reference, and the correct one where it is read; the tables hold their levels.
+pub fn references_found(
+    references: &[u8],
+    correct: &[u8],
+    events: &[u8],
+    levels: &mut [u32; layout::MOST_EVENTS],
+    corrects: &mut [u32; layout::MOST_EVENTS],
+) -> bool
+    requires { ⌜ InOrder (now references) × InOrder (now correct) × (length (now events) / eventWidth ≤ mostEvents) ⌝ }
     ensures { λ r. ⌜ r ≡ referencesFound (referencesIn (now (references .entry))) (referencesIn (now (correct .entry))) (eventsIn (now (events .entry))) ⌝ }
+    ensures { λ r. ⌜ (r ≡ true → Holds (length (now (events .entry)) / eventWidth) (now (levels .exit)) (bidLevel (referencesIn (now (references .entry))) (eventsIn (now (events .entry))))) ⌝ }
+    ensures { λ r. ⌜ (r ≡ true → Holds (length (now (events .entry)) / eventWidth) (now (corrects .exit)) (correctLevel (referencesIn (now (correct .entry))) (eventsIn (now (events .entry))))) ⌝ }
 {
+    let own: &mut [u32] = levels;
+    let other: &mut [u32] = corrects;
     let n = events.len() / layout::EVENT_WIDTH;
     let mut fine = true;
     let mut i = 0;
     while i < n {
-        fine = fine & reference_found(references, correct, events, i);
+        let event = event_levels(references, correct, events, i);
+        let found = event.found;
+        own[i] = event.level;
+        other[i] = event.correct;
+        fine = fine & found;
         i += 1;
     }
     fine

@@ -7,12 +7,14 @@ ghost use Rattle.casefile.specs.Layout.{referenceWidth};
 ghost use Rattle.casefile.specs.Decode.{unitsIn, referencesIn};
 ghost use Rattle.casefile.specs.Lookup.{hasReference, levelOf, referenceKey, correctReferences};
 ghost use Rattle.casefile.specs.StageLookup.{UnitsInOrder, InOrder, Between};
-ghost use Rattle.casefile.specs.Refusal.{referenceFieldsFine, referenceFine, referencesFine, correctionFine};
+ghost use Rattle.casefile.specs.Refusal.{referenceFieldsFine, referencesFine, correctionFine};
+ghost use Rattle.casefile.specs.StageRead.{referenceFineWhere};
 use crate::layout;
 use crate::records::place_before;
 use crate::records::record_at;
 use crate::records::size_fine;
-use crate::units::is_listed;
+use crate::units::next_place;
+use crate::units::unit_place;
 use binary::bytes::load_u8;
 use binary::bytes::load_u16;
 use binary::bytes::load_u32;
@@ -53,17 +55,16 @@ fn reference_key(references: &[u8], i: usize) -> u32
     key_of(unit, component)
 }
 
-fn reference_fine(units: &[u8], references: &[u8], i: usize) -> bool
-    requires { ⌜ (i < length (now references) / referenceWidth) × UnitsInOrder (now units) ⌝ }
-    ensures { λ r. ⌜ r ≡ referenceFine (unitsIn (now (units .entry))) (now (references .entry)) i ⌝ }
+// Reference i, where it is known whether its unit is listed.
+fn reference_fine(references: &[u8], i: usize, listed: bool) -> bool
+    requires { ⌜ i < length (now references) / referenceWidth ⌝ }
+    ensures { λ r. ⌜ r ≡ referenceFineWhere (now (references .entry)) i listed ⌝ }
 {
     let reference = record_at(references, i, layout::REFERENCE_WIDTH);
-    let unit = load_u16(reference, 0);
     let component = load_u8(reference, 2);
     let spare = load_u8(reference, 3);
     let value = load_u32(reference, 4);
     let fields = reference_fields_fine(component, value);
-    let listed = is_listed(units, unit);
     let last = reference_key(references, place_before(i));
     let key = reference_key(references, i);
     fields & (spare == 0) & listed & ((i == 0) | (last < key))
@@ -75,9 +76,15 @@ pub fn references_fine(units: &[u8], references: &[u8]) -> bool
 {
     let n = references.len() / layout::REFERENCE_WIDTH;
     let mut fine = true;
+    let mut last: u16 = 0;
+    let mut place = unit_place(units, 0);
     let mut i = 0;
     while i < n {
-        fine = fine & reference_fine(units, references, i);
+        let unit = load_u16(record_at(references, i, layout::REFERENCE_WIDTH), 0);
+        place = next_place(units, unit, last, place);
+        last = unit;
+        let listed = place.listed;
+        fine = fine & reference_fine(references, i, listed);
         i += 1;
     }
     fine
@@ -114,24 +121,26 @@ fn reference_from(references: &[u8], key: u32) -> usize
     lo
 }
 
-pub fn has_reference(references: &[u8], unit: u16, component: u8) -> bool
+// Whether a unit and component have a reference, and then its level.
+pub struct Reference {
+    pub there: bool,
+    pub level: u32,
+}
+
+pub fn reference_at(references: &[u8], unit: u16, component: u8) -> Reference
     requires { ⌜ InOrder (now references) ⌝ }
-    ensures { λ r. ⌜ r ≡ hasReference (referencesIn (now (references .entry))) unit component ⌝ }
+    ensures { λ r. ⌜ r .there ≡ hasReference (referencesIn (now (references .entry))) unit component ⌝ }
+    ensures { λ r. ⌜ (r .there ≡ true → r .level ≡ levelOf (referencesIn (now (references .entry))) unit component) ⌝ }
 {
     let key = key_of(unit, component);
     let at = reference_from(references, key);
     if at < references.len() / layout::REFERENCE_WIDTH {
-        return reference_key(references, at) == key;
+        let there = reference_key(references, at) == key;
+        let level = load_u32(record_at(references, at, layout::REFERENCE_WIDTH), 4);
+        return Reference { there, level };
     }
-    false
-}
-
-// The reference level of a unit and component that is there.
-pub fn reference_level(references: &[u8], unit: u16, component: u8) -> u32
-    requires { ⌜ InOrder (now references) × (hasReference (referencesIn (now references)) unit component ≡ true) ⌝ }
-    ensures { λ r. ⌜ r ≡ levelOf (referencesIn (now (references .entry))) unit component ⌝ }
-{
-    let key = key_of(unit, component);
-    let at = reference_from(references, key);
-    load_u32(record_at(references, at, layout::REFERENCE_WIDTH), 4)
+    Reference {
+        there: false,
+        level: 0,
+    }
 }

@@ -4,8 +4,7 @@ ghost use Prim.Native.Nat.{_/_, _<_};
 ghost use lib.ListN.{length};
 ghost use Rattle.casefile.specs.Layout.{unitWidth};
 ghost use Rattle.casefile.specs.Decode.{unitsIn};
-ghost use Rattle.casefile.specs.Lookup.{isListed, placeOf};
-ghost use Rattle.casefile.specs.StageLookup.{UnitsInOrder, Between};
+ghost use Rattle.casefile.specs.StageLookup.{UnitsInOrder, Between, IsPlace};
 ghost use Rattle.casefile.specs.Refusal.{unitFieldsFine, unitSpareFine, unitFine, unitsFine};
 use crate::layout;
 use crate::records::place_before;
@@ -81,41 +80,52 @@ pub fn units_fine(units: &[u8]) -> bool
     fine
 }
 
-// The first place whose number is not below this one: the stretch where it stands is halved each time.
+// The first place whose number is not below this one: as the numbers rise, how many are below. No branch hangs on a number.
 fn unit_from(units: &[u8], number: u16) -> usize
     requires { ⌜ UnitsInOrder (now units) ⌝ }
     ensures { λ r. ⌜ Between (unitsIn (now (units .entry)) .number) (length (now (units .entry)) / unitWidth) number r r ⌝ }
 {
-    let mut lo = 0;
-    let mut hi = units.len() / layout::UNIT_WIDTH;
-    while lo < hi {
-        let middle = lo + (hi - lo) / 2;
-        let below = unit_number(units, middle) < number;
-        lo = choose_usize(below, middle + 1, lo);
-        hi = choose_usize(below, hi, middle);
+    let n = units.len() / layout::UNIT_WIDTH;
+    let mut at = 0;
+    let mut k = 0;
+    while k < n {
+        at += choose_usize(unit_number(units, k) < number, 1, 0);
+        k += 1;
     }
-    lo
+    at
 }
 
-pub fn is_listed(units: &[u8], number: u16) -> bool
+// Whether a number is listed, and the place of its unit, or 0 where it is not.
+pub struct Place {
+    pub listed: bool,
+    pub at: usize,
+}
+
+pub fn unit_place(units: &[u8], number: u16) -> Place
     requires { ⌜ UnitsInOrder (now units) ⌝ }
-    ensures { λ r. ⌜ r ≡ isListed (unitsIn (now (units .entry))) number ⌝ }
+    ensures { λ r. ⌜ IsPlace (unitsIn (now (units .entry))) number r ⌝ }
 {
     let at = unit_from(units, number);
     if at < units.len() / layout::UNIT_WIDTH {
-        return unit_number(units, at) == number;
+        let listed = unit_number(units, at) == number;
+        return Place {
+            listed,
+            at: choose_usize(listed, at, 0),
+        };
     }
-    false
+    Place {
+        listed: false,
+        at: 0,
+    }
 }
 
-// The place of the unit of this number, or 0 where it is not listed.
-pub fn unit_place(units: &[u8], number: u16) -> usize
-    requires { ⌜ UnitsInOrder (now units) ⌝ }
-    ensures { λ r. ⌜ r ≡ placeOf (unitsIn (now (units .entry))) number ⌝ }
+// The same, where the place of the last number is at hand: records of one unit often stand together.
+pub fn next_place(units: &[u8], number: u16, last: u16, place: Place) -> Place
+    requires { ⌜ UnitsInOrder (now units) × IsPlace (unitsIn (now units)) last place ⌝ }
+    ensures { λ r. ⌜ IsPlace (unitsIn (now (units .entry))) number r ⌝ }
 {
-    let at = unit_from(units, number);
-    if at < units.len() / layout::UNIT_WIDTH {
-        return choose_usize(unit_number(units, at) == number, at, 0);
+    if number == last {
+        return place;
     }
-    0
+    unit_place(units, number)
 }

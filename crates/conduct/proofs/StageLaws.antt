@@ -1,26 +1,25 @@
 -- What a stage reads in the tables of the stages before it is the figure of the case.
-use Prim.Native.Nat.{ℕ, zero, suc, _+_, _*_, _/_, _<_}
-use mathlib.Core.Bool.{Bool, true, false, cond, not, _||_}
-use mathlib.Core.List.{List, _++_}
-use mathlib.Core.Path.{_≡_, refl, ap, ap₂, _∙_}
+use Prim.Native.Nat.{ℕ, zero, suc, _+_, _-_, _/_, _≤_, _<_}
+use mathlib.Core.Bool.{Bool, true, false, cond, _&&_}
+use mathlib.Core.List.{List}
+use mathlib.Core.Path.{_≡_, refl, sym, ap, ap₂, _∙_}
+use native.Mathlib.Nat.{le-refl, sub-zero}
+use native.Mathlib.Numerals.{add-one}
 use native.Mathlib.Omega.{arith}
-use borrow.Author.Tests.{eqb-true}
+use borrow.Author.Tests.{ne-eqb}
 use lib.Dec.{eqb}
-use lib.ListN.{length, getD, drop}
-use Rattle.binary.specs.Lists.{listTo, firstFrom, Bytes, Holds}
-use Rattle.binary.proofs.BoundedLaws.{all-true}
-use Rattle.binary.proofs.ListLaws.{list-same}
+use lib.ListN.{length, getD}
+use Rattle.binary.specs.Bytes.{byteAt}
+use Rattle.binary.specs.Lists.{firstFrom, Holds}
+use Rattle.binary.proofs.ListLaws.{from-next}
 use Rattle.casefile.specs.Layout.{eventWidth}
-use Rattle.casefile.specs.Case.{References, Events}
-use Rattle.casefile.specs.Decode.{unitsIn, eventsIn, caseIn}
-use Rattle.casefile.specs.Lookup.{unitOf, groupOf, hasReference}
-use Rattle.casefile.specs.Refusal.{eventsListed, referencesFound}
-use Rattle.casefile.proofs.RangeLaws.{of-kind}
+use Rattle.casefile.specs.Case.{Events}
+use Rattle.casefile.specs.Decode.{recordAt, unitsIn, eventsIn, caseIn}
+use Rattle.casefile.specs.Lookup.{unitOf, groupOf}
+use Rattle.casefile.specs.Refusal.{eventsListed}
 use Rattle.casefile.proofs.EventLaws.{events-place}
-use Rattle.casefile.proofs.SectionLaws.{reference-there}
-use Rattle.conduct.specs.StageParties.{partyKey, leaderOf, levelFound, levelsFound}
-use Rattle.conduct.specs.StageFlags.{keyIn, sameKey, leaderIn}
-use Rattle.conduct.proofs.PartyLaws.{keys-together}
+use Rattle.conduct.specs.Flags.{together}
+use Rattle.conduct.specs.StageParties.{sameRun, RunStart, leaderOf, sameGroup, leaderIn}
 
 -- ---- places and groups
 
@@ -29,7 +28,7 @@ unfolding caseIn
 units-group u r p e k = refl
 
 module _ (u r p e places : List ℕ) (i : ℕ) (l : i < length e / eventWidth) where
-  pub place-lt : eventsListed (unitsIn u) (eventsIn e) ≡ true → unitOf (caseIn u r p e) i < length u / 24
+  place-lt : eventsListed (unitsIn u) (eventsIn e) ≡ true → unitOf (caseIn u r p e) i < length u / 24
   unfolding unitOf caseIn unitsIn eventsIn
   place-lt h = events-place (unitsIn u) (eventsIn e) i h l
 
@@ -42,51 +41,42 @@ module _ (u r p e places : List ℕ) (i : ℕ) (l : i < length e / eventWidth) w
   unfolding groupOf
   group-in g t q = q ∙ ap (unitsIn u .group) (t i l) ∙ units-group u r p e (unitOf (caseIn u r p e) i)
 
--- ---- keys and leaders
+-- ---- leaders
+
+pub kind-of : (e event : List ℕ) (i kind : ℕ) → event ≡ recordAt eventWidth e i → kind ≡ byteAt event 0 → eventsIn e .kind i ≡ kind
+unfolding eventsIn
+kind-of e event i kind ee ek = sym (ek ∙ ap (λ (r : List ℕ). byteAt r 0) ee)
 
 -- a search by two tests that agree on what it passes
-pub from-same : (k j : ℕ) (p q : ℕ → Bool) → ((m : ℕ) → m < j + k → p m ≡ q m) → firstFrom k j p ≡ firstFrom k j q
+from-same : (k j : ℕ) (p q : ℕ → Bool) → ((m : ℕ) → j ≤ m → m < j + k → p m ≡ q m) → firstFrom k j p ≡ firstFrom k j q
 unfolding firstFrom
 from-same zero j p q h = refl
 from-same (suc k) j p q h =
-    ap₂ (λ (b : Bool) (x : ℕ). cond b j x) (h j (omega arith)) (from-same k (suc j) p q (λ m l. h m (omega arith)))
+    ap₂ (λ (b : Bool) (x : ℕ). cond b j x) (h j (le-refl j) (omega arith)) (from-same k (suc j) p q (λ m l r. h m (omega arith) (omega arith)))
 
-module _ (u r p e : List ℕ) where
-  key-same : (i g : ℕ) → eventsIn e .kind i + 256 * eventsIn e .market i + 65536 * g + 4294967296 * eventsIn e .day i
-      ≡ caseIn u r p e .events .kind i + 256 * caseIn u r p e .events .market i + 65536 * g
-      + 4294967296 * caseIn u r p e .events .day i
-  unfolding caseIn
-  key-same i g = refl
+-- the search may begin after those that fail
+skipped : (s i : ℕ) (p : ℕ → Bool) → s ≤ i → ((j : ℕ) → j < s → p j ≡ false) → firstFrom (i - s) s p ≡ firstFrom i 0 p
+skipped zero i p l f = rw sub-zero
+skipped (suc s) i p l f =
+    rw add-one at (from-next i s p (firstFrom i 0 p) (skipped s i p (omega arith) (λ j k. f j (omega arith))) (omega arith) (f s (omega arith)))
 
-  pub key-in : (groups : List ℕ) (n i : ℕ) → Holds n groups (groupOf (caseIn u r p e)) → i < n
-      → keyIn (eventsIn e) groups i ≡ partyKey (caseIn u r p e) i
-  unfolding keyIn partyKey
-  key-in groups n i t l = ap (λ (g : ℕ). eventsIn e .kind i + 256 * eventsIn e .market i + 65536 * g + 4294967296 * eventsIn e .day i) (t i l)
-      ∙ key-same i (groupOf (caseIn u r p e) i)
+-- the leader is looked for in the run alone
+pub leader-from : (e : Events) (groups : List ℕ) (i start x : ℕ) → RunStart e i start → (e .kind i ≡ 4 → ⊥)
+    → x ≡ firstFrom (i - start) start (sameGroup groups i) → x ≡ leaderIn e groups i
+unfolding leaderIn
+leader-from e groups i start x s n q =
+    q
+    ∙ from-same (i - start) start _ _ (λ m l r. let t = s .since m l (let k = s .reached in omega arith) in rw t)
+    ∙ skipped start i (λ j. sameRun e i j && sameGroup groups i j) (s .reached) (λ j l. rw (s .earlier j l))
+    ∙ sym (ap (λ (b : Bool). cond b i (firstFrom i 0 (λ j. sameRun e i j && sameGroup groups i j))) (ne-eqb (e .kind i) 4 n))
 
-  pub leader-in : (keys : List ℕ) (n i : ℕ) → Bytes u → Bytes e → Holds n keys (partyKey (caseIn u r p e)) → i < n
-      → leaderIn keys i ≡ leaderOf (caseIn u r p e) i
-  unfolding leaderIn leaderOf sameKey
-  leader-in keys n i bu be t l =
-      from-same i 0 _ _ (λ j q. keys-together u r p e bu be n keys i j t l (omega arith))
+pub leader-bid : (e : Events) (groups : List ℕ) (i : ℕ) → e .kind i ≡ 4 → i ≡ leaderIn e groups i
+unfolding leaderIn
+leader-bid e groups i k = rw k
 
--- ---- reference levels
-
--- check 14 says it of the case's own references
-pub found-own : (own correct : References) (e : Events) → referencesFound own correct e ≡ true → levelsFound own e ≡ true
-unfolding levelsFound levelFound
-found-own own correct e h = all-true (e .count) _ (λ i l. there i l (eqb (e .kind i) 4) refl)
-  where
-    there : (i : ℕ) → i < e .count → (b : Bool) → eqb (e .kind i) 4 ≡ b → (not b || hasReference own (e .unit i) (e .component i)) ≡ true
-    there i l false k = refl
-    there i l true k = reference-there own correct e h i l (eqb-true _ 4 k)
-
-pub level-there : (own : References) (e : Events) (i : ℕ) → levelFound own e i ≡ true → e .kind i ≡ 4
-    → hasReference own (e .unit i) (e .component i) ≡ true
-unfolding levelFound
-level-there own e i f kind = of-kind 4 (e .kind i) (hasReference own (e .unit i) (e .component i)) f kind
-
--- ---- a table of one figure is a table of another that agrees
-
-pub fill-same : (n : ℕ) (f g : ℕ → ℕ) (l d : List ℕ) → l ≡ listTo n f ++ drop n d → ((i : ℕ) → i < n → f i ≡ g i) → l ≡ listTo n g ++ drop n d
-fill-same n f g l d e h = e ∙ ap (λ (x : List ℕ). x ++ drop n d) (list-same n f g h)
+-- and the groups of the table are those of the case
+pub leader-in : (u r p e groups : List ℕ) (n i : ℕ) → Holds n groups (groupOf (caseIn u r p e)) → i < n
+    → leaderIn (eventsIn e) groups i ≡ leaderOf (caseIn u r p e) i
+unfolding leaderIn leaderOf sameGroup sameRun together caseIn
+leader-in u r p e groups n i t l =
+    ap (λ (x : ℕ). cond (eqb (eventsIn e .kind i) 4) i x) (from-same i 0 _ _ (λ j a b. rw (t j (omega arith), t i l)))

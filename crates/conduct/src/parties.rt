@@ -1,45 +1,62 @@
-// What the stages find once for each event: its unit's place, its group, its party's key and leader, its reference level.
+// What the stages find once for each event: where its run begins and ends, its group and the leader of its party.
 ghost use mathlib.Core.Bool.{true};
-ghost use mathlib.Core.List.{[], _++_};
+ghost use mathlib.Core.List.{[]};
 ghost use mathlib.Core.Path.{_≡_};
-ghost use Prim.Native.Nat.{_+_, _*_, _/_, _≤_, _<_};
-ghost use lib.ListN.{length, drop};
-ghost use Rattle.binary.specs.Lists.{listTo, Holds};
-ghost use Rattle.casefile.specs.Layout.{eventWidth, unitWidth};
-ghost use Rattle.casefile.specs.Decode.{unitsIn, referencesIn, eventsIn, caseIn};
+ghost use Prim.Native.Nat.{_-_, _/_, _≤_, _<_};
+ghost use lib.ListN.{length};
+ghost use Rattle.binary.specs.Lists.{firstFrom, Holds};
+ghost use Rattle.casefile.specs.Layout.{eventWidth, unitWidth, mostEvents};
+ghost use Rattle.casefile.specs.Decode.{unitsIn, eventsIn, caseIn};
 ghost use Rattle.casefile.specs.Lookup.{unitOf, groupOf};
-ghost use Rattle.casefile.specs.StageLookup.{UnitsInOrder, InOrder};
 ghost use Rattle.casefile.specs.Refusal.{eventsListed};
-ghost use Rattle.conduct.specs.StageParties.{partyKey, leaderOf, levelFound, levelsFound};
-ghost use Rattle.casefile.specs.Lookup.{bidLevel};
-ghost use Rattle.conduct.specs.StageFlags.{keyIn, leaderIn};
+ghost use Rattle.conduct.specs.StageParties.{sameRun, RunsTogether, RunStart, RunEnd, leaderOf, sameGroup, leaderIn};
 use binary::bytes::load_u8;
 use binary::bytes::load_u16;
 use binary::bytes::load_u32;
+use binary::numbers::choose_usize;
 use casefile::layout;
+use casefile::records::place_before;
 use casefile::records::record_at;
-use casefile::references::reference_level;
-use casefile::units::unit_place;
 
-// The place of event i's unit.
-fn event_place(units: &[u8], events: &[u8], i: usize) -> usize
-    requires { ⌜ (i < length (now events) / eventWidth) × UnitsInOrder (now units) ⌝ }
-    ensures { λ r. ⌜ r ≡ unitOf (caseIn (now (units .entry)) [] [] (now (events .entry))) i ⌝ }
+// Whether event j is of event i's day, kind and market.
+fn same_run(events: &[u8], i: usize, j: usize) -> bool
+    requires { ⌜ (i < length (now events) / eventWidth) × (j < length (now events) / eventWidth) ⌝ }
+    ensures { λ r. ⌜ r ≡ sameRun (eventsIn (now (events .entry))) i j ⌝ }
 {
     let event = record_at(events, i, layout::EVENT_WIDTH);
-    unit_place(units, load_u16(event, 2))
+    let other = record_at(events, j, layout::EVENT_WIDTH);
+    let same_kind = load_u8(other, 0) == load_u8(event, 0);
+    let same_day = load_u32(other, 8) == load_u32(event, 8);
+    let same_market = load_u8(other, 1) == load_u8(event, 1);
+    same_kind & same_day & same_market
 }
 
-pub fn unit_places(units: &[u8], events: &[u8], places: &mut [usize])
-    requires { ⌜ UnitsInOrder (now units) × (length (now events) / eventWidth ≤ length (now places)) ⌝ }
-    ensures { λ _. ⌜ now (places .exit) ≡ listTo (length (now (events .entry)) / eventWidth) (unitOf (caseIn (now (units .entry)) [] [] (now (events .entry)))) ++ drop (length (now (events .entry)) / eventWidth) (now (places .entry)) ⌝ }
+// Where the run of event i ends.
+pub fn run_end(events: &[u8], i: usize) -> usize
+    requires { ⌜ i < length (now events) / eventWidth ⌝ }
+    requires { ⌜ RunsTogether (eventsIn (now events)) ⌝ }
+    ensures { λ r. ⌜ RunEnd (eventsIn (now (events .entry))) i r ⌝ }
 {
     let n = events.len() / layout::EVENT_WIDTH;
-    let mut i = 0;
-    while i < n {
-        places[i] = event_place(units, events, i);
-        i += 1;
+    let mut end = i + 1;
+    while end < n {
+        if !same_run(events, i, end) {
+            return end;
+        }
+        end += 1;
     }
+    end
+}
+
+// Where the run of event i begins, from where that of the event before it does.
+fn run_start(events: &[u8], i: usize, start: usize) -> usize
+    requires { ⌜ i < length (now events) / eventWidth ⌝ }
+    requires { ⌜ RunsTogether (eventsIn (now events)) ⌝ }
+    requires { ⌜ RunStart (eventsIn (now events)) (i - 1) start ⌝ }
+    ensures { λ r. ⌜ RunStart (eventsIn (now (events .entry))) i r ⌝ }
+{
+    let goes_on = same_run(events, i, place_before(i));
+    choose_usize(goes_on, start, i)
 }
 
 // The group of the unit at a place.
@@ -50,61 +67,35 @@ fn group_at(units: &[u8], place: usize) -> u16
     load_u16(record_at(units, place, layout::UNIT_WIDTH), 2)
 }
 
-pub fn party_groups(units: &[u8], events: &[u8], places: &[usize], groups: &mut [u16])
+fn party_groups(
+    units: &[u8],
+    events: &[u8],
+    places: &[usize; layout::MOST_EVENTS],
+    groups: &mut [u16; layout::MOST_EVENTS],
+)
     requires { ⌜ eventsListed (unitsIn (now units)) (eventsIn (now events)) ≡ true ⌝ }
-    requires { ⌜ length (now events) / eventWidth ≤ length (now places) ⌝ }
+    requires { ⌜ length (now events) / eventWidth ≤ mostEvents ⌝ }
     requires { ⌜ Holds (length (now events) / eventWidth) (now places) (unitOf (caseIn (now units) [] [] (now events))) ⌝ }
-    requires { ⌜ length (now events) / eventWidth ≤ length (now groups) ⌝ }
-    ensures { λ _. ⌜ now (groups .exit) ≡ listTo (length (now (events .entry)) / eventWidth) (groupOf (caseIn (now (units .entry)) [] [] (now (events .entry)))) ++ drop (length (now (events .entry)) / eventWidth) (now (groups .entry)) ⌝ }
+    ensures { λ _. ⌜ Holds (length (now (events .entry)) / eventWidth) (now (groups .exit)) (groupOf (caseIn (now (units .entry)) [] [] (now (events .entry)))) ⌝ }
 {
     let n = events.len() / layout::EVENT_WIDTH;
+    let table: &mut [u16] = groups;
     let mut i = 0;
     while i < n {
-        groups[i] = group_at(units, places[i]);
+        table[i] = group_at(units, places[i]);
         i += 1;
     }
 }
 
-// Two bytes, a number of 16 bits and a day in one number.
-pub fn pack(kind: u8, market: u8, group: u16, day: u32) -> u64
-    ensures { λ r. ⌜ r ≡ kind + 256 * market + 65536 * group + 4294967296 * day ⌝ }
+// The first event from `start` on with event i's group.
+fn leader(groups: &[u16; layout::MOST_EVENTS], start: usize, i: usize) -> usize
+    requires { ⌜ (start ≤ i) × (i < mostEvents) ⌝ }
+    ensures { λ r. ⌜ r ≡ firstFrom (i - start) start (sameGroup (now (groups .entry)) i) ⌝ }
 {
-    (kind as u64) + 256 * (market as u64) + 65536 * (group as u64) + 4294967296 * (day as u64)
-}
-
-fn party_key(events: &[u8], groups: &[u16], i: usize) -> u64
-    requires { ⌜ (i < length (now events) / eventWidth) × (i < length (now groups)) ⌝ }
-    ensures { λ r. ⌜ r ≡ keyIn (eventsIn (now (events .entry))) (now (groups .entry)) i ⌝ }
-{
-    let event = record_at(events, i, layout::EVENT_WIDTH);
-    let kind = load_u8(event, 0);
-    let market = load_u8(event, 1);
-    let day = load_u32(event, 8);
-    pack(kind, market, groups[i], day)
-}
-
-pub fn party_keys(events: &[u8], groups: &[u16], keys: &mut [u64])
-    requires { ⌜ length (now events) / eventWidth ≤ length (now groups) ⌝ }
-    requires { ⌜ length (now events) / eventWidth ≤ length (now keys) ⌝ }
-    ensures { λ _. ⌜ now (keys .exit) ≡ listTo (length (now (events .entry)) / eventWidth) (keyIn (eventsIn (now (events .entry))) (now (groups .entry))) ++ drop (length (now (events .entry)) / eventWidth) (now (keys .entry)) ⌝ }
-{
-    let n = events.len() / layout::EVENT_WIDTH;
-    let mut i = 0;
-    while i < n {
-        keys[i] = party_key(events, groups, i);
-        i += 1;
-    }
-}
-
-// The first event with event i's key.
-fn leader(keys: &[u64], i: usize) -> usize
-    requires { ⌜ i < length (now keys) ⌝ }
-    ensures { λ r. ⌜ r ≡ leaderIn (now (keys .entry)) i ⌝ }
-{
-    let key = keys[i];
-    let mut j = 0;
+    let group = groups[i];
+    let mut j = start;
     while j < i {
-        if keys[j] == key {
+        if groups[j] == group {
             return j;
         }
         j += 1;
@@ -112,66 +103,54 @@ fn leader(keys: &[u64], i: usize) -> usize
     j
 }
 
-pub fn party_leaders(n: usize, keys: &[u64], leaders: &mut [usize])
-    requires { ⌜ (n ≤ length (now keys)) × (n ≤ length (now leaders)) ⌝ }
-    ensures { λ _. ⌜ now (leaders .exit) ≡ listTo n (leaderIn (now (keys .entry))) ++ drop n (now (leaders .entry)) ⌝ }
+// The leader of event i, whose run begins at `start`.
+fn event_leader(events: &[u8], groups: &[u16; layout::MOST_EVENTS], start: usize, i: usize) -> usize
+    requires { ⌜ (i < length (now events) / eventWidth) × (i < mostEvents) ⌝ }
+    requires { ⌜ RunStart (eventsIn (now events)) i start ⌝ }
+    ensures { λ r. ⌜ r ≡ leaderIn (eventsIn (now (events .entry))) (now (groups .entry)) i ⌝ }
 {
+    let kind = load_u8(record_at(events, i, layout::EVENT_WIDTH), 0);
+    if kind == 4 {
+        return i;
+    }
+    leader(groups, start, i)
+}
+
+fn party_leaders(
+    events: &[u8],
+    groups: &[u16; layout::MOST_EVENTS],
+    leaders: &mut [usize; layout::MOST_EVENTS],
+)
+    requires { ⌜ length (now events) / eventWidth ≤ mostEvents ⌝ }
+    requires { ⌜ RunsTogether (eventsIn (now events)) ⌝ }
+    ensures { λ _. ⌜ Holds (length (now (events .entry)) / eventWidth) (now (leaders .exit)) (leaderIn (eventsIn (now (events .entry))) (now (groups .entry))) ⌝ }
+{
+    let n = events.len() / layout::EVENT_WIDTH;
+    let table: &mut [usize] = leaders;
+    let mut start = 0;
     let mut i = 0;
     while i < n {
-        leaders[i] = leader(keys, i);
+        start = run_start(events, i, start);
+        table[i] = event_leader(events, groups, start, i);
         i += 1;
     }
 }
 
-// Places, groups, keys and leaders, each from the one before.
+// The group of every event, and the leader of its party.
 pub fn find_parties(
     units: &[u8],
     events: &[u8],
-    places: &mut [usize],
-    groups: &mut [u16],
-    keys: &mut [u64],
-    leaders: &mut [usize],
+    places: &[usize; layout::MOST_EVENTS],
+    groups: &mut [u16; layout::MOST_EVENTS],
+    leaders: &mut [usize; layout::MOST_EVENTS],
 )
-    requires { ⌜ UnitsInOrder (now units) × (eventsListed (unitsIn (now units)) (eventsIn (now events)) ≡ true) ⌝ }
-    requires { ⌜ length (now events) / eventWidth ≤ length (now places) ⌝ }
-    requires { ⌜ length (now events) / eventWidth ≤ length (now groups) ⌝ }
-    requires { ⌜ length (now events) / eventWidth ≤ length (now keys) ⌝ }
-    requires { ⌜ length (now events) / eventWidth ≤ length (now leaders) ⌝ }
-    ensures placed { λ _. ⌜ now (places .exit) ≡ listTo (length (now (events .entry)) / eventWidth) (unitOf (caseIn (now (units .entry)) [] [] (now (events .entry)))) ++ drop (length (now (events .entry)) / eventWidth) (now (places .entry)) ⌝ }
-    ensures grouped { λ _. ⌜ now (groups .exit) ≡ listTo (length (now (events .entry)) / eventWidth) (groupOf (caseIn (now (units .entry)) [] [] (now (events .entry)))) ++ drop (length (now (events .entry)) / eventWidth) (now (groups .entry)) ⌝ }
-    ensures keyed { λ _. ⌜ now (keys .exit) ≡ listTo (length (now (events .entry)) / eventWidth) (partyKey (caseIn (now (units .entry)) [] [] (now (events .entry)))) ++ drop (length (now (events .entry)) / eventWidth) (now (keys .entry)) ⌝ }
-    ensures led { λ _. ⌜ now (leaders .exit) ≡ listTo (length (now (events .entry)) / eventWidth) (leaderOf (caseIn (now (units .entry)) [] [] (now (events .entry)))) ++ drop (length (now (events .entry)) / eventWidth) (now (leaders .entry)) ⌝ }
+    requires { ⌜ eventsListed (unitsIn (now units)) (eventsIn (now events)) ≡ true ⌝ }
+    requires { ⌜ length (now events) / eventWidth ≤ mostEvents ⌝ }
+    requires { ⌜ RunsTogether (eventsIn (now events)) ⌝ }
+    requires { ⌜ Holds (length (now events) / eventWidth) (now places) (unitOf (caseIn (now units) [] [] (now events))) ⌝ }
+    ensures grouped { λ _. ⌜ Holds (length (now (events .entry)) / eventWidth) (now (groups .exit)) (groupOf (caseIn (now (units .entry)) [] [] (now (events .entry)))) ⌝ }
+    ensures led { λ _. ⌜ Holds (length (now (events .entry)) / eventWidth) (now (leaders .exit)) (leaderOf (caseIn (now (units .entry)) [] [] (now (events .entry)))) ⌝ }
 {
-    unit_places(units, events, places);
     party_groups(units, events, places, groups);
-    party_keys(events, groups, keys);
-    party_leaders(events.len() / layout::EVENT_WIDTH, keys, leaders);
-}
-
-// The reference level of event i where it is a bid, else 0.
-fn event_level(references: &[u8], events: &[u8], i: usize) -> u32
-    requires { ⌜ (i < length (now events) / eventWidth) × InOrder (now references) × (levelFound (referencesIn (now references)) (eventsIn (now events)) i ≡ true) ⌝ }
-    ensures { λ r. ⌜ r ≡ bidLevel (referencesIn (now (references .entry))) (eventsIn (now (events .entry))) i ⌝ }
-{
-    let event = record_at(events, i, layout::EVENT_WIDTH);
-    let kind = load_u8(event, 0);
-    if kind != 4 {
-        return 0;
-    }
-    let unit = load_u16(event, 2);
-    let component = load_u8(event, 6);
-    reference_level(references, unit, component)
-}
-
-pub fn reference_levels(references: &[u8], events: &[u8], levels: &mut [u32])
-    requires { ⌜ InOrder (now references) × (levelsFound (referencesIn (now references)) (eventsIn (now events)) ≡ true) ⌝ }
-    requires { ⌜ length (now events) / eventWidth ≤ length (now levels) ⌝ }
-    ensures { λ _. ⌜ now (levels .exit) ≡ listTo (length (now (events .entry)) / eventWidth) (bidLevel (referencesIn (now (references .entry))) (eventsIn (now (events .entry)))) ++ drop (length (now (events .entry)) / eventWidth) (now (levels .entry)) ⌝ }
-{
-    let n = events.len() / layout::EVENT_WIDTH;
-    let mut i = 0;
-    while i < n {
-        levels[i] = event_level(references, events, i);
-        i += 1;
-    }
+    party_leaders(events, groups, leaders);
 }

@@ -1,46 +1,87 @@
 -- The figures of one event, from what earlier stages found, are those of the case.
 use Prim.Native.Nat.{ℕ, zero, suc, _^_, _<_}
-use mathlib.Core.Bool.{Bool, true, false, cond, _&&_, and-false}
-use mathlib.Core.List.{List}
-use mathlib.Core.Path.{_≡_, refl, sym, ap, subst, _∙_}
+use mathlib.Core.Bool.{Bool, true, false, cond, _&&_, _||_}
+use mathlib.Core.List.{List, []}
+use mathlib.Core.Path.{_≡_, refl, sym, ap, _∙_}
 use native.Mathlib.Nat.{add-assoc, lt-of-le-of-lt}
+use native.Mathlib.Omega.{arith}
 use lib.Bits.{bitAnd, and-le-l}
-use lib.Dec.{T, eqb}
-use lib.ListN.{replicate, drop}
-use borrow.Author.Tests.{eqb-true}
-use Rattle.binary.specs.Bounded.{sumTo, maskTo, bitOf}
+use lib.Dec.{leb, eqb}
+use lib.ListN.{drop}
+use borrow.Author.Tests.{leb-false, ne-eqb}
+use Rattle.binary.specs.Bounded.{sumTo, lastTo, maskTo, bitOf}
+use Rattle.binary.specs.Bytes.{valueAt}
 use Rattle.binary.specs.Lists.{listTo}
-use Rattle.binary.proofs.Implies.{T→true, cond-same, and-left, and-right}
-use Rattle.binary.proofs.BoundedLaws.{sum-same, first-same, last-same}
+use Rattle.binary.proofs.Implies.{T→true, cond-same, and-left, or-l, or-r}
+use Rattle.binary.proofs.BoundedLaws.{sum-same}
 use Rattle.binary.proofs.MaskLaws.{mask-same, mask-lt, mask-bits, bit-mask, bit-and}
 use Rattle.binary.proofs.ByteLaws.{value-drop}
 use Rattle.binary.proofs.ListLaws.{list-same}
-use Rattle.tariff.specs.DefaultBidRules.{spanned, spanMask, correctedInForce, hourMakeUp, makeUp}
+use Rattle.tariff.specs.DefaultBidRules.{spanned, spanMask, restores, correctedBid, correctedInForce}
 use Rattle.casefile.specs.Layout.{eventWidth, cellsOffset, mostHours}
-use Rattle.casefile.specs.Case.{Units, References, Events, Case}
-use Rattle.casefile.specs.Decode.{recordAt, unitsIn, referencesIn, eventsIn, amountsIn, caseIn}
-use Rattle.casefile.specs.Lookup.{unitOf, levelOf, referenceOf, readsCorrect}
+use Rattle.casefile.specs.Case.{References, Case}
+use Rattle.casefile.specs.Decode.{recordAt, referencesIn, eventsIn, amountsIn, caseIn}
+use Rattle.casefile.specs.Lookup.{unitOf, levelOf, referenceOf, bidLevel, readsCorrect}
+use Rattle.casefile.specs.StageLookup.{readsLevel, correctLevel}
 use Rattle.casefile.specs.StageRead.{cellOf}
 use Rattle.conduct.specs.Flags.{tight, flagged, flagMask}
-use Rattle.casefile.specs.Lookup.{bidLevel}
 use Rattle.default_bids.specs.Mitigation.{hit, mitigated, mitigatedMask, correctOf, bidInForce, makeUpTenths, makeUpOf}
-use Rattle.default_bids.specs.StageFigures.{readsLevel, correctLevel, mitigatedBy, termsOf, hourBid, bidAt, bidBy, tenthsAt, makeUpBy}
-use Rattle.default_bids.proofs.LevelLaws.{bid-free}
+use Rattle.default_bids.specs.StageFigures.{mitigatedBy, failsWith, bidBy, tenthsAt, makeUpBy}
+use Rattle.default_bids.proofs.SpanLaws.{span-same, mask-nothing}
 
--- ---- mitigated hours
+-- ---- components 2 and 4 to 8 never read c
 
-mask-nothing : (n : ℕ) → maskTo n (λ h. false) ≡ 0
-unfolding maskTo
-mask-nothing zero = refl
-mask-nothing (suc n) = rw (mask-nothing n)
+-- a component that does not read c restores no bid
+restores-none : (component r c : ℕ) → readsCorrect component ≡ false → restores component r c ≡ false
+unfolding readsCorrect restores
+restores-none component r c e =
+    let p : leb component 1 ≡ false = or-l (leb component 1) (eqb component 3) e in
+    let q : eqb component 3 ≡ false = or-r (leb component 1) (eqb component 3) e in
+    let l : 1 < component = leb-false component 1 p in
+    let n : eqb component 1 ≡ false = ne-eqb component 1 (λ z. omega arith) in
+    rw (n, q)
 
-spanned-same : (n : ℕ) (p q : ℕ → Bool) (R h : ℕ) → ((k : ℕ) → k < n → p k ≡ q k) → spanned n p R h ≡ spanned n q R h
-unfolding spanned
-spanned-same n p q R h s = rw (first-same n p q s, last-same n p q s)
+module _ (c : Case) (i : ℕ) (e : readsLevel (c .events) i ≡ false) (k k′ : References) where
+  pub bid-unread : (h : ℕ) → bidInForce c k i h ≡ bidInForce c k′ i h
+  unfolding bidInForce correctedInForce correctedBid readsLevel
+  bid-unread h =
+      cond-same (eqb (c .events .kind i) 4)
+      (λ t.
+      let n : readsCorrect (c .events .component i) ≡ false = rw (T→true (eqb (c .events .kind i) 4) t) at e in
+      rw (restores-none (c .events .component i) (referenceOf c i) (correctOf c k i) n, restores-none (c .events .component i) (referenceOf c i) (correctOf c k′ i) n))
+      (λ t. refl)
 
-pub mitigated-by : (c : Case) (i : ℕ) → mitigatedBy (c .events) i (flagMask c i) ≡ mitigatedMask c i
+  pub make-up-unread : makeUpOf c k i ≡ makeUpOf c k′ i
+  unfolding makeUpOf readsLevel readsCorrect
+  make-up-unread = rw (none (eqb (c .events .kind i) 4) (c .events .component i) e)
+    where
+      none : (b : Bool) (n : ℕ) → (b && (leb n 1 || eqb n 3)) ≡ false → (b && eqb n 0) ≡ false
+      none false n q = refl
+      none true zero q = q
+      none true (suc n) q = ne-eqb (suc n) 0 (λ z. omega arith)
+
+-- with no references every level is 0
+level-none : (unit component : ℕ) → 0 ≡ levelOf (referencesIn []) unit component
+unfolding levelOf referencesIn lastTo recordAt valueAt
+level-none unit component = refl
+
+-- a figure by c that goes by no c where c is not read is found by c where it is read and 0 elsewhere
+by-read : (c : Case) (correct : References) (i : ℕ) (by : ℕ → ℕ) (figure : References → ℕ) → ((k : References) → by (correctOf c k i) ≡ figure k)
+    → (readsLevel (c .events) i ≡ false → (k k′ : References) → figure k ≡ figure k′)
+    → by (correctLevel correct (c .events) i) ≡ figure correct
+unfolding correctLevel correctOf
+by-read c correct i by figure is unread = go (readsLevel (c .events) i) refl
+  where
+    go : (b : Bool) → readsLevel (c .events) i ≡ b
+        → by (cond b (levelOf correct (c .events .unit i) (c .events .component i)) 0) ≡ figure correct
+    go true e = is correct
+    go false e = ap by (level-none (c .events .unit i) (c .events .component i)) ∙ is (referencesIn []) ∙ unread e (referencesIn []) correct
+
+-- ---- the figures of event i of a case
+
+mitigated-flags : (c : Case) (i : ℕ) → mitigatedBy (c .events) i (flagMask c i) ≡ mitigatedMask c i
 unfolding mitigatedBy mitigatedMask mitigated hit flagMask spanMask
-mitigated-by c i = go (eqb (c .events .kind i) 4) (eqb (c .events .component i) 1 && eqb (c .events .market i) 0)
+mitigated-flags c i = go (eqb (c .events .kind i) 4) (eqb (c .events .component i) 1 && eqb (c .events .market i) 0)
   where
     n : ℕ
     n = c .events .hours i
@@ -59,132 +100,59 @@ mitigated-by c i = go (eqb (c .events .kind i) 4) (eqb (c .events .component i) 
 
     go : (k s : Bool) → cond k (cond s (maskTo n (spanned n (bitOf hits) (c .events .R i))) hits) 0
         ≡ maskTo n (λ h. k && cond s (spanned n (hit c i) (c .events .R i) h) (hit c i h))
-    go true true = mask-same n _ _ (λ h l. spanned-same n (bitOf hits) (hit c i) (c .events .R i) h bits)
+    go true true = span-same n (bitOf hits) (hit c i) (c .events .R i) bits
     go true false = sym (mask-bits n hits small) ∙ mask-same n (bitOf hits) (hit c i) bits
     go false s = sym (mask-nothing n)
 
--- ---- bids in force
+module _ (u r p s : List ℕ) (i : ℕ) where
+  mitigated-bit : (h : ℕ) → h < mostHours → bitOf (mitigatedMask (caseIn u r p s) i) h ≡ mitigated (caseIn u r p s) i h
+  unfolding mitigatedMask caseIn eventsIn
+  mitigated-bit h l = bit-mask mostHours h (mitigated (caseIn u r p s) i) l
 
-pub bid-by : (c : Case) (correct : References) (i h : ℕ) → h < c .events .hours i
-    → bidBy (c .units) (c .events) (c .a) i (unitOf c i) (bidLevel (c .references) (c .events) i) (correctLevel correct (c .events) i)
-    (mitigatedMask c i) h
-    ≡ bidInForce c correct i h
-unfolding bidBy bidInForce hourBid termsOf bidLevel referenceOf correctLevel correctOf tight readsLevel mitigatedMask
-bid-by c correct i h l = cond-same (eqb (c .events .kind i) 4) (λ t. body (T→true _ t)) (λ t. refl)
-  where
-    component : ℕ
-    component = c .events .component i
+  pub mitigated-by : (flags : ℕ) → flags ≡ flagMask (caseIn u r p s) i → mitigatedBy (eventsIn s) i flags ≡ mitigatedMask (caseIn u r p s) i
+  unfolding caseIn
+  mitigated-by flags e = rw e (mitigated-flags (caseIn u r p s) i)
 
-    level : ℕ
-    level = levelOf (c .references) (c .events .unit i) component
+  bid-is : (k : References) (h : ℕ) → h < mostHours
+      → bidBy u s (unitOf (caseIn u r p s) i) (bidLevel (referencesIn r) (eventsIn s) i) (correctOf (caseIn u r p s) k i) (mitigatedMask (caseIn u r p s) i) i h
+      ≡ bidInForce (caseIn u r p s) k i h
+  unfolding bidBy failsWith bidInForce correctedInForce tight referenceOf bidLevel caseIn
+  bid-is k h l = cond-same (eqb (eventsIn s .kind i) 4) (λ t. rw (T→true (eqb (eventsIn s .kind i) 4) t, mitigated-bit h l)) (λ t. refl)
 
-    other : ℕ
-    other = levelOf correct (c .events .unit i) component
+  tenths-are : (k : References)
+      → sumTo mostHours (tenthsAt (drop cellsOffset (recordAt eventWidth s i)) (correctOf (caseIn u r p s) k i) (mitigatedMask (caseIn u r p s) i))
+      ≡ makeUpTenths (caseIn u r p s) k i
+  unfolding makeUpTenths tenthsAt cellOf caseIn eventsIn amountsIn
+  tenths-are k = sum-same mostHours _ _ (λ h l. rw (mitigated-bit h l) (simp (value-drop, add-assoc)))
 
-    bid : (k : ℕ) → Bool → ℕ
-    bid k m =
-        correctedInForce component (c .a i h) level k (c .events .market i) (tight c i h) (c .units .averagePrice (unitOf c i))
-        (c .units .constrainedHours (unitOf c i)) m
+  make-up-is : (k : References)
+      → makeUpBy s i (bidLevel (referencesIn r) (eventsIn s) i) (correctOf (caseIn u r p s) k i) (mitigatedMask (caseIn u r p s) i)
+      ≡ makeUpOf (caseIn u r p s) k i
+  unfolding makeUpBy makeUpOf referenceOf bidLevel caseIn
+  make-up-is k =
+      cond-same (eqb (eventsIn s .kind i) 4 && eqb (eventsIn s .component i) 0)
+      (λ t. rw (T→true (eqb (eventsIn s .kind i) 4) (and-left (eqb (eventsIn s .kind i) 4) (eqb (eventsIn s .component i) 0) t), tenths-are k))
+      (λ t. refl)
 
-    reads : (b : Bool) → readsCorrect component ≡ b → (m : Bool) → bid (cond b other 0) m ≡ bid other m
-    reads true e m = refl
-    reads false e m =
-        bid-free component (c .a i h) level 0 other (c .events .market i) (tight c i h) (c .units .averagePrice (unitOf c i))
-        (c .units .constrainedHours (unitOf c i)) m e
+  module _ (correct : References) where
+    -- the bids in force of event i, from its unit's place, r, c and its mitigated mask
+    pub bids-by : (place level k mask : ℕ) → place ≡ unitOf (caseIn u r p s) i → level ≡ bidLevel (referencesIn r) (eventsIn s) i
+        → k ≡ correctLevel correct (eventsIn s) i → mask ≡ mitigatedMask (caseIn u r p s) i
+        → listTo mostHours (bidBy u s place level k mask i) ≡ listTo mostHours (bidInForce (caseIn u r p s) correct i)
+    unfolding caseIn
+    bids-by place level k mask eplace elevel ek emask =
+        list-same mostHours _ _
+        (λ h l.
+        rw (eplace, elevel, ek, emask)
+        (by-read (caseIn u r p s) correct i (λ x. bidBy u s (unitOf (caseIn u r p s) i) (bidLevel (referencesIn r) (eventsIn s) i) x (mitigatedMask (caseIn u r p s) i) i h)
+        (λ x. bidInForce (caseIn u r p s) x i h) (λ x. bid-is x h l)
+        (λ e x y. bid-unread (caseIn u r p s) i e x y h)))
 
-    body : eqb (c .events .kind i) 4 ≡ true
-        → correctedInForce component (c .a i h) (cond (eqb (c .events .kind i) 4) level 0)
-        (cond (eqb (c .events .kind i) 4 && readsCorrect component) other 0) (c .events .market i) (tight c i h)
-        (c .units .averagePrice (unitOf c i)) (c .units .constrainedHours (unitOf c i)) (bitOf (maskTo (c .events .hours i) (mitigated c i)) h)
-        ≡ bid other (mitigated c i h)
-    body e = rw (e, bit-mask (c .events .hours i) h (mitigated c i) l) (reads (readsCorrect component) refl (mitigated c i h))
-
--- the bids in force of event i, whole
-pub bids-by : (u r p s : List ℕ) (correct : References) (i : ℕ) → let c = caseIn u r p s in
-    listTo mostHours (bidBy (unitsIn u) (eventsIn s) (amountsIn s) i (unitOf c i) (bidLevel (referencesIn r) (eventsIn s) i)
-    (correctLevel correct (eventsIn s) i) (mitigatedMask c i))
-    ≡ listTo mostHours (bidInForce c correct i)
-unfolding caseIn eventsIn
-bids-by u r p s correct i = list-same mostHours _ _ (λ h l. bid-by (caseIn u r p s) correct i h l)
-
--- what the code reads in the cells
-pub bids-read : (u : Units) (s : List ℕ) (i place r k mask : ℕ) → eqb (eventsIn s .kind i) 4 ≡ true
-    → listTo mostHours (bidAt (termsOf u (eventsIn s) i place r k mask) (drop cellsOffset (recordAt eventWidth s i)))
-    ≡ listTo mostHours (bidBy u (eventsIn s) (amountsIn s) i place r k mask)
-unfolding bidAt bidBy cellOf amountsIn
-bids-read u s i place r k mask e = list-same mostHours _ _ (λ h l. rw e (simp value-drop))
-
-pub bids-none : (u : Units) (e : Events) (a : ℕ → ℕ → ℕ) (i place r k mask : ℕ) → eqb (e .kind i) 4 ≡ false
-    → replicate mostHours 0 ≡ listTo mostHours (bidBy u e a i place r k mask)
-unfolding bidBy listTo
-bids-none u e a i place r k mask n =
-    let none : listTo mostHours (λ h. 0) ≡ listTo mostHours (bidBy u e a i place r k mask) = list-same mostHours (λ h. 0) (bidBy u e a i place r k mask) (λ h l. rw n) in
-    none
-
--- ---- make-up
-
-pub mitigated-bit : (c : Case) (i h : ℕ) → h < c .events .hours i → bitOf (mitigatedMask c i) h ≡ mitigated c i h
-unfolding mitigatedMask
-mitigated-bit c i h l = bit-mask (c .events .hours i) h (mitigated c i) l
-
-level-bid : (r : References) (e : Events) (i : ℕ) → eqb (e .kind i) 4 ≡ true → bidLevel r e i ≡ levelOf r (e .unit i) (e .component i)
-unfolding bidLevel
-level-bid r e i k = rw k
-
-energy-reads : (component : ℕ) → component ≡ 0 → readsCorrect component ≡ true
-unfolding readsCorrect
-energy-reads component z = rw z
-
-level-energy : (correct : References) (e : Events) (i : ℕ) → eqb (e .kind i) 4 ≡ true → e .component i ≡ 0
-    → correctLevel correct e i ≡ levelOf correct (e .unit i) (e .component i)
-unfolding correctLevel readsLevel
-level-energy correct e i k z = rw (k, energy-reads (e .component i) z)
-
-pub make-up-by : (u r p s : List ℕ) (correct : References) (i : ℕ)
-    → makeUpBy s i (bidLevel (referencesIn r) (eventsIn s) i) (correctLevel correct (eventsIn s) i) (mitigatedMask (caseIn u r p s) i)
-    ≡ makeUpOf (caseIn u r p s) correct i
-unfolding makeUpBy makeUpOf makeUpTenths tenthsAt cellOf caseIn eventsIn amountsIn referenceOf correctOf
-make-up-by u r p s correct i =
-    cond-same (eqb (eventsIn s .kind i) 4 && eqb (eventsIn s .component i) 0)
-    (λ t. body (T→true _ (and-left (eqb (eventsIn s .kind i) 4) (eqb (eventsIn s .component i) 0) t))
-    (eqb-true _ _ (T→true _ (and-right (eqb (eventsIn s .kind i) 4) (eqb (eventsIn s .component i) 0) t))))
-    (λ t. refl)
-  where
-    c : Case
-    c = caseIn u r p s
-
-    cells : List ℕ
-    cells = drop cellsOffset (recordAt eventWidth s i)
-
-    hour : (k h : ℕ) → h < mostHours → tenthsAt cells k (mitigatedMask c i) h
-        ≡ cond (mitigated c i h) (hourMakeUp (c .a i h) (c .events .b i h) (c .events .m i h) k) 0
-    hour k h l = rw (mitigated-bit c i h l) (simp (value-drop, add-assoc))
-
-    body : eqb (eventsIn s .kind i) 4 ≡ true → eventsIn s .component i ≡ 0
-        → makeUp (bidLevel (referencesIn r) (eventsIn s) i) (correctLevel correct (eventsIn s) i)
-        (sumTo mostHours (tenthsAt cells (correctLevel correct (eventsIn s) i) (mitigatedMask c i)))
-        ≡ makeUp (referenceOf c i) (correctOf c correct i) (makeUpTenths c correct i)
-    body e z =
-        rw (level-bid (referencesIn r) (eventsIn s) i e, level-energy correct (eventsIn s) i e z)
-        (ap (makeUp (referenceOf c i) (correctOf c correct i)) (sum-same mostHours _ _ (hour (correctOf c correct i))))
-
--- ---- components 2 and 4 to 8 never read c
-
-pub bid-unread : (c : Case) (k k′ : References) (i h : ℕ) → readsCorrect (c .events .component i) ≡ false
-    → bidInForce c k i h ≡ bidInForce c k′ i h
-unfolding bidInForce
-bid-unread c k k′ i h e =
-    cond-same (eqb (c .events .kind i) 4)
-    (λ t. bid-free (c .events .component i) (c .a i h) (referenceOf c i) (correctOf c k i) (correctOf c k′ i) (c .events .market i)
-    (tight c i h) (c .units .averagePrice (unitOf c i)) (c .units .constrainedHours (unitOf c i)) (mitigated c i h) e)
-    (λ t. refl)
-
-pub make-up-unread : (c : Case) (k k′ : References) (i : ℕ) → readsCorrect (c .events .component i) ≡ false → makeUpOf c k i ≡ makeUpOf c k′ i
-unfolding makeUpOf
-make-up-unread c k k′ i e = rw (none (eqb (c .events .component i) 0) refl)
-  where
-    none : (b : Bool) → eqb (c .events .component i) 0 ≡ b → (eqb (c .events .kind i) 4 && eqb (c .events .component i) 0) ≡ false
-    none true z =
-        let t : true ≡ false = sym (energy-reads (c .events .component i) (eqb-true _ _ z)) ∙ e in
-        absurd (subst (λ (x : Bool). T x) t tt)
-    none false z = rw z (and-false (eqb (c .events .kind i) 4))
+    -- its make-up, from r, c and its mitigated mask
+    pub make-up-by : (level k mask : ℕ) → level ≡ bidLevel (referencesIn r) (eventsIn s) i → k ≡ correctLevel correct (eventsIn s) i
+        → mask ≡ mitigatedMask (caseIn u r p s) i → makeUpBy s i level k mask ≡ makeUpOf (caseIn u r p s) correct i
+    unfolding caseIn
+    make-up-by level k mask elevel ek emask =
+        rw (elevel, ek, emask)
+        (by-read (caseIn u r p s) correct i (λ x. makeUpBy s i (bidLevel (referencesIn r) (eventsIn s) i) x (mitigatedMask (caseIn u r p s) i))
+        (λ x. makeUpOf (caseIn u r p s) x i) make-up-is (λ e x y. make-up-unread (caseIn u r p s) i e x y))

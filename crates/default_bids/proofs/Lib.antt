@@ -1,5 +1,4 @@
 pub mod SpanLaws
-pub mod LevelLaws
-pub mod FigureLaws
+pub mod BidLaws
 pub mod MakeUpBounds
-pub mod PastLaws
+pub mod FigureLaws

@@ -1,5 +1,4 @@
-// Mitigated hours, bids in force and make-up of every event of a case.
+// Mitigated hours, bids in force and make-up of an event of a case.
 pub mod bids;
-pub mod levels;
 pub mod make_up;
 pub mod mitigated;

@@ -5,7 +5,7 @@ use mathlib.Core.Path.{_≡_}
 use native.Mathlib.Nat.{le-refl}
 use native.Mathlib.Omega.{arith}
 use lib.ListN.{length}
-use Rattle.casefile.specs.Layout.{eventWidth}
+use Rattle.casefile.specs.Layout.{eventWidth, mostHours}
 use Rattle.casefile.specs.Decode.{sectionOf, pastIn, eventsIn, caseIn, decode}
 use Rattle.casefile.specs.Refusal.{refusal}
 use Rattle.casefile.proofs.AcceptedLaws as case
@@ -23,7 +23,7 @@ module _ (u p e : List ℕ) (acc : Accepted u p e) where
   ranges r =
       record {
         count = acc .few-events;
-        hours = λ i. le-refl 24;
+        hours = λ i. le-refl mostHours;
         withheld = λ i h l m k. (
           amount-bound u e (acc .units-fine) (acc .events-listed) (acc .amounts-fine) i h l m (omega arith),
           cell-ranges e (acc .events-fine) i h l m .withheld k,

@@ -18,13 +18,16 @@ use Rattle.conduct.proofs.PartyLaws.{SameParty, together-fields, together-sym, 
 use Rattle.sanctions.specs.Penalties.{lowestUnit}
 
 -- a test does not both hold and fail
-clash : {A : Type 0} (b : Bool) → b ≡ true → b ≡ false → A
+pub clash : {A : Type 0} (b : Bool) → b ≡ true → b ≡ false → A
 clash true t f = absurd (let z : _≡_ {A = ℕ} 0 1 = cc in omega arith)
 clash false t f = absurd (let z : _≡_ {A = ℕ} 0 1 = cc in omega arith)
 
--- event i leads the events together with it, where it leads itself
-pub leads : (c : Case) (i j : ℕ) → leaderOf c i ≡ i → eqb (leaderOf c j) i ≡ together c i j
-leads c i j e = subst (λ (k : ℕ). eqb (leaderOf c j) k ≡ together c i j) e (leader-eqb c i j)
+not-any : (n i : ℕ) (p : ℕ → Bool) → i < n → p i ≡ true → not (anyTo n p) ≡ false
+not-any n i p l e = rw (any-true n i p l e)
+
+-- event i of kind 3 leads the events together with it, where it leads itself
+pub leads : (c : Case) (i j : ℕ) → c .events .kind i ≡ 3 → leaderOf c i ≡ i → eqb (leaderOf c j) i ≡ together c i j
+leads c i j k e = subst (λ (x : ℕ). eqb (leaderOf c j) x ≡ together c i j) e (leader-eqb c i j (λ q. omega arith))
 
 module _ (c : Case) (o : orderFine (c .events) ≡ true) (bare : (i : ℕ) → i < c .events .count → c .events .kind i ≡ 3 → c .events .component i ≡ 0) where
   -- of two events of a party-day the earlier has the lower unit
@@ -54,7 +57,7 @@ module _ (c : Case) (o : orderFine (c .events) ≡ true) (bare : (i : ℕ) → i
               order : SameParty c i j → c .events .unit j < c .events .unit i → (b : Bool) → ltb j i ≡ b → ⊥
               order s u true b =
                   let l : j < leaderOf c i = rw e (ltb-true j i b) in
-                  clash (together c i j) p (leader-first c i j l)
+                  clash (together c i j) p (leader-first c i j (λ q. omega arith) l)
               order s u false b =
                   ⊎-elim
                   (λ (x : i ≡ j). let y = ap (c .events .unit) x in omega arith)
@@ -63,12 +66,11 @@ module _ (c : Case) (o : orderFine (c .events) ≡ true) (bare : (i : ℕ) → i
                   omega arith)
                   (eq-or-lt-of-le (ltb-false j i b))
 
-      go : (b : Bool) → eqb (leaderOf c i) i ≡ b → not (anyTo (c .events .count) lower) ≡ b
+      go : (b : Bool) → eqb (leaderOf c i) i ≡ b → lowestUnit c i ≡ b
       go true e = rw (any-false (c .events .count) lower (none (eqb-true _ i e)))
       go false e =
           let x = eqb-false _ i e in
           let l : leaderOf c i < i = omega (arith, leader-le c i) in
           let s = together-fields c i _ (leader-together c i) in
           let u = earlier-lower i (leaderOf c i) k s l m in
-          let t : lower (leaderOf c i) ≡ true = rw (leader-together c i) (lt-ltb _ _ u) in
-          rw (any-true (c .events .count) (leaderOf c i) lower (omega arith) t)
+          not-any (c .events .count) (leaderOf c i) _ (omega arith) (rw (leader-together c i) (lt-ltb _ _ u))

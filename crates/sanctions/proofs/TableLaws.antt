@@ -1,39 +1,42 @@
 -- Bounds of the figures that the code finds in bytes and tables.
-use Prim.Native.Nat.{ℕ, _+_, _-_, _*_, _/_, _≤_, _<_, zero-le}
-use mathlib.Core.Bool.{Bool, cond}
+use Prim.Native.Nat.{ℕ, zero, suc, _+_, _*_, _/_, _≤_, _<_, zero-le}
+use mathlib.Core.Bool.{Bool, true}
 use mathlib.Core.List.{List}
-use mathlib.Core.Path.{_≡_, sym, ap, ap₂, _∙_}
-use native.Mathlib.Nat.{add-assoc, mul-le-mul, sub-le}
+use mathlib.Core.Logic.{⊎-elim}
+use mathlib.Core.Path.{_≡_, subst, _∙_}
+use native.Mathlib.Nat.{mul-le-mul, eq-or-lt-of-le}
 use native.Mathlib.Omega.{arith}
 use lib.Dec.{eqb, eqb→eq}
 use lib.ListN.{length, getD}
-use Rattle.binary.specs.Bounded.{sumTo, countTo, bitOf}
+use borrow.Author.Tests.{ne-eqb}
+use Rattle.binary.specs.Bounded.{sumTo, bitOf}
 use Rattle.binary.specs.Word.{positivePart, negativePart}
 use Rattle.binary.proofs.Implies.{cond-bound}
-use Rattle.binary.proofs.BoundedLaws.{count-more, count-bound, sum-more, sum-bound}
+use Rattle.binary.proofs.BoundedLaws.{sum-none, sum-more, sum-bound}
 use Rattle.binary.proofs.WordLaws.{positive-lt, negative-le}
-use Rattle.casefile.specs.Layout.{eventWidth, mostHours}
+use Rattle.casefile.specs.Layout.{eventWidth, mostHours, mostEvents}
 use Rattle.casefile.specs.Decode.{eventsIn}
-use Rattle.casefile.specs.StageRead.{cellOf}
+use Rattle.conduct.specs.StageParties.{sameRun, RunEnd}
 use Rattle.conduct.specs.StageFlags.{cellsIn}
+use Rattle.conduct.proofs.PartyLaws.{run-fields}
 use Rattle.sanctions.specs.Penalties.{fuelMultiplierAfter}
-use Rattle.sanctions.specs.StageFound.{SmallAmounts, Sound}
+use Rattle.sanctions.specs.StageFound.{highestAmount, SmallAmounts, Sound}
 use Rattle.sanctions.specs.StageTables.{hourEnergy, energyIn, ledBy, energyAt, tccAt, partyShare, partyDay}
 use Rattle.sanctions.specs.declared.fuel.PartyDay.{PartyDay}
+use Rattle.sanctions.proofs.PartyLaws.{clash}
 
--- one turn of a loop that counts
-pub record CountTurn (j x y : ℕ) (p : ℕ → Bool) : Type 0 where
-  pub next : x + y ≡ countTo (j + 1) p
-  pub few : x + y ≤ j + 1
+-- the highest part of a signed word, and with it what an hour and an event add to a party-day
+abbrev pub highestPart : ℕ
+highestPart = 2147483648
 
-pub count-turn : (j x y : ℕ) (p : ℕ → Bool) → x ≡ countTo j p → y ≡ cond (p j) 1 0 → CountTurn j x y p
-count-turn j x y p e f =
-    let n : x + y ≡ countTo (j + 1) p = ap₂ _+_ e f ∙ sym (count-more j p) in
-    record { next = n; few = rw n (count-bound (j + 1) p) }
+abbrev pub hourEnergies : ℕ
+hourEnergies = highestAmount * highestPart
 
--- a part of a signed word
+abbrev pub eventEnergies : ℕ
+eventEnergies = 10 * highestPart + mostHours * hourEnergies
+
 pub record Part (part : ℕ → ℕ) : Type 0 where
-  pub small : (w : ℕ) → part w ≤ 2147483648
+  pub small : (w : ℕ) → part w ≤ highestPart
 
 pub positive-part : Part (positivePart 32)
 positive-part = record { small = λ w. let l = positive-lt 32 w in omega arith }
@@ -42,101 +45,118 @@ pub negative-part : Part (negativePart 32)
 negative-part = record { small = λ w. negative-le 32 w (omega arith) }
 
 module _ (part : ℕ → ℕ) (q : Part part) (cells : List ℕ) (mask : ℕ) (small : SmallAmounts cells) where
-  pub hour-small : (h : ℕ) → h < mostHours → hourEnergy part cells mask h ≤ 107374182400000
+  pub hour-small : (h : ℕ) → h < mostHours → hourEnergy part cells mask h ≤ hourEnergies
   unfolding hourEnergy
   hour-small h l =
-      cond-bound (bitOf mask h)
-      (λ _. let p : cellOf cells h .a * part (cellOf cells h .b) ≤ 50000 * 2147483648 = mul-le-mul (small h l) (q .small _) in omega arith)
-      (λ _. zero-le)
+      cond-bound (bitOf mask h) (λ _. mul-le-mul (small h l) (q .small _)) (λ _. zero-le)
 
-  energy-small : (Q : ℕ) → energyIn part Q cells mask ≤ 3000000000000000
+  energy-small : (Q : ℕ) → energyIn part Q cells mask ≤ eventEnergies
   unfolding energyIn
   energy-small Q =
-      let s = sum-bound mostHours (hourEnergy part cells mask) 107374182400000 hour-small in
+      let s = sum-bound mostHours (hourEnergy part cells mask) hourEnergies hour-small in
       let t = q .small Q in
       omega arith
 
-  -- one turn of the loop over the hours
-  pub energy-turn : (h x y s : ℕ) → h < mostHours → s ≤ 21474836480 → x ≡ s + sumTo h (hourEnergy part cells mask)
-      → y ≡ hourEnergy part cells mask h
-      → (x + y ≡ s + sumTo (h + 1) (hourEnergy part cells mask)) × (x + y ≤ 3000000000000000)
-  energy-turn h x y s l t e f =
-      let n : x + y ≡ s + sumTo (h + 1) (hourEnergy part cells mask) =
-      ap₂ _+_ e f ∙ add-assoc s _ _ ∙ ap (λ (z : ℕ). s + z) (sym (sum-more h (hourEnergy part cells mask))) in
-      let b : sumTo (h + 1) (hourEnergy part cells mask) ≤ (h + 1) * 107374182400000 =
-      sum-bound (h + 1) (hourEnergy part cells mask) 107374182400000 (λ k q. hour-small k (omega arith)) in
-      (n, omega arith)
-
 -- ---- the sums of a party-day
 
--- one turn of a loop that sums
-pub sum-turn : (j x y b : ℕ) (f : ℕ → ℕ) → ((k : ℕ) → k < j + 1 → f k ≤ b) → x ≡ sumTo j f → y ≡ f j
-    → (x + y ≡ sumTo (j + 1) f) × (x + y ≤ (j + 1) * b)
-sum-turn j x y b f small e g =
-    let n : x + y ≡ sumTo (j + 1) f = ap₂ _+_ e g ∙ sym (sum-more j f) in
-    (n, rw n (sum-bound (j + 1) f b small))
+-- an event that event i leads is of its run; for kind 3 its amounts are small
+led-run : (events leaders : List ℕ) (i j : ℕ) → Sound events leaders → j < length events / eventWidth → getD leaders j 0 ≡ i
+    → sameRun (eventsIn events) i j ≡ true
+led-run events leaders i j s l e = subst (λ (x : ℕ). sameRun (eventsIn events) x j ≡ true) e (s .led j l)
 
--- what event j adds to each sum
-pub shares : (d : PartyDay) (events leaders : List ℕ) (mask i j : ℕ) → d ≡ partyShare events leaders mask i j
-    → (d .gain ≡ ledBy leaders i (energyAt (positivePart 32) events mask) j)
-    × (d .loss ≡ ledBy leaders i (energyAt (negativePart 32) events mask) j)
-    × (d .rise ≡ ledBy leaders i (tccAt (positivePart 32) events) j)
-    × (d .fall ≡ ledBy leaders i (tccAt (negativePart 32) events) j)
-unfolding partyShare
-shares d events leaders mask i j e =
-    (ap (λ (x : PartyDay). x .gain) e, ap (λ (x : PartyDay). x .loss) e, ap (λ (x : PartyDay). x .rise) e, ap (λ (x : PartyDay). x .fall) e)
-
--- an event that event i leads is of kind 3, and its amounts are small
 pub led-amounts : (events leaders : List ℕ) (i j : ℕ) → eventsIn events .kind i ≡ 3 → Sound events leaders → j < length events / eventWidth
     → getD leaders j 0 ≡ i → SmallAmounts (cellsIn events j)
-led-amounts events leaders i j k s l e =
-    let three : eventsIn events .kind j ≡ 3 = sym (s .kinds j l) ∙ ap (λ (x : ℕ). eventsIn events .kind x) e ∙ k in
-    s .fuel j l three
+led-amounts events leaders i j k s l e = s .fuel j l (run-fields (eventsIn events) i j (led-run events leaders i j s l e) .kind ∙ k)
 
 module _ (part : ℕ → ℕ) (q : Part part) (events leaders : List ℕ) (mask i : ℕ) (k : eventsIn events .kind i ≡ 3) (s : Sound events leaders) where
-  pub energy-led : (j : ℕ) → j < length events / eventWidth → ledBy leaders i (energyAt part events mask) j ≤ 3000000000000000
+  pub energy-led : (j : ℕ) → j < length events / eventWidth → ledBy leaders i (energyAt part events mask) j ≤ eventEnergies
   unfolding ledBy
   energy-led j l =
       cond-bound (eqb (getD leaders j 0) i)
       (λ t. energy-small part q (cellsIn events j) mask (led-amounts events leaders i j k s l (eqb→eq (getD leaders j 0) i t)) _)
       (λ _. zero-le)
 
-  pub tcc-led : (j : ℕ) → j < length events / eventWidth → ledBy leaders i (tccAt part events) j ≤ 2147483648
+  pub tcc-led : (j : ℕ) → j < length events / eventWidth → ledBy leaders i (tccAt part events) j ≤ highestPart
   unfolding ledBy
   tcc-led j l = cond-bound (eqb (getD leaders j 0) i) (λ _. q .small _) (λ _. zero-le)
 
--- no event before event i has it as its leader
-pub none-before : (events leaders : List ℕ) (i : ℕ) (figure : ℕ → ℕ) → i < length events / eventWidth → Sound events leaders
-    → 0 ≡ sumTo i (ledBy leaders i figure)
-unfolding ledBy
-none-before events leaders i figure l s =
-    let z : sumTo i (ledBy leaders i figure) ≤ i * 0 =
-    sum-bound i (ledBy leaders i figure) 0 (λ j m. none j m) in
-    omega arith
-  where
-    none : (j : ℕ) → j < i → ledBy leaders i figure j ≤ 0
-    none j m =
-        cond-bound (eqb (getD leaders j 0) i)
-        (λ t. let e = eqb→eq (getD leaders j 0) i t in let b = s .before j (omega arith) in absurd (let z : ⊥ = omega arith in z))
-        (λ _. zero-le)
+-- figures that are 0 from m on
+sum-rest : (m n : ℕ) (f : ℕ → ℕ) → m ≤ n → ((j : ℕ) → m ≤ j → j < n → f j ≡ 0) → sumTo m f ≡ sumTo n f
+unfolding sumTo
+sum-rest m zero f l z = let e : m ≡ 0 = omega arith in rw e
+sum-rest m (suc n) f l z =
+    ⊎-elim
+    (λ (e : m ≡ suc n). rw e)
+    (λ (q : m < suc n).
+    let a : sumTo m f ≡ sumTo n f = sum-rest m n f (omega arith) (λ j b c. z j b (omega arith)) in
+    let b : f n ≡ 0 = z n (omega arith) (omega arith) in
+    omega arith)
+    (eq-or-lt-of-le l)
+
+module _ (events leaders : List ℕ) (i : ℕ) (s : Sound events leaders) (figure : ℕ → ℕ) where
+  none-led : (m n : ℕ) → m ≤ n → ((j : ℕ) → m ≤ j → j < n → getD leaders j 0 ≡ i → ⊥)
+      → sumTo m (ledBy leaders i figure) ≡ sumTo n (ledBy leaders i figure)
+  unfolding ledBy
+  none-led m n l others = sum-rest m n _ l (λ j a b. rw (ne-eqb _ _ (others j a b)))
+
+  -- event i leads none before it, and none from its run's end on
+  before-run : i < length events / eventWidth → 0 ≡ sumTo i (ledBy leaders i figure)
+  before-run l = sum-none _ ∙ none-led 0 i zero-le (λ j a b e. let q = s .before j (omega arith) in omega arith)
+
+  after-run : (end : ℕ) → RunEnd (eventsIn events) i end
+      → sumTo end (ledBy leaders i figure) ≡ sumTo (length events / eventWidth) (ledBy leaders i figure)
+  unfolding eventsIn
+  after-run end r =
+      none-led end (length events / eventWidth) (r .within)
+      (λ j a b e. clash (sameRun (eventsIn events) i j) (led-run events leaders i j s b e) (r .rest j a b))
 
 pub after-small : (prior : Bool) → fuelMultiplierAfter prior ≤ 3
 unfolding fuelMultiplierAfter
 after-small prior = cond-bound prior (λ _. omega arith) (λ _. omega arith)
 
 -- the sums are small enough for the penalty
-pub record SmallDay (gain loss rise fall : ℕ) : Type 0 where
-  pub gain-small : gain ≤ 1000000000000000000
-  pub loss-small : loss ≤ 1000000000000000000
-  pub tcc-small : rise - fall ≤ 100000000000000000
+pub record SmallDay (d : PartyDay) : Type 0 where
+  pub gain-small : d .gain ≤ 1000000000000000000
+  pub loss-small : d .loss ≤ 1000000000000000000
+  pub rise-small : d .rise ≤ 100000000000000000
+  pub fall-small : d .fall ≤ 100000000000000000
 
-pub day-small : (events leaders : List ℕ) (mask i : ℕ) → eventsIn events .kind i ≡ 3 → Sound events leaders → length events / eventWidth ≤ 200
-    → let d = partyDay events leaders mask i (length events / eventWidth) in SmallDay (d .gain) (d .loss) (d .rise) (d .fall)
-unfolding partyDay
-day-small events leaders mask i k s few =
-    let n = length events / eventWidth in
-    let g = sum-bound n _ 3000000000000000 (energy-led (positivePart 32) positive-part events leaders mask i k s) in
-    let l = sum-bound n _ 3000000000000000 (energy-led (negativePart 32) negative-part events leaders mask i k s) in
-    let r = sum-bound n _ 2147483648 (tcc-led (positivePart 32) positive-part events leaders mask i k s) in
-    let d = sub-le (sumTo n (ledBy leaders i (tccAt (positivePart 32) events))) (sumTo n (ledBy leaders i (tccAt (negativePart 32) events))) in
-    record { gain-small = omega arith; loss-small = omega arith; tcc-small = omega arith }
+-- one turn of the loop over the events of a party-day
+abbrev pub plus : PartyDay → PartyDay → PartyDay
+plus d s = record { gain = d .gain + s .gain; loss = d .loss + s .loss; rise = d .rise + s .rise; fall = d .fall + s .fall }
+
+module _ (events leaders : List ℕ) (mask i : ℕ) (k : eventsIn events .kind i ≡ 3) (s : Sound events leaders) where
+  pub day-none : i < length events / eventWidth → record { gain = 0; loss = 0; rise = 0; fall = 0 } ≡ partyDay events leaders mask i i
+  unfolding partyDay
+  day-none l =
+      rw (
+        ← before-run events leaders i s (energyAt (positivePart 32) events mask) l,
+        ← before-run events leaders i s (energyAt (negativePart 32) events mask) l,
+        ← before-run events leaders i s (tccAt (positivePart 32) events) l,
+        ← before-run events leaders i s (tccAt (negativePart 32) events) l,
+      )
+
+  pub day-whole : (end : ℕ) → RunEnd (eventsIn events) i end
+      → partyDay events leaders mask i end ≡ partyDay events leaders mask i (length events / eventWidth)
+  unfolding partyDay
+  day-whole end r =
+      rw (
+        after-run events leaders i s (energyAt (positivePart 32) events mask) end r,
+        after-run events leaders i s (energyAt (negativePart 32) events mask) end r,
+        after-run events leaders i s (tccAt (positivePart 32) events) end r,
+        after-run events leaders i s (tccAt (negativePart 32) events) end r,
+      )
+
+  pub day-more : (j : ℕ) (d x : PartyDay) → d ≡ partyDay events leaders mask i j → x ≡ partyShare events leaders mask i j
+      → plus d x ≡ partyDay events leaders mask i (j + 1)
+  unfolding partyDay partyShare
+  day-more j d x e f = rw (e, f) (simp sum-more)
+
+  pub day-small : (n : ℕ) → n ≤ length events / eventWidth → n ≤ mostEvents → SmallDay (partyDay events leaders mask i n)
+  unfolding partyDay
+  day-small n l few =
+      let g = sum-bound n _ eventEnergies (λ j m. energy-led (positivePart 32) positive-part events leaders mask i k s j (omega arith)) in
+      let b = sum-bound n _ eventEnergies (λ j m. energy-led (negativePart 32) negative-part events leaders mask i k s j (omega arith)) in
+      let u = sum-bound n _ highestPart (λ j m. tcc-led (positivePart 32) positive-part events leaders mask i k s j (omega arith)) in
+      let d = sum-bound n _ highestPart (λ j m. tcc-led (negativePart 32) negative-part events leaders mask i k s j (omega arith)) in
+      record { gain-small = omega arith; loss-small = omega arith; rise-small = omega arith; fall-small = omega arith }

@@ -1,26 +1,23 @@
 -- A prior fuel penalty is looked for on the rows before the event. Days rise, so that the rows from it on hold none that counts:
 -- M is that of the whole file.
 use Prim.Native.Nat.{ℕ, zero, suc, _+_, _-_, _≤_, _<_}
-use mathlib.Core.Bool.{Bool, true, false, _&&_, and-false, or-false}
+use mathlib.Core.Bool.{false, _&&_, and-false, or-false}
 use mathlib.Core.List.{List}
 use mathlib.Core.Logic.{⊎-elim}
 use mathlib.Core.Path.{_≡_, refl, sym, _∙_, ap}
 use native.Mathlib.Nat.{add-zero, add-suc, le-refl, eq-or-lt-of-le}
 use native.Mathlib.Omega.{arith}
-use lib.Dec.{eqb, ltb}
-use lib.ListN.{getD, take, drop, length-take, List·getD-eq-default}
-use borrow.Author.Tests.{le-ltb, ltb-true, ltb-false}
+use lib.Dec.{eqb}
+use borrow.Author.Tests.{le-ltb}
 use Rattle.binary.specs.Bounded.{anyTo}
 use Rattle.binary.specs.Lists.{Bytes}
-use Rattle.binary.proofs.ByteLaws.{stretch-byte}
 use Rattle.tariff.specs.SanctionRules.{fuelDayCounts}
-use Rattle.casefile.specs.Layout.{eventWidth}
 use Rattle.casefile.specs.Case.{Case}
-use Rattle.casefile.specs.Decode.{offsetOf, lengthOf, sectionOf, eventsIn, caseIn, decode}
+use Rattle.casefile.specs.Decode.{decode}
 use Rattle.casefile.specs.Lookup.{groupOf}
 use Rattle.casefile.specs.Refusal.{refusal}
 use Rattle.casefile.proofs.AcceptedLaws as case
-use Rattle.conduct.proofs.PartyLaws.{record-value-lt}
+use Rattle.casefile.proofs.RunLaws.{unit-lt}
 use Rattle.sanctions.specs.Penalties.{lowestUnit, fuelStands, priorFuel, fuelMultiplier, multiplier, countsFuelHere, fuelMultiplierHere, MultiplierByFile}
 use Rattle.sanctions.proofs.PriorLaws.{prior-rows}
 
@@ -47,23 +44,9 @@ whole-file c i g l rise =
 
 -- ---- an accepted case
 
-section-bytes : (f : List ℕ) (k : ℕ) → Bytes f → Bytes (sectionOf f k)
-unfolding sectionOf
-section-bytes f k b j = go (ltb j (lengthOf f k)) refl
-  where
-    go : (t : Bool) → ltb j (lengthOf f k) ≡ t → getD (take (lengthOf f k) (drop (offsetOf f k) f)) j 0 < 256
-    go true e = rw (stretch-byte f (offsetOf f k) (lengthOf f k) j (ltb-true _ _ e)) (b (offsetOf f k + j))
-    go false e =
-        let l = ltb-false j (lengthOf f k) e in
-        rw (List·getD-eq-default (take (lengthOf f k) (drop (offsetOf f k) f)) 0 {n = j} (rw length-take (omega arith))) (omega arith)
-
 module _ (f k : List ℕ) (n : ℕ) (b : Bytes f) (h : refusal f k n ≡ 0) where
-  unit-lt : (j : ℕ) → decode f .events .unit j < 65536
-  unfolding decode caseIn eventsIn
-  unit-lt j = record-value-lt 2 eventWidth (sectionOf f 3) j 2 (section-bytes f 3 b) (omega arith)
-
   days-rise : (i j : ℕ) → i ≤ j → j < decode f .events .count → decode f .events .day i ≤ decode f .events .day j
-  days-rise i j l m = ⊎-elim (λ e. rw e (le-refl _)) (λ lt. case.days-in-order f k n h i j lt m (unit-lt j)) (eq-or-lt-of-le l)
+  days-rise i j l m = ⊎-elim (λ e. rw e (le-refl _)) (λ lt. case.days-in-order f k n h i j lt m (unit-lt f k n b h j)) (eq-or-lt-of-le l)
 
   by-rows : (i g : ℕ) → i < decode f .events .count
       → priorFuel (decode f) i (decode f .events .day i) g

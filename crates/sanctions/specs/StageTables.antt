@@ -1,5 +1,5 @@
 -- The figures of a row as the code finds them: in the bytes of past and events, in the tables that earlier stages have
--- filled (groups, leaders, masks), and in the rows before it (N3, penalties).
+-- filled (groups, leaders, masks), and in the penalties of the rows before it.
 use Prim.Native.Nat.{ℕ, _+_, _-_, _*_, _/_}
 use mathlib.Core.Bool.{Bool, cond, _&&_, _||_}
 use mathlib.Core.List.{List}
@@ -9,10 +9,11 @@ use Rattle.binary.specs.Bounded.{sumTo, countTo, anyTo, bitOf}
 use Rattle.binary.specs.Word.{positivePart, negativePart}
 use Rattle.tariff.specs.SanctionRules.{periodCounts, ladder, withheldPenalty, dispatchPenalty, fuelDayCounts, fuelPenalty}
 use Rattle.casefile.specs.Layout.{eventWidth, pastWidth, mostHours}
+use Rattle.casefile.specs.Case.{Case}
 use Rattle.casefile.specs.Decode.{pastIn, eventsIn}
 use Rattle.casefile.specs.StageRead.{cellOf}
 use Rattle.conduct.specs.StageFlags.{cellsIn}
-use Rattle.sanctions.specs.Penalties.{countsFuel, fuelMultiplierAfter}
+use Rattle.sanctions.specs.Penalties.{countsFuel, fuelMultiplierAfter, multiplier, N3, N2, penalty}
 use Rattle.sanctions.specs.declared.instances.Instances.{Instances}
 use Rattle.sanctions.specs.declared.fuel.Energy.{Energy}
 use Rattle.sanctions.specs.declared.fuel.PartyDay.{PartyDay}
@@ -30,15 +31,23 @@ hourRevenue cells mask h = cond (bitOf mask h) (cellOf cells h .b) 0
 
 -- ---- Withheld
 
--- row j is an instance (its N3 is above 0) of this group and market
-unfoldable pub instanceOf : (events groups n3 : List ℕ) (group market j : ℕ) → Bool
-instanceOf events groups n3 group market j =
-    ltb 0 (getD n3 j 0) && eqb (getD groups j 0) group && eqb (eventsIn events .market j) market
+-- impact 1 and a flagged hour
+unfoldable pub withImpact : (events masks : List ℕ) (i : ℕ) → Bool
+withImpact events masks i = eqb (eventsIn events .impact i) 1 && ltb 0 (getD masks i 0)
+
+-- event j is an instance
+unfoldable pub instanceAt : (events masks : List ℕ) (j : ℕ) → Bool
+instanceAt events masks j = eqb (eventsIn events .kind j) 1 && withImpact events masks j
+
+-- and of this group and market
+unfoldable pub instanceOf : (events groups masks : List ℕ) (group market j : ℕ) → Bool
+instanceOf events groups masks group market j =
+    instanceAt events masks j && eqb (getD groups j 0) group && eqb (eventsIn events .market j) market
 
 -- and its period is the own one or one of the k before
-unfoldable pub rowCounts : (events groups n3 : List ℕ) (group market period k j : ℕ) → Bool
-rowCounts events groups n3 group market period k j =
-    instanceOf events groups n3 group market j && periodCounts k period (eventsIn events .period j)
+unfoldable pub rowCounts : (events groups masks : List ℕ) (group market period k j : ℕ) → Bool
+rowCounts events groups masks group market period k j =
+    instanceOf events groups masks group market j && periodCounts k period (eventsIn events .period j)
 
 -- past entry j is of kind 1, and of this group and market
 unfoldable pub entryOf : (past : List ℕ) (group market j : ℕ) → Bool
@@ -50,11 +59,11 @@ entryCounts past group market period k j =
     entryOf past group market j && periodCounts k period (pastIn past .entry j .period)
 
 -- the instances on the first i rows
-unfoldable pub instancesHere : (events groups n3 : List ℕ) (group market period i : ℕ) → Instances
-instancesHere events groups n3 group market period i =
+unfoldable pub instancesHere : (events groups masks : List ℕ) (group market period i : ℕ) → Instances
+instancesHere events groups masks group market period i =
     record {
-      n3 = countTo i (rowCounts events groups n3 group market period 2);
-      n2 = countTo i (rowCounts events groups n3 group market period 1);
+      n3 = countTo i (rowCounts events groups masks group market period 2);
+      n2 = countTo i (rowCounts events groups masks group market period 1);
     }
 
 -- the past entries
@@ -65,38 +74,35 @@ instancesPast past group market period =
       n2 = countTo (length past / pastWidth) (entryCounts past group market period 1);
     }
 
--- N3 and N2 of row i, where it is an instance: 1 plus both
-unfoldable pub instancesAt : (past events groups n3 : List ℕ) (i : ℕ) → Instances
-instancesAt past events groups n3 i =
-    onePlus (instancesHere events groups n3 (getD groups i 0) (eventsIn events .market i) (eventsIn events .period i) i)
-    (instancesPast past (getD groups i 0) (eventsIn events .market i) (eventsIn events .period i))
+-- N3 and N2 of row i: 1 plus both where it is an instance, else 0
+unfoldable pub instancesAt : (past events groups masks : List ℕ) (i : ℕ) → Instances
+instancesAt past events groups masks i =
+    cond (instanceAt events masks i)
+    (onePlus (instancesHere events groups masks (getD groups i 0) (eventsIn events .market i) (eventsIn events .period i) i)
+    (instancesPast past (getD groups i 0) (eventsIn events .market i) (eventsIn events .period i)))
+    (record { n3 = 0; n2 = 0 })
   where
     onePlus : Instances → Instances → Instances
     onePlus here outside = record { n3 = 1 + here .n3 + outside .n3; n2 = 1 + here .n2 + outside .n2 }
 
--- impact 1 and a flagged hour
-unfoldable pub withImpact : (events masks : List ℕ) (i : ℕ) → Bool
-withImpact events masks i = eqb (eventsIn events .impact i) 1 && ltb 0 (getD masks i 0)
-
 unfoldable pub noSanction : Sanction
 noSanction = record { multiplier = 0; n3 = 0; n2 = 0; penalty = 0 }
 
--- the row of an instance
+-- the row of an event with those N3 and N2; no instance has N3 0
 unfoldable pub instanceRow : Instances → (amount : ℕ) → Sanction
 instanceRow x amount =
-    record {
+    cond (eqb (x .n3) 0) noSanction
+    (record {
       multiplier = ladder (x .n3) (x .n2);
       n3 = x .n3;
       n2 = x .n2;
       penalty = withheldPenalty (ladder (x .n3) (x .n2)) amount;
-    }
+    })
 
-unfoldable pub withheldRow : (past events groups masks n3 : List ℕ) (i : ℕ) → Sanction
-withheldRow past events groups masks n3 i =
-    cond (withImpact events masks i)
-    (instanceRow (instancesAt past events groups n3 i)
-    (sumTo mostHours (hourEnergy (positivePart 32) (cellsIn events i) (getD masks i 0))))
-    noSanction
+unfoldable pub withheldRow : (past events groups masks : List ℕ) (i : ℕ) → Sanction
+withheldRow past events groups masks i =
+    instanceRow (instancesAt past events groups masks i)
+    (sumTo mostHours (hourEnergy (positivePart 32) (cellsIn events i) (getD masks i 0)))
 
 -- ---- Dispatch
 
@@ -182,9 +188,13 @@ fuelRow past events groups leaders masks penalties i =
 
 -- ---- every kind
 
-unfoldable pub rowAt : (past events groups leaders masks n3 penalties : List ℕ) (i : ℕ) → Sanction
-rowAt past events groups leaders masks n3 penalties i =
-    cond (eqb (eventsIn events .kind i) 1) (withheldRow past events groups masks n3 i)
+unfoldable pub rowAt : (past events groups leaders masks penalties : List ℕ) (i : ℕ) → Sanction
+rowAt past events groups leaders masks penalties i =
+    cond (eqb (eventsIn events .kind i) 1) (withheldRow past events groups masks i)
     (cond (eqb (eventsIn events .kind i) 2) (dispatchRow events masks i)
     (cond (eqb (eventsIn events .kind i) 3 && eqb (getD leaders i 0) i) (fuelRow past events groups leaders masks penalties i)
     noSanction))
+
+-- what the definitions say of row i
+abbrev pub sanctionOf : Case → ℕ → Sanction
+sanctionOf c i = record { multiplier = multiplier c i; n3 = N3 c i; n2 = N2 c i; penalty = penalty c i }

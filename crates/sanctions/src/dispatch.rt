@@ -3,7 +3,7 @@ ghost use mathlib.Core.Path.{_≡_};
 ghost use Prim.Native.Nat.{_*_, _/_, _≤_, _<_};
 ghost use lib.ListN.{length};
 ghost use Rattle.binary.specs.Bounded.{sumTo};
-ghost use Rattle.casefile.specs.Layout.{mostHours, cellWidth, eventWidth};
+ghost use Rattle.casefile.specs.Layout.{mostHours, cellWidth, eventWidth, mostEvents};
 ghost use Rattle.sanctions.specs.StageTables.{hourRevenue, dispatchRow};
 use crate::instances::with_impact;
 use crate::sanction::Sanction;
@@ -40,8 +40,8 @@ fn revenue(cells: &[u8], mask: u32) -> u64
 }
 
 // Multiplier 3 and the penalty, with impact 1 and a flag; else both 0.
-pub fn dispatch(events: &[u8], masks: &[u32], i: usize) -> Sanction
-    requires { ⌜ (i < length (now events) / eventWidth) × (i < length (now masks)) ⌝ }
+pub fn dispatch(events: &[u8], masks: &[u32; layout::MOST_EVENTS], i: usize) -> Sanction
+    requires { ⌜ (i < length (now events) / eventWidth) × (i < mostEvents) ⌝ }
     ensures { λ r. ⌜ r ≡ dispatchRow (now (events .entry)) (now (masks .entry)) i ⌝ }
 {
     if !with_impact(events, masks, i) {

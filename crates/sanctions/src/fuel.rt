@@ -23,6 +23,7 @@ use binary::words::positive_part;
 use casefile::cells::cell_at;
 use casefile::layout;
 use casefile::records::record_at;
+use conduct::parties::run_end;
 use conduct::sums::cells_of;
 use tariff::sanction_rules::fuel_day_counts;
 use tariff::sanction_rules::fuel_penalty;
@@ -73,8 +74,14 @@ fn event_energy(q: u32, cells: &[u8], mask: u32) -> Energy
 }
 
 // What event j adds to the party-day that event i leads.
-fn party_share(events: &[u8], leaders: &[usize], mask: u32, i: usize, j: usize) -> PartyDay
-    requires { ⌜ (j < length (now events) / eventWidth) × (j < length (now leaders)) × (eventsIn (now events) .kind i ≡ 3) × Sound (now events) (now leaders) ⌝ }
+fn party_share(
+    events: &[u8],
+    leaders: &[usize; layout::MOST_EVENTS],
+    mask: u32,
+    i: usize,
+    j: usize,
+) -> PartyDay
+    requires { ⌜ (j < length (now events) / eventWidth) × (j < mostEvents) × (eventsIn (now events) .kind i ≡ 3) × Sound (now events) (now leaders) ⌝ }
     ensures { λ r. ⌜ r ≡ partyShare (now (events .entry)) (now (leaders .entry)) mask i j ⌝ }
 {
     if leaders[j] != i {
@@ -100,18 +107,18 @@ fn party_share(events: &[u8], leaders: &[usize], mask: u32, i: usize, j: usize) 
     }
 }
 
-// The sums of the party-day that event i leads; no event before it is of that party-day.
-fn party_day(events: &[u8], leaders: &[usize], mask: u32, i: usize) -> PartyDay
-    requires { ⌜ (i < length (now events) / eventWidth) × (length (now events) / eventWidth ≤ length (now leaders)) × (length (now events) / eventWidth ≤ mostEvents) × (eventsIn (now events) .kind i ≡ 3) × Sound (now events) (now leaders) ⌝ }
+// The sums of the party-day that event i leads: no event before it is of that party-day, and none from its run's end on.
+fn party_day(events: &[u8], leaders: &[usize; layout::MOST_EVENTS], mask: u32, i: usize) -> PartyDay
+    requires { ⌜ (i < length (now events) / eventWidth) × (length (now events) / eventWidth ≤ mostEvents) × (eventsIn (now events) .kind i ≡ 3) × Sound (now events) (now leaders) ⌝ }
     ensures { λ r. ⌜ r ≡ partyDay (now (events .entry)) (now (leaders .entry)) mask i (length (now (events .entry)) / eventWidth) ⌝ }
 {
-    let n = events.len() / layout::EVENT_WIDTH;
+    let end = run_end(events, i);
     let mut gain: u64 = 0;
     let mut loss: u64 = 0;
     let mut rise: u64 = 0;
     let mut fall: u64 = 0;
     let mut j = i;
-    while j < n {
+    while j < end {
         let share = party_share(events, leaders, mask, i, j);
         gain += share.gain;
         loss += share.loss;
@@ -130,13 +137,13 @@ fn party_day(events: &[u8], leaders: &[usize], mask: u32, i: usize) -> PartyDay
 // Whether row j has a fuel penalty above 0 of a group, 1 to 183 days before a day.
 fn is_prior(
     events: &[u8],
-    groups: &[u16],
-    penalties: &[u64],
+    groups: &[u16; layout::MOST_EVENTS],
+    penalties: &[u64; layout::MOST_EVENTS],
     day: u32,
     group: u16,
     j: usize,
 ) -> bool
-    requires { ⌜ (j < length (now events) / eventWidth) × (j < length (now groups)) × (j < length (now penalties)) ⌝ }
+    requires { ⌜ (j < length (now events) / eventWidth) × (j < mostEvents) ⌝ }
     ensures { λ r. ⌜ r ≡ fuelRowCounts (now (events .entry)) (now (groups .entry)) (now (penalties .entry)) day group j ⌝ }
 {
     let event = record_at(events, j, layout::EVENT_WIDTH);
@@ -148,13 +155,13 @@ fn is_prior(
 // Whether one of the first i rows has such a penalty.
 fn prior_here(
     events: &[u8],
-    groups: &[u16],
-    penalties: &[u64],
+    groups: &[u16; layout::MOST_EVENTS],
+    penalties: &[u64; layout::MOST_EVENTS],
     day: u32,
     group: u16,
     i: usize,
 ) -> bool
-    requires { ⌜ (i ≤ length (now events) / eventWidth) × (i ≤ length (now groups)) × (i ≤ length (now penalties)) ⌝ }
+    requires { ⌜ (i ≤ length (now events) / eventWidth) × (i ≤ mostEvents) ⌝ }
     ensures { λ r. ⌜ r ≡ anyTo i (fuelRowCounts (now (events .entry)) (now (groups .entry)) (now (penalties .entry)) day group) ⌝ }
 {
     let mut any = false;
@@ -202,13 +209,13 @@ fn multiplier_after(prior: bool) -> u8
 pub fn fuel(
     past: &[u8],
     events: &[u8],
-    groups: &[u16],
-    leaders: &[usize],
-    masks: &[u32],
-    penalties: &[u64],
+    groups: &[u16; layout::MOST_EVENTS],
+    leaders: &[usize; layout::MOST_EVENTS],
+    masks: &[u32; layout::MOST_EVENTS],
+    penalties: &[u64; layout::MOST_EVENTS],
     i: usize,
 ) -> Sanction
-    requires { ⌜ (i < length (now events) / eventWidth) × (length (now events) / eventWidth ≤ mostEvents) × (i < length (now groups)) × (length (now events) / eventWidth ≤ length (now leaders)) × (i < length (now masks)) × (i ≤ length (now penalties)) × (eventsIn (now events) .kind i ≡ 3) × Sound (now events) (now leaders) ⌝ }
+    requires { ⌜ (i < length (now events) / eventWidth) × (length (now events) / eventWidth ≤ mostEvents) × (eventsIn (now events) .kind i ≡ 3) × Sound (now events) (now leaders) ⌝ }
     ensures { λ r. ⌜ r ≡ fuelRow (now (past .entry)) (now (events .entry)) (now (groups .entry)) (now (leaders .entry)) (now (masks .entry)) (now (penalties .entry)) i ⌝ }
 {
     let event = record_at(events, i, layout::EVENT_WIDTH);

@@ -1,11 +1,11 @@
-// Instances: a withheld event with impact 1 and a flagged hour. A row that is one has an N3 above 0.
+// Instances: a withheld event with impact 1 and a flagged hour.
 ghost use mathlib.Core.Path.{_≡_};
 ghost use mathlib.Core.Bool.{cond};
 ghost use Prim.Native.Nat.{_/_, _≤_, _<_};
 ghost use lib.ListN.{length};
-ghost use Rattle.casefile.specs.Layout.{eventWidth, mostEvents, pastWidth};
+ghost use Rattle.casefile.specs.Layout.{eventWidth, mostEvents, pastWidth, mostPast};
 ghost use Rattle.casefile.specs.Decode.{pastIn, eventsIn};
-ghost use Rattle.sanctions.specs.StageTables.{instanceOf, entryOf, instancesHere, instancesPast, instancesAt, withImpact};
+ghost use Rattle.sanctions.specs.StageTables.{withImpact, instanceAt, instanceOf, entryOf, instancesHere, instancesPast, instancesAt};
 use binary::bytes::load_u8;
 use binary::bytes::load_u16;
 use casefile::layout;
@@ -19,14 +19,14 @@ pub struct Instances {
 }
 
 fn one_where(counts: bool) -> u16
-    ensures { λ r. ⌜ r ≡ cond counts 1 0 ⌝ }
+    ensures { λ r. ⌜ (r ≡ cond counts 1 0) × (r ≤ 1) ⌝ }
 {
     if counts { 1 } else { 0 }
 }
 
 // Whether event i has impact 1 and a flagged hour.
-pub fn with_impact(events: &[u8], masks: &[u32], i: usize) -> bool
-    requires { ⌜ (i < length (now events) / eventWidth) × (i < length (now masks)) ⌝ }
+pub fn with_impact(events: &[u8], masks: &[u32; layout::MOST_EVENTS], i: usize) -> bool
+    requires { ⌜ (i < length (now events) / eventWidth) × (i < mostEvents) ⌝ }
     ensures { λ r. ⌜ r ≡ withImpact (now (events .entry)) (now (masks .entry)) i ⌝ }
 {
     let event = record_at(events, i, layout::EVENT_WIDTH);
@@ -34,14 +34,32 @@ pub fn with_impact(events: &[u8], masks: &[u32], i: usize) -> bool
     (impact == 1) & (0 < masks[i])
 }
 
-// Whether row j is an instance of a group and market.
-fn is_instance(events: &[u8], groups: &[u16], n3: &[u16], group: u16, market: u8, j: usize) -> bool
-    requires { ⌜ (j < length (now events) / eventWidth) × (j < length (now groups)) × (j < length (now n3)) ⌝ }
-    ensures { λ r. ⌜ r ≡ instanceOf (now (events .entry)) (now (groups .entry)) (now (n3 .entry)) group market j ⌝ }
+// Whether event j is an instance.
+fn is_instance(events: &[u8], masks: &[u32; layout::MOST_EVENTS], j: usize) -> bool
+    requires { ⌜ (j < length (now events) / eventWidth) × (j < mostEvents) ⌝ }
+    ensures { λ r. ⌜ r ≡ instanceAt (now (events .entry)) (now (masks .entry)) j ⌝ }
+{
+    let event = record_at(events, j, layout::EVENT_WIDTH);
+    let kind = load_u8(event, 0);
+    (kind == 1) & with_impact(events, masks, j)
+}
+
+// Whether event j is an instance of a group and market.
+fn is_instance_of(
+    events: &[u8],
+    groups: &[u16; layout::MOST_EVENTS],
+    masks: &[u32; layout::MOST_EVENTS],
+    group: u16,
+    market: u8,
+    j: usize,
+) -> bool
+    requires { ⌜ (j < length (now events) / eventWidth) × (j < mostEvents) ⌝ }
+    ensures { λ r. ⌜ r ≡ instanceOf (now (events .entry)) (now (groups .entry)) (now (masks .entry)) group market j ⌝ }
 {
     let event = record_at(events, j, layout::EVENT_WIDTH);
     let its_market = load_u8(event, 1);
-    (0 < n3[j]) & (groups[j] == group) & (its_market == market)
+    let instance = is_instance(events, masks, j);
+    instance & (groups[j] == group) & (its_market == market)
 }
 
 fn period_of(events: &[u8], j: usize) -> u16
@@ -55,21 +73,21 @@ fn period_of(events: &[u8], j: usize) -> u16
 // The instances on the first i rows.
 fn instances_here(
     events: &[u8],
-    groups: &[u16],
-    n3: &[u16],
+    groups: &[u16; layout::MOST_EVENTS],
+    masks: &[u32; layout::MOST_EVENTS],
     group: u16,
     market: u8,
     period: u16,
     i: usize,
 ) -> Instances
-    requires { ⌜ (i ≤ length (now events) / eventWidth) × (i ≤ length (now groups)) × (i ≤ length (now n3)) × (i ≤ mostEvents) ⌝ }
-    ensures { λ r. ⌜ r ≡ instancesHere (now (events .entry)) (now (groups .entry)) (now (n3 .entry)) group market period i ⌝ }
+    requires { ⌜ (i ≤ length (now events) / eventWidth) × (i ≤ mostEvents) ⌝ }
+    ensures { λ r. ⌜ r ≡ instancesHere (now (events .entry)) (now (groups .entry)) (now (masks .entry)) group market period i ⌝ }
 {
     let mut three: u16 = 0;
     let mut two: u16 = 0;
     let mut j = 0;
     while j < i {
-        let same = is_instance(events, groups, n3, group, market, j);
+        let same = is_instance_of(events, groups, masks, group, market, j);
         let its_period = period_of(events, j);
         three += one_where(same & period_counts(2, period, its_period));
         two += one_where(same & period_counts(1, period, its_period));
@@ -100,7 +118,7 @@ fn entry_period(past: &[u8], j: usize) -> u16
 
 // The past entries that count as instances.
 fn instances_past(past: &[u8], group: u16, market: u8, period: u16) -> Instances
-    requires { ⌜ length (now past) / pastWidth ≤ 256 ⌝ }
+    requires { ⌜ length (now past) / pastWidth ≤ mostPast ⌝ }
     ensures { λ r. ⌜ r ≡ instancesPast (now (past .entry)) group market period ⌝ }
 {
     let n = past.len() / layout::PAST_WIDTH;
@@ -117,16 +135,25 @@ fn instances_past(past: &[u8], group: u16, market: u8, period: u16) -> Instances
     Instances { n3: three, n2: two }
 }
 
-// N3 and N2 of an instance: 1 plus the rows before it and the past entries that count.
-pub fn instances_at(past: &[u8], events: &[u8], groups: &[u16], n3: &[u16], i: usize) -> Instances
-    requires { ⌜ (i < length (now events) / eventWidth) × (i < length (now groups)) × (i ≤ length (now n3)) × (i ≤ mostEvents) × (length (now past) / pastWidth ≤ 256) ⌝ }
-    ensures { λ r. ⌜ r ≡ instancesAt (now (past .entry)) (now (events .entry)) (now (groups .entry)) (now (n3 .entry)) i ⌝ }
+// N3 and N2 of event i: 1 plus the rows before it and the past entries that count; both 0 where it is no instance.
+pub fn instances_at(
+    past: &[u8],
+    events: &[u8],
+    groups: &[u16; layout::MOST_EVENTS],
+    masks: &[u32; layout::MOST_EVENTS],
+    i: usize,
+) -> Instances
+    requires { ⌜ (i < length (now events) / eventWidth) × (i < mostEvents) × (length (now past) / pastWidth ≤ mostPast) ⌝ }
+    ensures { λ r. ⌜ r ≡ instancesAt (now (past .entry)) (now (events .entry)) (now (groups .entry)) (now (masks .entry)) i ⌝ }
 {
+    if !is_instance(events, masks, i) {
+        return Instances { n3: 0, n2: 0 };
+    }
     let event = record_at(events, i, layout::EVENT_WIDTH);
     let market = load_u8(event, 1);
     let period = load_u16(event, 4);
     let group = groups[i];
-    let here = instances_here(events, groups, n3, group, market, period, i);
+    let here = instances_here(events, groups, masks, group, market, period, i);
     let before = instances_past(past, group, market, period);
     Instances {
         n3: 1 + here.n3 + before.n3,

@@ -1,4 +1,4 @@
-// Multipliers and penalties of every event of a case.
+// Multipliers and penalties of the events of a case.
 pub mod dispatch;
 pub mod fuel;
 pub mod instances;

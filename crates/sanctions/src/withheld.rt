@@ -4,12 +4,11 @@ ghost use Prim.Native.Nat.{_*_, _/_, _≤_, _<_};
 ghost use lib.ListN.{length};
 ghost use Rattle.binary.specs.Bounded.{sumTo};
 ghost use Rattle.binary.specs.Word.{positivePart};
-ghost use Rattle.casefile.specs.Layout.{mostHours, cellWidth, eventWidth, pastWidth, mostEvents};
+ghost use Rattle.casefile.specs.Layout.{mostHours, cellWidth, eventWidth, pastWidth, mostPast, mostEvents};
 ghost use Rattle.conduct.specs.StageFlags.{cellsIn};
 ghost use Rattle.sanctions.specs.StageFound.{SmallAmounts};
 ghost use Rattle.sanctions.specs.StageTables.{hourEnergy, withheldRow};
 use crate::instances::instances_at;
-use crate::instances::with_impact;
 use crate::sanction::Sanction;
 use binary::masks::bit_of;
 use binary::numbers::choose_u64;
@@ -51,15 +50,17 @@ fn amount(cells: &[u8], mask: u32) -> u64
 pub fn withheld(
     past: &[u8],
     events: &[u8],
-    groups: &[u16],
-    masks: &[u32],
-    n3: &[u16],
+    groups: &[u16; layout::MOST_EVENTS],
+    masks: &[u32; layout::MOST_EVENTS],
     i: usize,
 ) -> Sanction
-    requires { ⌜ (i < length (now events) / eventWidth) × (i < length (now groups)) × (i < length (now masks)) × (i ≤ length (now n3)) × (i ≤ mostEvents) × (length (now past) / pastWidth ≤ 256) × SmallAmounts (cellsIn (now events) i) ⌝ }
-    ensures { λ r. ⌜ r ≡ withheldRow (now (past .entry)) (now (events .entry)) (now (groups .entry)) (now (masks .entry)) (now (n3 .entry)) i ⌝ }
+    requires { ⌜ (i < length (now events) / eventWidth) × (i < mostEvents) × (length (now past) / pastWidth ≤ mostPast) × SmallAmounts (cellsIn (now events) i) ⌝ }
+    ensures { λ r. ⌜ r ≡ withheldRow (now (past .entry)) (now (events .entry)) (now (groups .entry)) (now (masks .entry)) i ⌝ }
 {
-    if !with_impact(events, masks, i) {
+    let counts = instances_at(past, events, groups, masks, i);
+    let n3 = counts.n3;
+    let n2 = counts.n2;
+    if n3 == 0 {
         return Sanction {
             multiplier: 0,
             n3: 0,
@@ -67,14 +68,13 @@ pub fn withheld(
             penalty: 0,
         };
     }
-    let counts = instances_at(past, events, groups, n3, i);
-    let multiplier = ladder(counts.n3 as u32, counts.n2 as u32);
+    let multiplier = ladder(n3 as u32, n2 as u32);
     let cells = cells_of(events, i);
     let penalty = withheld_penalty(multiplier, amount(cells, masks[i]));
     Sanction {
         multiplier,
-        n3: counts.n3,
-        n2: counts.n2,
+        n3,
+        n2,
         penalty,
     }
 }

@@ -1,3 +1,4 @@
 pub mod RowLaws
 pub mod WriteLaws
+pub mod RowsLaws
 pub mod SettleLaws

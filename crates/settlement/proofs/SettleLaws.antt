@@ -1,25 +1,34 @@
 -- From the check's number to what the stages lean on, and from what they leave to the answer and the rows buffer.
-use Prim.Native.Nat.{ℕ, _/_}
+use Prim.Native.Nat.{ℕ, _*_, _<_}
 use mathlib.Core.Bool.{Bool, true, false, cond}
-use mathlib.Core.List.{List}
-use mathlib.Core.Path.{_≡_, refl, _∙_}
-use native.Mathlib.Omega.{arith}
+use mathlib.Core.List.{List, _++_}
+use mathlib.Core.Path.{_≡_, refl, ap, _∙_}
 use borrow.Author.Tests.{eq-eqb, ne-eqb}
 use lib.Dec.{eqb}
-use lib.ListN.{length}
-use Rattle.casefile.specs.Layout.{eventWidth}
+use lib.ListN.{length, drop}
+use Rattle.binary.specs.Bytes.{bytesOf}
+use Rattle.binary.specs.Lists.{listTo}
+use Rattle.binary.proofs.BoundedLaws.{sum-same}
+use Rattle.binary.proofs.ListLaws.{list-at, join-same}
+use Rattle.casefile.specs.Layout.{mostHours, rowWidth}
 use Rattle.casefile.specs.Decode.{sectionOf, referencesIn, eventsIn, caseIn, decode}
-use Rattle.casefile.specs.Lookup.{correctReferences, correctIn}
+use Rattle.casefile.specs.Lookup.{unitOf, bidLevel, correctReferences, correctIn}
+use Rattle.casefile.specs.StageLookup.{correctLevel}
 use Rattle.casefile.specs.Refusal.{refusal}
-use Rattle.casefile.proofs.AcceptedLaws as case
-use Rattle.sanctions.proofs.AcceptedLaws as sanctions
-use Rattle.conduct.proofs.StageLaws.{found-own}
-use Rattle.default_bids.proofs.LevelLaws.{found-correct}
-use Rattle.settlement.specs.declared.settle.Totals.{Totals}
-use Rattle.settlement.specs.Row.{rowsOf}
+use Rattle.casefile.specs.StageChecked.{HandedOn}
+use Rattle.conduct.specs.Flags.{flagMask}
+use Rattle.sanctions.specs.declared.sanction.Sanction.{Sanction}
+use Rattle.sanctions.specs.Penalties.{totalPenalty}
+use Rattle.sanctions.specs.StageTables.{sanctionOf}
+use Rattle.default_bids.specs.Mitigation.{mitigatedMask, bidInForce, makeUpOf, totalMakeUp}
+use Rattle.default_bids.specs.StageFigures.{mitigatedBy, bidBy}
+use Rattle.default_bids.proofs.FigureLaws.{mitigated-by, bids-by, make-up-by}
+use Rattle.settlement.specs.declared.rows.Totals.{Totals}
+use Rattle.settlement.specs.Row.{bidBytes, rowOf, rowsOf}
 use Rattle.settlement.specs.Settled.{SettlementAnswer, refusedAnswer, answerOfSettlement, settlementOf, accepted, answerOf, rowsAfter}
 use Rattle.settlement.specs.declared.settle.Settlement.the-variants as settlement
-use Rattle.settlement.specs.StageSections.{AcceptedSections, totalsOf}
+use Rattle.settlement.specs.StageRow.{wordOf, wordsOf, writtenRow, rowBy}
+use Rattle.settlement.specs.StageRows.{rowIn, rowsIn, totalsIn}
 
 -- the number of a refusal that is not 0
 pub refused-answer : (f k : List ℕ) (n number : ℕ) → number ≡ refusal f k n → (number ≡ 0 → ⊥) → refusedAnswer number ≡ answerOf f k n
@@ -50,45 +59,55 @@ pub refused-rows : (f k rows : List ℕ) (number : ℕ) → number ≡ refusal f
 unfolding rowsAfter
 refused-rows f k rows number e ne = rw (← e, ne-eqb number 0 ne) refl
 
-accepted-sections : (f k : List ℕ) (n : ℕ) → refusal f k n ≡ 0
-    → AcceptedSections (sectionOf f 0) (sectionOf f 1) (sectionOf f 2) (correctReferences k (sectionOf f 1)) (sectionOf f 3) n
-unfolding decode caseIn referencesIn eventsIn
-accepted-sections f k n h =
-    let short = case.file-short f k n h in
-    let records = case.records f k n h in
-    let events = case.events f k n h in
-    record {
-      units-short = omega (arith, case.section-length f k n h 0 (omega arith), case.has-section f k n h 0 (omega arith) .inside);
-      events-short = omega (arith, case.section-length f k n h 3 (omega arith), case.has-section f k n h 3 (omega arith) .inside);
-      accepted = sanctions.accepted f k n h;
-      units-ordered = case.units-rise f k n h;
-      references-ordered = case.references-rise f k n h;
-      corrects-ordered = case.correct-rise f k n h;
-      levels-found = found-own (referencesIn (sectionOf f 1)) (referencesIn (correctReferences k (sectionOf f 1))) (eventsIn (sectionOf f 3)) (events .references-found);
-      corrects-found = found-correct (referencesIn (sectionOf f 1)) (referencesIn (correctReferences k (sectionOf f 1))) (eventsIn (sectionOf f 3)) (events .references-found);
-      rows-long = case.rows-long f k n h;
-    }
+-- ---- from the tables that the check filled to the case
 
--- the sections as the code finds them
-module _ (f k u r p q e : List ℕ) (u-is : u ≡ sectionOf f 0) (r-is : r ≡ sectionOf f 1) (p-is : p ≡ sectionOf f 2)
-    (q-is : q ≡ correctReferences k r) (e-is : e ≡ sectionOf f 3) where
-  pub found-sections : (n : ℕ) → refusal f k n ≡ 0 → AcceptedSections u r p q e n
-  found-sections n h = rw (q-is, u-is, r-is, p-is, e-is) (accepted-sections f k n h)
+module _ (u r p k e : List ℕ) (i x y : ℕ) (level : x ≡ bidLevel (referencesIn r) (eventsIn e) i) (correct : y ≡ correctLevel (referencesIn k) (eventsIn e) i) where
+  mitigated-is : mitigatedBy (eventsIn e) i (flagMask (caseIn u r p e) i) ≡ mitigatedMask (caseIn u r p e) i
+  mitigated-is = mitigated-by u r p e i (flagMask (caseIn u r p e) i) refl
 
-  same-case : caseIn u r p e ≡ decode f
-  unfolding decode
-  same-case = rw (u-is, r-is, p-is, e-is) refl
+  bids-are : wordsOf (listTo mostHours (bidBy u e (unitOf (caseIn u r p e) i) x y (mitigatedMask (caseIn u r p e) i) i)) ≡ bidBytes (caseIn u r p e) (referencesIn k) i
+  unfolding wordsOf wordOf bidBytes
+  bids-are =
+      ap wordsOf (bids-by u r p e i (referencesIn k) _ x y _ refl level correct refl)
+      ∙ join-same mostHours _ _ (λ h l. ap (bytesOf 4) (list-at (bidInForce (caseIn u r p e) (referencesIn k) i) mostHours h 0 l))
 
-  same-correct : referencesIn q ≡ correctIn f k
-  unfolding correctIn
-  same-correct = rw (q-is, r-is) refl
+  due-by : (s : Sanction) → rowBy u e (unitOf (caseIn u r p e) i) x y (flagMask (caseIn u r p e) i) s i .«make_up» ≡ makeUpOf (caseIn u r p e) (referencesIn k) i
+  unfolding rowBy
+  due-by s = make-up-by u r p e i (referencesIn k) x y _ level correct mitigated-is
 
-  pub settled-answer : (n : ℕ) (t : Totals) → refusal f k n ≡ 0 → t ≡ totalsOf (caseIn u r p e) (referencesIn q)
-      → record { number = 0; rowCount = length e / eventWidth; penalties = t .penalties; makeUps = t .«make_ups» } ≡ answerOf f k n
-  unfolding answerOf accepted totalsOf decode caseIn eventsIn
-  settled-answer n t h g = rw (eq-eqb _ _ h, g, same-case, same-correct, e-is) refl
+  row-by : writtenRow (rowBy u e (unitOf (caseIn u r p e) i) x y (flagMask (caseIn u r p e) i) (sanctionOf (caseIn u r p e) i) i)
+      ≡ rowOf (caseIn u r p e) (referencesIn k) i
+  unfolding writtenRow rowBy rowOf
+  row-by = rw (mitigated-is, make-up-by u r p e i (referencesIn k) x y _ level correct refl, bids-are)
 
-  pub settled-rows : (rows after : List ℕ) → refusal f k (length rows) ≡ 0 → after ≡ rowsOf (caseIn u r p e) (referencesIn q) rows
-      → after ≡ rowsAfter f k rows
-  unfolding rowsAfter
-  settled-rows rows after h g = rw (eq-eqb _ _ h) (g ∙ rw (same-case, same-correct) refl)
+module _ (f k places levels corrects : List ℕ) (h : HandedOn f k places levels corrects) where
+  row-is : (i : ℕ) → i < decode f .events .count → writtenRow (rowIn f levels corrects i) ≡ rowOf (decode f) (correctIn f k) i
+  unfolding rowIn decode caseIn correctIn
+  row-is i l =
+      row-by (sectionOf f 0) (sectionOf f 1) (sectionOf f 2) (correctReferences k (sectionOf f 1)) (sectionOf f 3) i _ _ (h .levelled i l) (h .corrected i l)
+
+  due-is : (i : ℕ) → i < decode f .events .count → rowIn f levels corrects i .«make_up» ≡ makeUpOf (decode f) (correctIn f k) i
+  unfolding rowIn decode caseIn correctIn
+  due-is i l =
+      due-by (sectionOf f 0) (sectionOf f 1) (sectionOf f 2) (correctReferences k (sectionOf f 1)) (sectionOf f 3) i _ _ (h .levelled i l) (h .corrected i l) _
+
+  totals-are : totalsIn f levels corrects .«make_ups» ≡ totalMakeUp (decode f) (correctIn f k)
+  unfolding totalsIn totalMakeUp
+  totals-are = sum-same (decode f .events .count) _ _ due-is
+
+  penalties-are : totalsIn f levels corrects .penalties ≡ totalPenalty (decode f)
+  unfolding totalsIn
+  penalties-are = refl
+
+  answer-is : record { number = 0; rowCount = decode f .events .count; penalties = totalsIn f levels corrects .penalties; makeUps = totalsIn f levels corrects .«make_ups» } ≡ accepted f k
+  unfolding accepted
+  answer-is = rw (totals-are, penalties-are) refl
+
+  pub settled-answer : (n count : ℕ) (t : Totals) → refusal f k n ≡ 0 → count ≡ decode f .events .count → t ≡ totalsIn f levels corrects
+      → record { number = 0; rowCount = count; penalties = t .penalties; makeUps = t .«make_ups» } ≡ answerOf f k n
+  unfolding answerOf
+  settled-answer n count t e c g = rw (eq-eqb _ _ e, c, g) answer-is
+
+  pub settled-rows : (rows after : List ℕ) → refusal f k (length rows) ≡ 0 → after ≡ rowsIn f levels corrects rows → after ≡ rowsAfter f k rows
+  unfolding rowsAfter rowsIn rowsOf
+  settled-rows rows after e g = rw (eq-eqb _ _ e) (g ∙ ap (λ (x : List ℕ). x ++ drop (rowWidth * decode f .events .count) rows) (join-same (decode f .events .count) _ _ row-is))

@@ -1,6 +1,5 @@
--- The fields of a row, stored one after the other, are the whole row; and the row of the tables is the row of the case.
-use Prim.Native.Nat.{ℕ, suc, _+_, _*_, _/_, _<_}
-use mathlib.Core.Bool.{true}
+-- The fields of a row, stored one after the other, are the whole row.
+use Prim.Native.Nat.{ℕ, suc, _+_, _*_}
 use mathlib.Core.List.{List, [], _∷_, _++_, append-nil}
 use mathlib.Core.Path.{_≡_, sym, ap, _∙_}
 use native.Mathlib.Nat.{add-zero, add-suc, suc-add}
@@ -8,22 +7,11 @@ use native.Mathlib.Omega.{arith}
 use lib.ListN.{length, getD, set, length-append, drop-of-length-le}
 use lib.Seq.{sets, sets-eq}
 use Rattle.binary.specs.Bytes.{bytesOf}
-use Rattle.binary.specs.Lists.{listTo, joinTo}
+use Rattle.binary.specs.Lists.{joinTo}
 use Rattle.binary.proofs.ByteLaws.{bytes-length}
-use Rattle.binary.proofs.ListLaws.{list-at, join-more, join-same, join-length}
-use Rattle.casefile.specs.Layout.{unitWidth, eventWidth, mostHours}
-use Rattle.casefile.specs.Decode.{unitsIn, referencesIn, eventsIn, amountsIn, caseIn}
-use Rattle.casefile.specs.Lookup.{unitOf}
-use Rattle.casefile.specs.Refusal.{eventsListed}
-use Rattle.casefile.proofs.EventLaws.{events-place}
-use Rattle.conduct.specs.Flags.{flagMask}
-use Rattle.casefile.specs.Lookup.{bidLevel}
-use Rattle.sanctions.specs.Penalties.{N3, N2, multiplier, penalty}
-use Rattle.default_bids.specs.Mitigation.{mitigatedMask, bidInForce, makeUpOf}
-use Rattle.default_bids.specs.StageFigures.{correctLevel, bidBy}
-use Rattle.default_bids.proofs.FigureLaws.{bids-by}
-use Rattle.settlement.specs.Row.{bidBytes, rowOf}
-use Rattle.settlement.specs.StageRow.{wordOf, wordsOf, writtenRow, tableBids, tableSanction, tableRow}
+use Rattle.binary.proofs.ListLaws.{join-more, join-length}
+use Rattle.sanctions.specs.Penalties.{multiplier, penalty}
+use Rattle.settlement.specs.StageRow.{wordOf, wordsOf, writtenRow}
 use Rattle.settlement.specs.declared.rows.Row.{Row}
 
 -- a run of stores after another
@@ -80,53 +68,3 @@ row-stored r l0 l1 l2 l3 l4 l5 l6 l7 l8 l9 l10 n e1 e2 e3 e4 e5 e6 e7 e8 e9 e10 
         f ∙ ap (λ (x : List ℕ). sets x (i + w) ws) e
         ∙ ap (λ (n : ℕ). sets (sets l i (bytesOf w v)) (i + n) ws) (sym (bytes-length w v))
         ∙ sets-append (bytesOf w v) ws l i
-
--- ---- from the tables to the case
-
--- each table holds the figures of the case at event i
-pub record RowHeld (u r p k e places levels corrects masks mitigated penalties makeUps multipliers n3 n2 : List ℕ) (i : ℕ) : Type 0 where
-  pub place-held : getD places i 0 ≡ unitOf (caseIn u r p e) i
-  pub level-held : getD levels i 0 ≡ bidLevel (referencesIn r) (eventsIn e) i
-  pub correct-held : getD corrects i 0 ≡ correctLevel (referencesIn k) (eventsIn e) i
-  pub flags-held : getD masks i 0 ≡ flagMask (caseIn u r p e) i
-  pub mitigated-held : getD mitigated i 0 ≡ mitigatedMask (caseIn u r p e) i
-  pub penalty-held : getD penalties i 0 ≡ penalty (caseIn u r p e) i
-  pub make-up-held : getD makeUps i 0 ≡ makeUpOf (caseIn u r p e) (referencesIn k) i
-  pub multiplier-held : getD multipliers i 0 ≡ multiplier (caseIn u r p e) i
-  pub n3-held : getD n3 i 0 ≡ N3 (caseIn u r p e) i
-  pub n2-held : getD n2 i 0 ≡ N2 (caseIn u r p e) i
-
--- the place is one of a unit
-pub place-below : (u r p e : List ℕ) (i place : ℕ) → eventsListed (unitsIn u) (eventsIn e) ≡ true → i < length e / eventWidth
-    → place ≡ unitOf (caseIn u r p e) i → place < length u / unitWidth
-unfolding unitOf caseIn unitsIn eventsIn
-place-below u r p e i place listed l h = rw h (events-place (unitsIn u) (eventsIn e) i listed l)
-
-words-bids : (u r p k e : List ℕ) (i : ℕ) → let c = caseIn u r p e in
-    wordsOf (listTo mostHours (bidBy (unitsIn u) (eventsIn e) (amountsIn e) i (unitOf c i) (bidLevel (referencesIn r) (eventsIn e) i)
-    (correctLevel (referencesIn k) (eventsIn e) i) (mitigatedMask c i)))
-    ≡ bidBytes c (referencesIn k) i
-unfolding wordsOf wordOf bidBytes
-words-bids u r p k e i =
-    ap wordsOf (bids-by u r p e (referencesIn k) i)
-    ∙ join-same mostHours _ _ (λ h l. ap (bytesOf 4) (list-at (bidInForce (caseIn u r p e) (referencesIn k) i) mostHours h 0 l))
-
-pub row-held : (u r p k e places levels corrects masks mitigated penalties makeUps multipliers n3 n2 : List ℕ) (i : ℕ)
-    → RowHeld u r p k e places levels corrects masks mitigated penalties makeUps multipliers n3 n2 i
-    → writtenRow (tableRow masks mitigated makeUps (tableSanction penalties multipliers n3 n2 i) (tableBids (unitsIn u) (eventsIn e) (amountsIn e) places levels corrects mitigated i) i)
-    ≡ rowOf (caseIn u r p e) (referencesIn k) i
-unfolding writtenRow tableRow tableSanction tableBids rowOf
-row-held u r p k e places levels corrects masks mitigated penalties makeUps multipliers n3 n2 i t =
-    rw (
-      t .place-held,
-      t .level-held,
-      t .correct-held,
-      t .flags-held,
-      t .mitigated-held,
-      t .penalty-held,
-      t .make-up-held,
-      t .multiplier-held,
-      t .n3-held,
-      t .n2-held,
-      words-bids u r p k e i,
-    )

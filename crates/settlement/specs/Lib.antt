@@ -1,4 +1,4 @@
 pub mod Row
 pub mod Settled
 pub mod StageRow
-pub mod StageSections
+pub mod StageRows

@@ -1,13 +1,13 @@
--- The bytes of a row from its figures, and the row of event i from the tables of the stages before.
+-- The bytes of a row from its figures, and the row of event i from what earlier stages found of it.
 use Prim.Native.Nat.{ℕ}
 use mathlib.Core.List.{List, _++_}
 use lib.ListN.{getD}
 use Rattle.binary.specs.Bytes.{bytesOf}
 use Rattle.binary.specs.Lists.{listTo, joinTo}
 use Rattle.casefile.specs.Layout.{mostHours}
-use Rattle.casefile.specs.Case.{Units, Events}
+use Rattle.casefile.specs.Decode.{eventsIn}
 use Rattle.sanctions.specs.declared.sanction.Sanction.{Sanction}
-use Rattle.default_bids.specs.StageFigures.{bidBy}
+use Rattle.default_bids.specs.StageFigures.{mitigatedBy, bidBy, makeUpBy}
 use Rattle.settlement.specs.declared.rows.Row.{Row}
 
 -- the bid of hour h
@@ -30,24 +30,21 @@ writtenRow r =
     ++ (bytesOf 2 0
     ++ wordsOf (r .bids)))))))))
 
--- the bids in force of event i
-unfoldable pub tableBids : Units → Events → (a : ℕ → ℕ → ℕ) → (places levels corrects mitigated : List ℕ) → ℕ → List ℕ
-tableBids u e a places levels corrects mitigated i =
-    listTo mostHours (bidBy u e a i (getD places i 0) (getD levels i 0) (getD corrects i 0) (getD mitigated i 0))
-
-unfoldable pub tableSanction : (penalties multipliers n3 n2 : List ℕ) → ℕ → Sanction
-tableSanction penalties multipliers N3 N2 i =
-    record { penalty = getD penalties i 0; multiplier = getD multipliers i 0; n3 = getD N3 i 0; n2 = getD N2 i 0 }
-
-unfoldable pub tableRow : (masks mitigated makeUps : List ℕ) → Sanction → (bids : List ℕ) → ℕ → Row
-tableRow masks mitigated makeUps s bids i =
+-- the row of event i from its unit's place, r, c, its flag mask and its sanction
+unfoldable pub rowBy : (units events : List ℕ) (place r c flags : ℕ) → Sanction → ℕ → Row
+rowBy units events place r c flags s i =
     record {
-      flags = getD masks i 0;
-      mitigated = getD mitigated i 0;
+      flags = flags;
+      mitigated = mitigatedBy (eventsIn events) i flags;
       penalty = s .penalty;
-      «make_up» = getD makeUps i 0;
+      «make_up» = makeUpBy events i r c (mitigatedBy (eventsIn events) i flags);
       multiplier = s .multiplier;
       n3 = s .n3;
       n2 = s .n2;
-      bids = bids;
+      bids = listTo mostHours (bidBy units events place r c (mitigatedBy (eventsIn events) i flags) i);
     }
+
+-- the same from the tables
+unfoldable pub tableRow : (units events places levels corrects masks : List ℕ) → Sanction → ℕ → Row
+tableRow units events places levels corrects masks s i =
+    rowBy units events (getD places i 0) (getD levels i 0) (getD corrects i 0) (getD masks i 0) s i

@@ -2,36 +2,41 @@
 use Prim.Native.Nat.{ℕ, _/_, _≤_, _<_}
 use mathlib.Core.Bool.{Bool, true, false, cond, _&&_, _||_}
 use mathlib.Core.List.{List, []}
-use mathlib.Core.Path.{_≡_, refl, ap, ap₂, _∙_}
+use mathlib.Core.Path.{_≡_, refl, ap₂, _∙_}
 use native.Mathlib.Omega.{arith}
 use borrow.Author.Tests.{ltb-true, eqb-true, eq-eqb, ne-eqb}
 use lib.Dec.{ltb, eqb}
 use lib.ListN.{length, getD}
-use Rattle.binary.specs.Bounded.{sumTo, bitOf}
+use Rattle.binary.specs.Bounded.{bitOf}
 use Rattle.binary.specs.Bytes.{byteAt}
-use Rattle.binary.specs.Lists.{Bytes, Holds}
+use Rattle.binary.specs.Lists.{Holds}
 use Rattle.binary.proofs.Implies.{and-l, and-r}
 use Rattle.binary.proofs.BoundedLaws.{sum-same}
 use Rattle.binary.proofs.MaskLaws.{bit-mask}
-use Rattle.tariff.specs.ConductTests.{increase}
-use Rattle.casefile.specs.Layout.{eventWidth}
+use Rattle.casefile.specs.Layout.{eventWidth, unitWidth, pastWidth, mostPast, mostHours}
 use Rattle.casefile.specs.Case.{Case}
-use Rattle.casefile.specs.Decode.{recordAt, sectionOf, unitsIn, referencesIn, eventsIn, caseIn, decode}
-use Rattle.casefile.specs.Lookup.{unitOf, groupOf, referenceOf, correctReferences}
+use Rattle.casefile.specs.Decode.{recordAt, sectionOf, unitsIn, eventsIn, caseIn, decode}
+use Rattle.casefile.specs.Lookup.{unitOf, groupOf, bidLevel}
 use Rattle.casefile.specs.Refusal.{refusal}
-use Rattle.conduct.specs.Flags.{tight, together, sumTogether, timeBid, timeTotal, groupCapability, groupSum, flagged, flagMask}
+use Rattle.casefile.specs.StageChecked.{AcceptedFile}
+use Rattle.casefile.proofs.EventLaws.{events-place}
+use Rattle.conduct.specs.Flags.{together, sumTogether, timeBid, timeTotal, groupCapability, groupSum, flagged, flagMask}
 use Rattle.conduct.specs.StageParties.{leaderOf}
-use Rattle.casefile.specs.Lookup.{bidLevel}
-use Rattle.conduct.specs.StageFlags.{partyFigure, ledSum, partySum, Below, capabilityOf, timeTotalIn, totalRead}
+use Rattle.conduct.specs.StageMasks.{highestSum}
+use Rattle.conduct.specs.StageFlags.{HasRow, partyFigure, ledSum, partySum, listedCapability, timeTotalIn, totalRead, Led}
 use Rattle.conduct.proofs.PartyLaws.{together-fields, leader-le, leader-eqb}
-use Rattle.conduct.proofs.SumLaws.{cond-given, cond-le, party-sum-le, sum-amounts, capability-is}
-use Rattle.settlement.proofs.SettleLaws.{found-sections}
+use Rattle.conduct.proofs.SumLaws.{cond-le, cond-given, sum-amounts}
+use Rattle.conduct.proofs.FileLaws.{total-is, file-listed, file-led}
+use Rattle.sanctions.specs.declared.instances.Instances.{Instances}
+use Rattle.sanctions.specs.StageFound.{Accepted, FoundMasks}
+use Rattle.sanctions.specs.StageTables.{instancesAt}
+use Rattle.sanctions.proofs.AcceptedLaws as sanctions
+use Rattle.sanctions.proofs.FoundLaws.{instances-are}
 use Rattle.working.specs.declared.figures.Sums.{Sums}
 use Rattle.working.specs.declared.figures.Figures.{Figures}
 use Rattle.working.specs.declared.figures.Counts.{Counts}
 use Rattle.working.specs.declared.figures.Working.{Working}
 use Rattle.working.specs.Working.{fuelEvents, sumsOf, totalOf, figuresWith, figuresOf, workingFrom, countsOf, workingAt, refusedWorking, mostRows, workingOf}
-use Rattle.working.specs.StageWorking.{AcceptedCase}
 
 -- ---- sums of a party-day
 
@@ -50,126 +55,131 @@ group-sum : (c : Case) (i h : ℕ) → (c .events .kind i ≡ 3 → ⊥) → par
 unfolding partySum sumTogether
 group-sum c i h n = sum-amounts c i h n
 
-amounts-where : (c : Case) (i h : ℕ)
-    → cond (eqb (c .events .kind i) 1 || eqb (c .events .kind i) 2) (partySum c i h) 0
-    ≡ cond (eqb (c .events .kind i) 1 || eqb (c .events .kind i) 2) (groupSum c i h) 0
-amounts-where c i h = pick (eqb (c .events .kind i) 1) (eqb (c .events .kind i) 2) refl refl
-  where
-    pick : (one two : Bool) → eqb (c .events .kind i) 1 ≡ one → eqb (c .events .kind i) 2 ≡ two
-        → cond (one || two) (partySum c i h) 0 ≡ cond (one || two) (groupSum c i h) 0
-    pick true two p q = group-sum c i h (λ e. let k : c .events .kind i ≡ 1 = eqb-true _ _ p in let z : ⊥ = omega arith in z)
-    pick false true p q = group-sum c i h (λ e. let k : c .events .kind i ≡ 2 = eqb-true _ _ q in let z : ⊥ = omega arith in z)
-    pick false false p q = refl
+module _ (c : Case) (i h sum : ℕ) (held : (c .events .kind i ≡ 4 → ⊥) → sum ≡ partySum c i h) where
+  amounts : (k : ℕ) → k < 3 → c .events .kind i ≡ k → sum ≡ groupSum c i h
+  amounts k l e =
+      held (λ q. let z : ⊥ = omega arith in z)
+      ∙ group-sum c i h (λ q. let z : ⊥ = omega arith in z)
 
-fuel-where : (c : Case) (i h : ℕ)
-    → cond (eqb (c .events .kind i) 3) (partySum c i h) 0 ≡ cond (eqb (c .events .kind i) 3) (fuelEvents c i h) 0
-fuel-where c i h = cond-given (eqb (c .events .kind i) 3) _ _ (λ t. fuel-sum c i h (eqb-true _ _ t))
+  amounts-where : cond (eqb (c .events .kind i) 1 || eqb (c .events .kind i) 2) sum 0
+      ≡ cond (eqb (c .events .kind i) 1 || eqb (c .events .kind i) 2) (groupSum c i h) 0
+  amounts-where = pick (eqb (c .events .kind i) 1) (eqb (c .events .kind i) 2) refl refl
+    where
+      pick : (one two : Bool) → eqb (c .events .kind i) 1 ≡ one → eqb (c .events .kind i) 2 ≡ two
+          → cond (one || two) sum 0 ≡ cond (one || two) (groupSum c i h) 0
+      pick true two p q = amounts 1 (omega arith) (eqb-true _ _ p)
+      pick false true p q = amounts 2 (omega arith) (eqb-true _ _ q)
+      pick false false p q = refl
 
-pub sums-are : (c : Case) (i h kind sum g x y z : ℕ) → kind ≡ c .events .kind i → sum ≡ partySum c i h → g ≡ groupCapability c i
-    → x ≡ cond (eqb kind 1 || eqb kind 2) sum 0 → y ≡ cond (eqb kind 1) g 0 → z ≡ cond (eqb kind 3) sum 0
-    → record { s = x; g = y; «fuel_events» = z } ≡ sumsOf c i h
-unfolding sumsOf
-sums-are c i h kind sum g x y z ek es eg ex ey ez = rw (ex, ey, ez, ek, es, eg, amounts-where c i h, fuel-where c i h)
+  fuel-where : cond (eqb (c .events .kind i) 3) sum 0 ≡ cond (eqb (c .events .kind i) 3) (fuelEvents c i h) 0
+  fuel-where =
+      cond-given (eqb (c .events .kind i) 3) _ _
+      (λ t.
+      let k = eqb-true (c .events .kind i) 3 t in
+      held (λ q. let z : ⊥ = omega arith in z) ∙ fuel-sum c i h k)
 
-party-sum-is : (u e : List ℕ) (i h : ℕ)
-    → sumTo (length e / eventWidth) (λ j. cond (together (caseIn u [] [] e) i j) (partyFigure (caseIn u [] [] e) j h) 0) ≡ partySum (caseIn u [] [] e) i h
-unfolding partySum sumTogether caseIn eventsIn
-party-sum-is u e i h = refl
+  pub sums-are : (kind x y z : ℕ) → kind ≡ c .events .kind i → sum ≤ highestSum → x ≡ cond (eqb kind 1 || eqb kind 2) sum 0
+      → y ≡ cond (eqb (c .events .kind i) 1) (groupCapability c i) 0 → z ≡ cond (eqb kind 3) sum 0
+      → (record { s = x; g = y; «fuel_events» = z } ≡ sumsOf c i h) × (x ≤ highestSum)
+  unfolding sumsOf
+  sums-are kind x y z ek l ex ey ez =
+      (rw (ex, ey, ez, ek, amounts-where, fuel-where), rw ex (cond-le (eqb kind 1 || eqb kind 2) sum highestSum l))
 
-figure-sections : (u e : List ℕ) (j h : ℕ) → partyFigure (caseIn [] [] [] e) j h ≡ partyFigure (caseIn u [] [] e) j h
-unfolding partyFigure caseIn
-figure-sections u e j h = refl
+-- ---- the events of a file
 
-module _ (u e leaders : List ℕ) (led : Holds (length e / eventWidth) leaders (leaderOf (caseIn u [] [] e))) where
-  pub below : Below (length e / eventWidth) leaders
-  below j l = let q = leader-le (caseIn u [] [] e) j in let t = led j l in omega arith
+module _ (f e : List ℕ) (ee : e ≡ sectionOf f 3) where
+  pub count-is : length e / eventWidth ≡ decode f .events .count
+  unfolding decode caseIn eventsIn
+  count-is = rw ee
 
-  same-leader : (i j : ℕ) → i < length e / eventWidth → j < length e / eventWidth
-      → eqb (getD leaders j 0) (getD leaders i 0) ≡ together (caseIn u [] [] e) i j
-  same-leader i j l lj = rw (led j lj, led i l) (leader-eqb (caseIn u [] [] e) i j)
+  pub kind-of : (event : List ℕ) (i kind : ℕ) → event ≡ recordAt eventWidth e i → kind ≡ byteAt event 0 → kind ≡ decode f .events .kind i
+  unfolding decode caseIn eventsIn
+  kind-of event i kind er ek = ek ∙ rw (er, ee)
 
-  -- the sum of event i's leader is its own
-  pub led-sum : (i h : ℕ) → i < length e / eventWidth
-      → ledSum (caseIn [] [] [] e) leaders (length e / eventWidth) (getD leaders i 0) h ≡ partySum (caseIn u [] [] e) i h
-  unfolding ledSum
-  led-sum i h l =
-      sum-same (length e / eventWidth) _ _ (λ j lj. ap₂ (λ (b : Bool) (x : ℕ). cond b x 0) (same-leader i j l lj) (figure-sections u e j h))
-      ∙ party-sum-is u e i h
+  figure-is : (j h : ℕ) → partyFigure (caseIn [] [] [] e) j h ≡ partyFigure (decode f) j h
+  unfolding partyFigure decode caseIn
+  figure-is j h = rw ee
 
-pub sum-small : (u e : List ℕ) (i h x sum kind : ℕ) → x ≡ cond (eqb kind 1 || eqb kind 2) sum 0 → sum ≡ partySum (caseIn u [] [] e) i h → Bytes e
-    → length e / eventWidth ≤ 200 → h < 24 → x ≤ 1099511627776
-sum-small u e i h x sum kind ex es be few l =
-    rw (ex, es, ← party-sum-is u e i h) (cond-le (eqb kind 1 || eqb kind 2) _ _ (party-sum-le u [] [] e i h be few l))
+  module _ (leaders : List ℕ) (led : Holds (decode f .events .count) leaders (leaderOf (decode f))) where
+    pub leader-below : (i : ℕ) → i < decode f .events .count → getD leaders i 0 < length e / eventWidth
+    leader-below i l = let q = leader-le (decode f) i in let t = led i l in let n = count-is in omega arith
 
-pub group-capability : (u e : List ℕ) (i g group : ℕ) → group ≡ groupOf (caseIn u [] [] e) i → g ≡ capabilityOf (unitsIn u) group
-    → g ≡ groupCapability (caseIn u [] [] e) i
-unfolding caseIn
-group-capability u e i g group eg et = et ∙ ap (capabilityOf (unitsIn u)) eg ∙ capability-is (caseIn u [] [] e) i
+    same-leader : (i j : ℕ) → i < decode f .events .count → j < decode f .events .count → (decode f .events .kind i ≡ 4 → ⊥)
+        → eqb (getD leaders j 0) (getD leaders i 0) ≡ together (decode f) i j
+    same-leader i j l m n = rw (led j m, led i l) (leader-eqb (decode f) i j n)
 
-pub kind-of : (u e event : List ℕ) (i kind : ℕ) → event ≡ recordAt eventWidth e i → kind ≡ byteAt event 0 → kind ≡ caseIn u [] [] e .events .kind i
-unfolding caseIn eventsIn
-kind-of u e event i kind ee ek = ek ∙ ap (λ (r : List ℕ). byteAt r 0) ee
+    -- the sum of event i's leader is its own
+    pub led-sum : (row : List ℕ) (i h : ℕ) → HasRow (ledSum (caseIn [] [] [] e) leaders (length e / eventWidth) (getD leaders i 0)) row
+        → i < decode f .events .count → h < mostHours → (decode f .events .kind i ≡ 4 → ⊥) → getD row h 0 ≡ partySum (decode f) i h
+    unfolding ledSum partySum sumTogether
+    led-sum row i h r l m n =
+        rw (r .each h m, count-is)
+        (sum-same (decode f .events .count) _ _
+        (λ j q. ap₂ (λ (b : Bool) (x : ℕ). cond b x 0) (same-leader i j l q n) (figure-is j h)))
 
--- ---- with the references and the past
+  -- ---- time totals
 
-module _ (u r p e levels : List ℕ) (held : Holds (length e / eventWidth) levels (bidLevel (referencesIn r) (eventsIn e))) where
-  level-of : (j : ℕ) → j < length e / eventWidth → caseIn u r p e .events .kind j ≡ 4 → getD levels j 0 ≡ referenceOf (caseIn u r p e) j
-  unfolding bidLevel referenceOf caseIn
-  level-of j l q = held j l ∙ rw q
+  module _ (levels : List ℕ) (held : Holds (decode f .events .count) levels (bidLevel (decode f .references) (decode f .events))) where
+    total-case : (i h : ℕ) → timeTotalIn (decode f) levels i h ≡ timeTotal (decode f) i h
+    unfolding decode caseIn eventsIn
+    total-case i h = total-is (sectionOf f 0) (sectionOf f 1) (sectionOf f 2) (sectionOf f 3) levels held i h
 
-  bid-kind : (i j : ℕ) → timeBid (caseIn u r p e) i j ≡ true → caseIn u r p e .events .kind j ≡ 4
-  unfolding timeBid
-  bid-kind i j h =
-      let q : eqb (caseIn u r p e .events .kind j) 4 ≡ true = search (and-l, and-r) depth 8 in
-      eqb-true _ _ q
+    read-sections : (i h : ℕ) → totalRead (caseIn [] [] [] e) levels i h ≡ totalRead (decode f) levels i h
+    unfolding totalRead timeTotalIn timeBid decode caseIn
+    read-sections i h = rw ee
 
-  count-of : caseIn u r p e .events .count ≡ length e / eventWidth
-  unfolding caseIn eventsIn
-  count-of = refl
+    total-of : (i h : ℕ) → totalRead (caseIn [] [] [] e) levels i h ≡ totalOf (decode f) i h
+    unfolding totalRead totalOf
+    total-of i h = read-sections i h ∙ rw (total-case i h)
 
-  total-is : (i h : ℕ) → timeTotalIn (caseIn u r p e) levels i h ≡ timeTotal (caseIn u r p e) i h
-  unfolding timeTotalIn timeTotal
-  total-is i h =
-      sum-same (caseIn u r p e .events .count) _ _
-      (λ j l.
-      cond-given (timeBid (caseIn u r p e) i j) _ _
-      (λ b. ap (λ (x : ℕ). increase x (caseIn u r p e .a j h)) (level-of j (let q = count-of in omega arith) (bid-kind i j b))))
+    pub figures-full : (i h total : ℕ) (sums : Sums) (g : Figures) → i < decode f .events .count
+        → g ≡ figuresWith (decode f) i h (getD levels i 0) sums total → sums ≡ sumsOf (decode f) i h
+        → total ≡ totalRead (caseIn [] [] [] e) levels i h → g ≡ figuresOf (decode f) i h
+    unfolding figuresOf
+    figures-full i h total sums g l eg es et = eg ∙ rw (es, et, total-of i h, held i l)
 
-  read-sections : (i h : ℕ) → totalRead (caseIn [] [] [] e) levels i h ≡ totalRead (caseIn u r p e) levels i h
-  unfolding totalRead timeTotalIn timeBid caseIn
-  read-sections i h = refl
+-- ---- its units and events
 
-  total-of : (i h : ℕ) → totalRead (caseIn [] [] [] e) levels i h ≡ totalOf (caseIn u r p e) i h
-  unfolding totalRead totalOf
-  total-of i h = read-sections i h ∙ rw (total-is i h)
+module _ (f u e : List ℕ) (eu : u ≡ sectionOf f 0) (ee : e ≡ sectionOf f 3) where
+  leader-case : (i : ℕ) → leaderOf (decode f) i ≡ leaderOf (caseIn u [] [] e) i
+  unfolding leaderOf together groupOf unitOf decode caseIn
+  leader-case i = rw (eu, ee)
 
-  level-is : (i : ℕ) → i < length e / eventWidth → getD levels i 0 ≡ bidLevel (caseIn u r p e .references) (caseIn u r p e .events) i
-  unfolding caseIn
-  level-is i l = held i l
+  pub place-below : AcceptedFile f → (i place : ℕ) → place ≡ unitOf (decode f) i → i < decode f .events .count → place < length u / unitWidth
+  unfolding unitOf decode caseIn unitsIn eventsIn
+  place-below acc i place q l = rw (q, eu) (events-place (unitsIn (sectionOf f 0)) (eventsIn (sectionOf f 3)) i (file-listed f acc _ _ refl refl) l)
 
-  sums-sections : (i h : ℕ) → sumsOf (caseIn u [] [] e) i h ≡ sumsOf (caseIn u r p e) i h
-  unfolding sumsOf groupSum fuelEvents sumTogether together groupCapability groupOf unitOf caseIn
-  sums-sections i h = refl
+  pub listed-is : (i : ℕ) → listedCapability (caseIn u [] [] e) i ≡ cond (eqb (decode f .events .kind i) 1) (groupCapability (decode f) i) 0
+  unfolding listedCapability groupCapability groupOf unitOf decode caseIn
+  listed-is i = rw (eu, ee)
 
-  figures-sections : (i h reference total : ℕ) (sums : Sums)
-      → figuresWith (caseIn u [] [] e) i h reference sums total ≡ figuresWith (caseIn u r p e) i h reference sums total
-  unfolding figuresWith tight unitOf caseIn
-  figures-sections i h reference total sums = refl
+  pub found-led : AcceptedFile f → (places leaders : List ℕ) → Holds (decode f .events .count) places (unitOf (decode f))
+      → Holds (decode f .events .count) leaders (leaderOf (decode f)) → Led u e places leaders
+  found-led acc places leaders placed led =
+      file-led f acc u e eu ee places leaders placed (λ i l. led i (rw (count-is f e ee) at l) ∙ leader-case i)
 
-  pub figures-full : (i h total : ℕ) (sums : Sums) (f : Figures) → i < length e / eventWidth
-      → f ≡ figuresWith (caseIn u [] [] e) i h (getD levels i 0) sums total → sums ≡ sumsOf (caseIn u [] [] e) i h
-      → total ≡ totalRead (caseIn [] [] [] e) levels i h → f ≡ figuresOf (caseIn u r p e) i h
-  unfolding figuresOf
-  figures-full i h total sums f l ef es et =
-      ef ∙ figures-sections i h (getD levels i 0) total sums ∙ rw (es, et, sums-sections i h, total-of i h, level-is i l)
+-- ---- the working
 
-pub flag-is : (u r p e masks : List ℕ) (i h : ℕ) → getD masks i 0 ≡ flagMask (caseIn u r p e) i → h < 24
-    → bitOf (getD masks i 0) h ≡ flagged (caseIn u r p e) i h
-unfolding flagMask caseIn eventsIn
-flag-is u r p e masks i h q l = rw q (bit-mask 24 h (flagged (caseIn u r p e) i) l)
+module _ (f : List ℕ) (acc : AcceptedFile f) where
+  sections : Accepted (sectionOf f 0) (sectionOf f 2) (sectionOf f 3)
+  sections = sanctions.accepted f (acc .correction) (acc .rowsLength) (acc .accepted)
+
+  pub past-few : (p : List ℕ) → p ≡ sectionOf f 2 → length p / pastWidth ≤ mostPast
+  past-few p q = rw q (sections .few-past)
+
+  pub counts-are : (p e groups leaders masks : List ℕ) (i : ℕ) (x : Instances) → p ≡ sectionOf f 2 → e ≡ sectionOf f 3
+      → FoundMasks (decode f) (decode f .events .count) groups leaders masks → i < decode f .events .count
+      → x ≡ instancesAt p e groups masks i → record { n3 = x .n3; n2 = x .n2 } ≡ countsOf (decode f) i
+  unfolding countsOf decode caseIn eventsIn
+  counts-are p e groups leaders masks i x ep ee found l q =
+      rw (q, ep, ee, instances-are (sectionOf f 0) (sectionOf f 1) (sectionOf f 2) (sectionOf f 3) groups leaders masks sections found i l) refl
+
+pub flag-is : (f : List ℕ) (i h mask : ℕ) → mask ≡ flagMask (decode f) i → h < mostHours → bitOf mask h ≡ flagged (decode f) i h
+unfolding flagMask decode caseIn eventsIn
+flag-is f i h mask q l = rw q (bit-mask mostHours h (flagged (decode f) i) l)
 
 pub small-s : (c : Case) (i h reference total : ℕ) (sums : Sums) (f : Figures) → f ≡ figuresWith c i h reference sums total
-    → sums .s ≤ 1099511627776 → f .s ≤ 1099511627776
+    → sums .s ≤ highestSum → f .s ≤ highestSum
 unfolding figuresWith
 small-s c i h reference total sums f e l = rw e l
 
@@ -180,34 +190,18 @@ working-full c i h f flag counts w e ef eg ec = e ∙ rw (ef, eg, ec)
 
 -- ---- the answer
 
-pub inside : (i n h : ℕ) → (ltb i n && ltb h 24) ≡ true → (i < n) × (h < 24)
-inside i n h t = (ltb-true i n (and-l (ltb i n) (ltb h 24) t), ltb-true h 24 (and-r (ltb i n) (ltb h 24) t))
+pub inside : (i n h : ℕ) → (ltb i n && ltb h mostHours) ≡ true → (i < n) × (h < mostHours)
+inside i n h t = (ltb-true i n (and-l (ltb i n) (ltb h mostHours) t), ltb-true h mostHours (and-r (ltb i n) (ltb h mostHours) t))
 
-pub refused-is : (f k : List ℕ) (i h number : ℕ) → number ≡ refusal f k mostRows → (number ≡ 0 → ⊥) → refusedWorking number ≡ workingOf f k i h
-unfolding workingOf
-refused-is f k i h number e n = rw (← e, ne-eqb number 0 n) refl
-
-module _ (f k u r p e : List ℕ) (u-is : u ≡ sectionOf f 0) (r-is : r ≡ sectionOf f 1) (p-is : p ≡ sectionOf f 2)
-    (e-is : e ≡ sectionOf f 3) (fine : refusal f k mostRows ≡ 0) where
-  pub accepted-case : AcceptedCase u r p e
-  accepted-case =
-      record {
-        correct = correctReferences k r;
-        sections = found-sections f k u r p (correctReferences k r) e u-is r-is p-is refl e-is mostRows fine;
-      }
-
-  same-case : caseIn u r p e ≡ decode f
-  unfolding decode
-  same-case = rw (u-is, r-is, p-is, e-is) refl
-
-  count-is : length e / eventWidth ≡ decode f .events .count
-  unfolding decode caseIn eventsIn
-  count-is = rw e-is
-
-  pub working-is : (i h : ℕ) → (ltb i (length e / eventWidth) && ltb h 24) ≡ true → workingAt (caseIn u r p e) i h ≡ workingOf f k i h
+module _ (f k : List ℕ) (i h : ℕ) where
+  pub refused-is : (number : ℕ) → number ≡ refusal f k mostRows → (number ≡ 0 → ⊥) → refusedWorking number ≡ workingOf f k i h
   unfolding workingOf
-  working-is i h t = let q = rw count-is at t in rw (eq-eqb _ _ fine, same-case, q)
+  refused-is number e n = rw (← e, ne-eqb number 0 n) refl
 
-  pub outside-is : (i h : ℕ) → (ltb i (length e / eventWidth) && ltb h 24) ≡ false → refusedWorking 10 ≡ workingOf f k i h
+  pub working-is : refusal f k mostRows ≡ 0 → (ltb i (decode f .events .count) && ltb h mostHours) ≡ true → workingAt (decode f) i h ≡ workingOf f k i h
   unfolding workingOf
-  outside-is i h t = let q = rw count-is at t in rw (eq-eqb _ _ fine, q)
+  working-is fine t = rw (eq-eqb _ _ fine, t)
+
+  pub outside-is : refusal f k mostRows ≡ 0 → (ltb i (decode f .events .count) && ltb h mostHours) ≡ false → refusedWorking 10 ≡ workingOf f k i h
+  unfolding workingOf
+  outside-is fine t = rw (eq-eqb _ _ fine, t)

@@ -22,14 +22,14 @@ fn both_settled<'a>(
     file: &'a [u8],
     worse: &'a [u8],
     correction: &'a [u8],
-    first: &mut [u8],
-    second: &mut [u8],
+    rows: &mut [u8],
+    next: &mut [u8],
 ) -> Answers
-    ensures { λ r. ⌜ Run (now (file .entry)) (now (correction .entry)) (now (first .entry)) (r .before) (now (first .exit)) ⌝ }
-    ensures { λ r. ⌜ Run (now (worse .entry)) (now (correction .entry)) (now (second .entry)) (r .after) (now (second .exit)) ⌝ }
+    ensures { λ r. ⌜ Run (now (file .entry)) (now (correction .entry)) (now (rows .entry)) (r .before) (now (rows .exit)) ⌝ }
+    ensures { λ r. ⌜ Run (now (worse .entry)) (now (correction .entry)) (now (next .entry)) (r .after) (now (next .exit)) ⌝ }
 {
-    let before = settled_once(file, correction, first);
-    let after = settled_once(worse, correction, second);
+    let before = settled_once(file, correction, rows);
+    let after = settled_once(worse, correction, next);
     Answers { before, after }
 }
 
@@ -38,12 +38,12 @@ pub fn settled_twice<'a>(
     file: &'a [u8],
     worse: &'a [u8],
     correction: &'a [u8],
-    first: &mut [u8],
-    second: &mut [u8],
+    rows: &mut [u8],
+    next: &mut [u8],
 ) -> Answers
-    ensures { λ r. ⌜ Run (now (file .entry)) (now (correction .entry)) (now (first .entry)) (r .before) (now (first .exit)) ⌝ }
-    ensures { λ r. ⌜ Run (now (worse .entry)) (now (correction .entry)) (now (second .entry)) (r .after) (now (second .exit)) ⌝ }
-    ensures { λ r. ⌜ Demand3 (now (file .entry)) (now (worse .entry)) (now (correction .entry)) (now (first .entry)) (now (second .entry)) (r .before) (r .after) (now (first .exit)) (now (second .exit)) ⌝ }
+    ensures { λ r. ⌜ Run (now (file .entry)) (now (correction .entry)) (now (rows .entry)) (r .before) (now (rows .exit)) ⌝ }
+    ensures { λ r. ⌜ Run (now (worse .entry)) (now (correction .entry)) (now (next .entry)) (r .after) (now (next .exit)) ⌝ }
+    ensures { λ r. ⌜ Demand3 (now (file .entry)) (now (worse .entry)) (now (correction .entry)) (now (rows .entry)) (now (next .entry)) (r .before) (r .after) (now (rows .exit)) (now (next .exit)) ⌝ }
 {
-    both_settled(file, worse, correction, first, second)
+    both_settled(file, worse, correction, rows, next)
 }

@@ -16,6 +16,7 @@ abbrev μ-loop : tie.MeasureT-loop
 μ-loop capability cells fine₀ h₀ fine h = mostHours - h
 
 pub amounts-within-spec : {M : Type 1} → statement M
+unfolding amountWithin
 amounts-within-spec =
     tie.close
     (tie.spec
@@ -25,8 +26,7 @@ amounts-within-spec =
     (λ c κs. search needs)
     (λ c. omega arith)
     (λ c. omega arith)
-    (λ c. (omega arith, rw (c .before .before .loop .inv .1, c .amount-within .ensures, all-more)))
+    (λ c. (omega arith, rw (c .before .before .loop .inv .1, c .cell-at .ensures, all-more)))
     (λ c.
-    let s = c .before .before .before .args in
     let e : c .before .loop .h ≡ mostHours = omega arith in
     rw (c .before .loop .inv .1, e)))

@@ -1,48 +1,38 @@
-use Prim.Native.Nat.{_<_, _/_}
 use borrow.Author.Needs.{needs}
-use native.Mathlib.Omega.{arith}
-use lib.ListN.{length}
-use Rattle.casefile.specs.Layout.{unitWidth}
+use borrow.Author.Tests.{lt-ltb, le-ltb}
 use Rattle.casefile.specs.Decode.{unitsIn, eventsIn}
 use Rattle.casefile.specs.Refusal.{amountFine}
+use Rattle.casefile.specs.StageChecked.{eventPlace}
 use Rattle.casefile.proofs.RecordLaws.{rest}
-use Rattle.casefile.proofs.EventLaws.{events-place, amounts-hours}
+use Rattle.casefile.proofs.EventLaws.{amounts-hours}
 use Rattle.casefile.proofs.events.amount_fine.Statement.{statement}
 use Rattle.casefile.proofs.events.amount_fine.Tie as tie
 
-place : (c : tie.After-unit-place) → c .unit-place .result < length (c .before .before .before .before .before .before .args .units .now) / unitWidth
-unfolding unitsIn eventsIn
-place c =
-    let s = c .before .before .before .before .before .before in
-    rw (c .unit-place .ensures, c .before .load-u16 .ensures, c .before .before .before .record-at .ensures .0)
-    (events-place (unitsIn (s .args .units .now)) (eventsIn (s .args .events .now)) (s .args .i) (s .pre .2) (s .pre .0))
-
 pub amount-fine-spec : {M : Type 1} → statement M
-unfolding amountFine unitsIn eventsIn
+unfolding amountFine eventPlace unitsIn eventsIn
 amount-fine-spec =
     tie.close
     (tie.spec
     (λ c κs. search needs)
     (λ c κs. search needs)
+    (λ c. rw (← c .before .before .record-at .ensures .0, ← c .before .load-u8 .ensures, lt-ltb _ _ (c .if1 .taken)))
     (λ c κs. search needs)
-    (λ c κs. c .before .before .before .before .before .pre .1)
-    (λ c κs. let p = place c in omega arith)
     (λ c κs. search needs)
     (λ c. search needs)
     (λ c. search needs)
     (λ c. search needs)
     (λ c κs. search needs)
     (λ c.
-    let u = c .before .before .before .before in
-    let s = u .before .before .before .before .before .before in
+    let k = c .before .before .before .before .before in
+    let s = c .before .before .before .before .before .before .before .before .before in
+    let e = rw (k .load-u8 .ensures, k .before .record-at .ensures .0) at (le-ltb _ _ (c .before .before .before .before .if1 .left)) in
     rw (
       ← amounts-hours (unitsIn (s .args .units .now)) (s .args .events .now) (s .args .i),
       c .amounts-within .ensures,
       rest,
       c .before .before .load-u32 .ensures,
       c .before .before .before .record-at2 .ensures .0,
-      u .unit-place .ensures,
-      u .before .load-u16 .ensures,
-      u .before .before .load-u8 .ensures,
-      u .before .before .before .record-at .ensures .0,
+      s .pre .1,
+      k .before .record-at .ensures .0,
+      e,
     )))

@@ -1,21 +1,22 @@
-use Prim.Native.Nat.{_≤_, _-_, _/_}
+use Prim.Native.Nat.{_-_, _/_, _≤_}
 use mathlib.Core.Path.{_≡_}
 use borrow.Author.Needs.{needs}
 use native.Mathlib.Omega.{arith}
 use lib.ListN.{length}
-use Rattle.binary.specs.Bounded.{allTo}
-use Rattle.binary.proofs.BoundedLaws.{all-none, all-more}
-use Rattle.casefile.specs.Layout.{eventWidth}
+use Rattle.casefile.specs.Layout.{eventWidth, mostEvents}
 use Rattle.casefile.specs.Decode.{referencesIn, eventsIn}
-use Rattle.casefile.specs.Refusal.{referenceFound, referencesFound}
+use Rattle.casefile.specs.Refusal.{referencesFound}
+use Rattle.casefile.proofs.CheckedLaws.{LevelsFound, levels-start, levels-turn}
 use Rattle.casefile.proofs.events.references_found.Statement.{statement}
 use Rattle.casefile.proofs.events.references_found.Tie as tie
 
 abbrev Inv-loop : tie.InvT-loop
-Inv-loop references correct events n fine₀ i₀ fine i = (i ≤ length events / eventWidth) × (fine ≡ allTo i (referenceFound (referencesIn references) (referencesIn correct) (eventsIn events)))
+Inv-loop references correct events own₀ other₀ n fine₀ i₀ own other fine i =
+    (i ≤ length events / eventWidth) × (length own ≡ mostEvents) × (length other ≡ mostEvents)
+    × LevelsFound (referencesIn references) (referencesIn correct) (eventsIn events) i fine own other
 
 abbrev μ-loop : tie.MeasureT-loop
-μ-loop references correct events n fine₀ i₀ fine i = length events / eventWidth - i
+μ-loop references correct events own₀ other₀ n fine₀ i₀ own other fine i = length events / eventWidth - i
 
 pub references-found-spec : {M : Type 1} → statement M
 unfolding referencesFound eventsIn
@@ -24,12 +25,24 @@ references-found-spec =
     (tie.spec
     Inv-loop
     μ-loop
-    (λ c. (omega arith, all-none _))
-    (λ c κs. search needs)
+    (λ c. (omega arith, search needs, search needs, levels-start _ _ _ _ _))
+    (λ c κs. let s = c .before .before .before .before .before .before .before in (c .loop-test .taken, s .pre .0, s .pre .1))
+    (λ c. search needs)
+    (λ c. omega arith)
+    (λ c. search needs)
     (λ c. omega arith)
     (λ c. omega arith)
-    (λ c. (omega arith, rw (c .before .before .loop .inv .1, c .reference-found .ensures, all-more)))
+    (λ c. omega arith)
     (λ c.
-    let s = c .before .before .before .before .before .args in
-    let e : c .before .loop .i ≡ length (s .events .now) / eventWidth = omega arith in
-    rw (c .before .loop .inv .1, e)))
+    let l = c .before .before .loop in (
+      omega arith,
+      search needs,
+      search needs,
+      levels-turn _ _ _ (l .own) (l .other) (l .i) (l .fine) (c .event-levels .result) (omega arith) (omega arith) (l .inv .3)
+          (c .event-levels .ensures),
+    ))
+    (λ c.
+    let l = c .before .loop in
+    let e : l .i ≡ length (c .before .before .before .before .before .before .before .args .events .now) / eventWidth = omega arith in
+    let w = rw e at (l .inv .3) in
+    (w .found, (w .levelled, w .corrected))))

@@ -1,16 +1,15 @@
 use borrow.Author.Needs.{needs}
 use Rattle.casefile.specs.Decode.{referencesIn}
-use Rattle.casefile.specs.Refusal.{referenceFine, rises}
+use Rattle.casefile.specs.Refusal.{rises}
+use Rattle.casefile.specs.StageRead.{referenceFineWhere}
 use Rattle.casefile.proofs.references.reference_fine.Statement.{statement}
 use Rattle.casefile.proofs.references.reference_fine.Tie as tie
 
 pub reference-fine-spec : {M : Type 1} → statement M
-unfolding referencesIn referenceFine rises
+unfolding referencesIn referenceFineWhere rises
 reference-fine-spec =
     tie.close
     (tie.spec
-    (λ c κs. search needs)
-    (λ c κs. search needs)
     (λ c κs. search needs)
     (λ c κs. search needs)
     (λ c κs. search needs)
@@ -24,11 +23,9 @@ reference-fine-spec =
       c .reference-key2 .ensures,
       c .before .reference-key .ensures,
       c .before .before .place-before .ensures,
-      c .before .before .before .is-listed .ensures,
-      c .before .before .before .before .reference-fields-fine .ensures,
-      c .before .before .before .before .before .load-u32 .ensures,
-      c .before .before .before .before .before .before .load-u82 .ensures,
-      c .before .before .before .before .before .before .before .load-u8 .ensures,
-      c .before .before .before .before .before .before .before .before .load-u16 .ensures,
-      c .before .before .before .before .before .before .before .before .before .record-at .ensures .0,
+      c .before .before .before .reference-fields-fine .ensures,
+      c .before .before .before .before .load-u32 .ensures,
+      c .before .before .before .before .before .load-u82 .ensures,
+      c .before .before .before .before .before .before .load-u8 .ensures,
+      c .before .before .before .before .before .before .before .record-at .ensures .0,
     )))

@@ -1,4 +1,4 @@
-use Prim.Native.Nat.{ℕ, _+_, _-_, _/_}
+use Prim.Native.Nat.{ℕ, _+_, _-_, _/_, _≤_}
 use mathlib.Core.Path.{_≡_, sym, ap}
 use native.Mathlib.Nat.{le-refl, not-suc-le-zero}
 use native.Mathlib.Omega.{arith}
@@ -7,15 +7,28 @@ use lib.ListN.{length}
 use Rattle.casefile.specs.Layout.{unitWidth}
 use Rattle.casefile.specs.Decode.{unitsIn}
 use Rattle.casefile.specs.StageLookup.{Between}
-use Rattle.casefile.proofs.SearchLaws.{halve, halve-less}
+use Rattle.casefile.proofs.SearchLaws.{count-turn}
 use Rattle.casefile.proofs.units.unit_from.Statement.{statement}
 use Rattle.casefile.proofs.units.unit_from.Tie as tie
 
 abbrev Inv-loop : tie.InvT-loop
-Inv-loop units number lo₀ hi₀ lo hi = Between (unitsIn units .number) (length units / unitWidth) number lo hi
+Inv-loop units number n at₀ k₀ at k = (k ≤ length units / unitWidth) × Between (unitsIn units .number) k number at at
 
 abbrev μ-loop : tie.MeasureT-loop
-μ-loop units number lo₀ hi₀ lo hi = hi - lo
+μ-loop units number n at₀ k₀ at k = length units / unitWidth - k
+
+-- one more counted
+turn : (c : tie.After-choose-usize Inv-loop μ-loop) →
+    let l = c .before .before .before .loop in
+    let s = c .before .before .before .before .before .args in
+    Between (unitsIn (s .units .now) .number) (l .k + 1) (s .number) (l .at + c .choose-usize .result) (l .at + c .choose-usize .result)
+turn c =
+    let k = c .before in
+    let l = k .before .before .loop in
+    let s = k .before .before .before .before in
+    rw (c .choose-usize .ensures)
+    (count-turn (unitsIn (s .args .units .now) .number) (length (s .args .units .now) / unitWidth) (s .args .number) (l .k) (l .at) (s .pre)
+    (omega arith) (l .inv .1) _ (ap (λ (x : ℕ). ltb x (s .args .number)) (sym (k .unit-number .ensures))))
 
 pub unit-from-spec : {M : Type 1} → statement M
 unit-from-spec =
@@ -23,35 +36,17 @@ unit-from-spec =
     (tie.spec
     Inv-loop
     μ-loop
-    (λ c.
-    record {
-      order = omega arith;
-      end = le-refl _;
-      before = λ j l. absurd (not-suc-le-zero l);
-      after = λ j g l. absurd (omega arith);
-    })
-    (λ c. omega arith)
-    (λ c. omega arith)
+    (λ c. (
+      omega arith,
+      record { order = le-refl _; end = le-refl _; before = λ j l. absurd (not-suc-le-zero l); after = λ j g l. absurd (not-suc-le-zero l) },
+    ))
     (λ c κs. omega arith)
+    (λ c κs. tt)
+    (λ c. omega (arith, turn c .end))
     (λ c. omega arith)
-    (λ c κs. tt)
-    (λ c κs. tt)
-    (λ c.
-    let k = c .before .before in
-    let l = k .before .before .loop in
-    let s = k .before .before .before .before in
-    rw (c .choose-usize2 .ensures, c .before .choose-usize .ensures)
-    (halve-less (unitsIn (s .args .units .now) .number) (length (s .args .units .now) / unitWidth) (s .args .number) (l .lo) (l .hi)
-    (l .lo + (l .hi - l .lo) / 2) (s .pre) (l .inv) (omega arith) (omega arith) (ltb (k .unit-number .result) (s .args .number))))
-    (λ c.
-    let k = c .before .before in
-    let l = k .before .before .loop in
-    let s = k .before .before .before .before in
-    rw (c .choose-usize2 .ensures, c .before .choose-usize .ensures)
-    (halve (unitsIn (s .args .units .now) .number) (length (s .args .units .now) / unitWidth) (s .args .number) (l .lo) (l .hi)
-    (l .lo + (l .hi - l .lo) / 2) (s .pre) (l .inv) (omega arith) (omega arith) _
-    (ap (λ (x : ℕ). ltb x (s .args .number)) (sym (k .unit-number .ensures)))))
+    (λ c. omega arith)
+    (λ c. (omega arith, turn c))
     (λ c.
     let l = c .before .loop in
-    let e : l .hi ≡ l .lo = omega arith in
-    rw e at (l .inv)))
+    let e : l .k ≡ length (c .before .before .before .args .units .now) / unitWidth = omega arith in
+    rw e at (l .inv .1)))

@@ -1,7 +1,7 @@
 use mathlib.Core.Path.{sym}
 use borrow.Author.Needs.{needs}
 use Rattle.casefile.specs.Decode.{unitsIn}
-use Rattle.casefile.proofs.SearchLaws.{placed-at, placed-none}
+use Rattle.casefile.proofs.SearchLaws.{listed-at, listed-none, placed-at, placed-none}
 use Rattle.casefile.proofs.units.unit_place.Statement.{statement}
 use Rattle.casefile.proofs.units.unit_place.Tie as tie
 
@@ -16,9 +16,15 @@ unit-place-spec =
     (λ c.
     let f = c .before .before .before in
     let s = f .before .before in
-    rw (c .choose-usize .ensures, c .before .unit-number .ensures)
-    (placed-at (unitsIn (s .args .units .now)) (s .args .number) (s .pre) (f .unit-from .result) (f .unit-from .ensures) (c .before .before .if1 .taken)))
+    let u = unitsIn (s .args .units .now) in (
+      rw (c .before .unit-number .ensures) (listed-at u (s .args .number) (s .pre) (f .unit-from .result) (f .unit-from .ensures) (c .before .before .if1 .taken)),
+      rw (c .choose-usize .ensures, c .before .unit-number .ensures)
+          (placed-at u (s .args .number) (s .pre) (f .unit-from .result) (f .unit-from .ensures) (c .before .before .if1 .taken)),
+    ))
     (λ c.
     let f = c .before in
     let s = f .before .before in
-    sym (placed-none (unitsIn (s .args .units .now)) (s .args .number) (s .pre) (f .unit-from .result) (f .unit-from .ensures) (c .if1 .left))))
+    let u = unitsIn (s .args .units .now) in (
+      sym (listed-none u (s .args .number) (s .pre) (f .unit-from .result) (f .unit-from .ensures) (c .if1 .left)),
+      sym (placed-none u (s .args .number) (s .pre) (f .unit-from .result) (f .unit-from .ensures) (c .if1 .left)),
+    )))

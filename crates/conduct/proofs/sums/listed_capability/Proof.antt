@@ -1,8 +1,5 @@
-use mathlib.Core.List.{[]}
 use borrow.Author.Needs.{needs}
-use native.Mathlib.Omega.{arith}
-use Rattle.casefile.specs.Decode.{caseIn}
-use Rattle.conduct.proofs.FlagLaws.{capability-none, capability-read, capability-found}
+use Rattle.conduct.proofs.FlagLaws.{capability-none, capability-found}
 use Rattle.conduct.proofs.sums.listed_capability.Statement.{statement}
 use Rattle.conduct.proofs.sums.listed_capability.Tie as tie
 
@@ -13,22 +10,14 @@ listed-capability-spec =
     (λ c κs. search needs)
     (λ c κs. search needs)
     (λ c.
-    let a = c .before .before .before .before .before .before .before .before .args in
+    let a = c .before .before .before .before .before .args in
     capability-none (a .units .now) (a .events .now) _ (a .i) _ (c .before .before .record-at .ensures .0) (c .before .load-u8 .ensures) (c .if1 .taken))
-    (λ c. omega arith)
-    (λ c. search needs)
-    (λ c. omega arith)
-    (λ c. omega arith)
-    (λ c.
-    let start = c .before .before .before .before .before .before .before .before .before .before .before in
-    let a = start .args in
-    capability-read (caseIn (a .units .now) [] [] (a .events .now)) (a .capabilities .now) (a .i) _ (start .pre .1 .1 .1) (start .pre .1 .1 .0) (c .before .if2 .taken))
-    (λ c. omega arith)
-    (λ c. search needs)
+    (λ c κs. search needs)
+    (λ c κs. search needs)
     (λ c κs. search needs)
     (λ c.
-    let k = c .before .before .before .before .before in
-    let start = k .before .before .before .before .before .before .before in
+    let k = c .before .before .before .before in
+    let start = k .before .before .before .before in
     let a = start .args in
-    capability-found (a .units .now) (a .events .now) _ (a .i) _ (k .before .record-at .ensures .0) (k .load-u8 .ensures) _ _
-    (c .before .before .before .before .if1 .left) (start .pre .1 .0) (c .group-capability .ensures)))
+    capability-found (a .units .now) (a .events .now) _ (a .i) _ (k .before .record-at .ensures .0) (k .load-u8 .ensures) _ _ _ _
+    (c .before .before .before .if1 .left) (start .pre .1) (c .before .before .record-at2 .ensures .0) (c .before .load-u16 .ensures) (c .group-capability .ensures)))

@@ -1,11 +1,10 @@
 use mathlib.Core.Bool.{true, false}
-use mathlib.Core.Path.{_≡_}
+use mathlib.Core.Path.{_≡_, _∙_}
 use borrow.Author.Needs.{needs}
 use borrow.Author.Tests.{eq-eqb, ne-eqb}
 use lib.Dec.{eqb}
-use Rattle.casefile.specs.Decode.{unitsIn, eventsIn, amountsIn}
-use Rattle.casefile.proofs.RecordLaws.{rest}
-use Rattle.default_bids.proofs.FigureLaws.{bids-read, bids-none}
+use Rattle.casefile.specs.Decode.{eventsIn}
+use Rattle.default_bids.proofs.BidLaws.{bids-none, held-own, held-correct}
 use Rattle.default_bids.proofs.bids.bids_in_force.Statement.{statement}
 use Rattle.default_bids.proofs.bids.bids_in_force.Tie as tie
 
@@ -20,6 +19,7 @@ unfolding eventsIn
 bid c = rw (← c .before .before .record-at .ensures .0, ← c .before .load-u8 .ensures) (eq-eqb _ _ (c .if1 .left))
 
 pub bids-in-force-spec : {M : Type 1} → statement M
+unfolding eventsIn
 bids-in-force-spec =
     tie.close
     (tie.spec
@@ -27,14 +27,20 @@ bids-in-force-spec =
     (λ c κs. search needs)
     (λ c.
     let a = c .before .before .before .before .before .args in
-    bids-none (unitsIn (a .units .now)) (eventsIn (a .events .now)) (amountsIn (a .events .now)) (a .i) (a .place) (a .reference) (a .correct) (a .mitigated) (other c))
+    bids-none (a .units .now) (a .events .now) (a .place) (a .level) (a .correct) (a .mitigated) (a .i) (other c))
     (λ c κs. search needs)
-    (λ c. search needs)
-    (λ c. search needs)
-    (λ c. search needs)
+    (λ c κs. tt)
+    (λ c κs. search needs)
     (λ c κs. search needs)
     (λ c.
     let t = c .before .before in
-    let a = t .before .before .before .before .before .before .args in
-    rw (c .hour-bids .ensures, rest, t .terms-of .ensures, t .before .before .before .record-at .ensures .0)
-    (bids-read (unitsIn (a .units .now)) (a .events .now) (a .i) (a .place) (a .reference) (a .correct) (a .mitigated) (bid (t .before)))))
+    let s = t .before .before .before in
+    let e = rw (t .before .restores .ensures, t .before .before .load-u82 .ensures, s .before .before .record-at .ensures .0) at (t .if2 .taken) in
+    c .held-bids .ensures ∙ held-correct _ _ _ _ _ _ _ _ (bid s) e (c .before .failing-with .ensures))
+    (λ c κs. search needs)
+    (λ c.
+    let t = c .before in
+    let s = t .before .before .before in
+    let a = s .before .before .before .before .before .args in
+    let e = rw (t .before .restores .ensures, t .before .before .load-u82 .ensures, s .before .before .record-at .ensures .0) at (t .if2 .left) in
+    c .held-bids2 .ensures ∙ held-own _ _ (a .place) _ (a .correct) _ _ (bid s) e))

@@ -7,7 +7,7 @@ use Rattle.binary.proofs.Implies.{and-l}
 use Rattle.casefile.specs.Decode.{eventsIn}
 use Rattle.casefile.proofs.RecordLaws.{rest}
 use Rattle.default_bids.specs.StageFigures.{makeUpBy}
-use Rattle.default_bids.proofs.MakeUpBounds.{make-up-bound, megawatts-fine}
+use Rattle.default_bids.proofs.MakeUpBounds.{megawatts-fine, make-up-most}
 use Rattle.default_bids.proofs.make_up.event_make_up.Statement.{statement}
 use Rattle.default_bids.proofs.make_up.event_make_up.Tie as tie
 
@@ -24,6 +24,13 @@ other : (c : tie.Else1) → let a = c .before .before .before .before .before .a
 unfolding eventsIn
 other c =
     rw (c .before .load-u82 .ensures, c .before .before .load-u8 .ensures, c .before .before .before .record-at .ensures .0) at (c .if1 .left)
+
+found : (c : tie.After-make-up) → let a = c .before .before .before .before .before .before .before .before .args in
+    c .make-up .result ≡ makeUpBy (a .events .now) (a .i) (a .reference) (a .correct) (a .mitigated)
+unfolding makeUpBy
+found c =
+    let t = c .before .before .before in
+    rw (c .make-up .ensures, c .before .sum-tenths .ensures .0, rest, t .before .before .before .record-at .ensures .0, energy t)
 
 pub event-make-up-spec : {M : Type 1} → statement M
 unfolding makeUpBy
@@ -45,9 +52,6 @@ event-make-up-spec =
     ))
     (λ c κs. omega (arith, c .sum-tenths .ensures .1))
     (λ c.
-    let t = c .before .before .before in
-    let a = t .before .before .before .before .before .args in (
-      rw (c .make-up .ensures, c .before .sum-tenths .ensures .0, rest, t .before .before .before .record-at .ensures .0, energy t),
-      omega (arith, make-up-bound (a .reference) (a .correct) (c .before .sum-tenths .result), c .make-up .ensures, c .before .sum-tenths .ensures .1),
-    ))
+    let s = c .before .before .before .before .before .before .before .before in
+    (found c, rw (found c) (make-up-most (s .args .events .now) (s .args .i) _ _ _ (s .pre .1) (s .pre .0))))
     (λ c. (rw (other c), omega arith)))

@@ -3,16 +3,17 @@ use mathlib.Core.Path.{_≡_}
 use native.Mathlib.Omega.{arith}
 use Rattle.binary.specs.Bounded.{sumTo}
 use Rattle.binary.proofs.BoundedLaws.{sum-none, sum-more}
-use Rattle.default_bids.specs.StageFigures.{tenthsAt}
+use Rattle.casefile.specs.Layout.{mostHours}
+use Rattle.default_bids.specs.StageFigures.{tenthsAt, highestTenths}
 use Rattle.default_bids.proofs.make_up.sum_tenths.Statement.{statement}
 use Rattle.default_bids.proofs.make_up.sum_tenths.Tie as tie
 
 abbrev Inv-loop : tie.InvT-loop
 Inv-loop cells correct mitigated sum₀ h₀ sum h =
-    (h ≤ 24) × (sum ≤ 214748364800000 * h) × (sum ≡ sumTo h (tenthsAt cells correct mitigated))
+    (h ≤ mostHours) × (sum ≤ highestTenths * h) × (sum ≡ sumTo h (tenthsAt cells correct mitigated))
 
 abbrev μ-loop : tie.MeasureT-loop
-μ-loop cells correct mitigated sum₀ h₀ sum h = 24 - h
+μ-loop cells correct mitigated sum₀ h₀ sum h = mostHours - h
 
 pub sum-tenths-spec : {M : Type 1} → statement M
 sum-tenths-spec =
@@ -29,5 +30,5 @@ sum-tenths-spec =
     (λ c. omega arith)
     (λ c. (omega arith, omega (arith, c .hour-tenths .ensures .1), rw (c .before .before .loop .inv .2, c .hour-tenths .ensures .0, sum-more)))
     (λ c.
-    let e : c .before .loop .h ≡ 24 = omega arith in
+    let e : c .before .loop .h ≡ mostHours = omega arith in
     (rw (c .before .loop .inv .2, e), omega arith)))

@@ -1,4 +1,6 @@
 use Prim.Native.Nat.{_≤_}
+use native.Mathlib.Nat.{le-refl}
+use native.Mathlib.Omega.{arith}
 use borrow.Author.Needs.{needs}
 use Rattle.casefile.specs.Decode.{eventsIn}
 use Rattle.sanctions.specs.StageTables.{multiplierAt, partyPenalty, fuelRow}
@@ -6,10 +8,11 @@ use Rattle.sanctions.proofs.TableLaws.{SmallDay, day-small, after-small
 use Rattle.sanctions.proofs.fuel.fuel.Statement.{statement}
 use Rattle.sanctions.proofs.fuel.fuel.Tie as tie
 
-small : (c : tie.After-party-day) → let d = c .party-day .result in SmallDay (d .gain) (d .loss) (d .rise) (d .fall)
+small : (c : tie.After-party-day) → SmallDay (c .party-day .result)
 small c =
-    let s = c .before .before .before .before .before .before .before .before .before .before .before .before .before .before in
-    rw (c .party-day .ensures) (day-small (s .args .events .now) (s .args .leaders .now) _ (s .args .i) (s .pre .6) (s .pre .7) (s .pre .1))
+    let s = c .before .before .before .before .before .before .before .before .before .before in
+    rw (c .party-day .ensures)
+    (day-small (s .args .events .now) (s .args .leaders .now) _ (s .args .i) (s .pre .2) (s .pre .3) _ (le-refl _) (s .pre .1))
 
 few : (c : tie.After-multiplier-after) → c .multiplier-after .result ≤ 3
 few c = rw (c .multiplier-after .ensures) (after-small _)
@@ -33,7 +36,7 @@ fuel-spec =
     (λ c κs.
     let d = small (c .before) in
     let m = few (c .before .before .before) in
-    (m, d .gain-small, d .loss-small, rw (c .difference .ensures) (d .tcc-small)))
+    (m, d .gain-small, d .loss-small, rw (c .difference .ensures) (omega arith)))
     (λ c.
     let p = c .before .before in
     let m = p .before .before in

@@ -1,96 +1,70 @@
-use Prim.Native.Nat.{ℕ, _+_, _-_, _*_, _/_, _≤_, _<_}
-use mathlib.Core.List.{List}
-use mathlib.Core.Path.{_≡_}
+use Prim.Native.Nat.{_+_, _-_, _/_, _≤_}
+use mathlib.Core.Path.{_≡_, ap, _∙_}
 use native.Mathlib.Omega.{arith}
 use lib.ListN.{length}
-use Rattle.binary.specs.Bounded.{sumTo}
-use Rattle.binary.specs.Word.{positivePart, negativePart}
 use Rattle.casefile.specs.Layout.{eventWidth}
-use Rattle.sanctions.specs.StageTables.{ledBy, energyAt, tccAt, partyDay}
-use Rattle.sanctions.proofs.TableLaws.{positive-part, negative-part, sum-turn, shares, energy-led, tcc-led, none-before}
+use Rattle.casefile.specs.Decode.{eventsIn}
+use Rattle.sanctions.specs.StageTables.{partyDay}
+use Rattle.sanctions.proofs.TableLaws.{SmallDay, plus, day-none, day-more, day-whole, day-small}
 use Rattle.sanctions.proofs.fuel.party_day.Statement.{statement}
 use Rattle.sanctions.proofs.fuel.party_day.Tie as tie
 
 abbrev Inv-loop : tie.InvT-loop
-Inv-loop events leaders mask i n gain₀ loss₀ rise₀ fall₀ j₀ gain loss rise fall j =
-    (j ≤ length events / eventWidth) × (gain ≡ sumTo j (ledBy leaders i (energyAt (positivePart 32) events mask)))
-    × (loss ≡ sumTo j (ledBy leaders i (energyAt (negativePart 32) events mask)))
-    × (rise ≡ sumTo j (ledBy leaders i (tccAt (positivePart 32) events)))
-    × (fall ≡ sumTo j (ledBy leaders i (tccAt (negativePart 32) events)))
+Inv-loop events leaders mask i end gain₀ loss₀ rise₀ fall₀ j₀ gain loss rise fall j =
+    (j ≤ end) × (record { gain = gain; loss = loss; rise = rise; fall = fall } ≡ partyDay events leaders mask i j)
 
 abbrev μ-loop : tie.MeasureT-loop
-μ-loop events leaders mask i n gain₀ loss₀ rise₀ fall₀ j₀ gain loss rise fall j = length events / eventWidth - j
+μ-loop events leaders mask i end gain₀ loss₀ rise₀ fall₀ j₀ gain loss rise fall j = end - j
 
--- what a turn adds, each sum of at most 200 events
-module _ (c : tie.After-party-share Inv-loop μ-loop) where
-  abbrev Turn : ℕ → ℕ → ℕ → (ℕ → ℕ) → Type 0
-  Turn x y b f = (x + y ≡ sumTo (c .before .before .loop .j + 1) f) × (x + y ≤ (c .before .before .loop .j + 1) * b)
+within : (c : tie.After-run-end Inv-loop μ-loop) → c .run-end .result ≤ length (c .before .before .args .events .now) / eventWidth
+unfolding eventsIn
+within c = c .run-end .ensures .within
 
-  abbrev e : List ℕ
-  e = c .before .before .before .before .before .args .events .now
+-- what a turn leaves
+next : (c : tie.After-party-share Inv-loop μ-loop)
+    → let l = c .before .before .loop in
+    let a = c .before .before .before .before .before .args in
+    plus (record { gain = l .gain; loss = l .loss; rise = l .rise; fall = l .fall }) (c .party-share .result)
+    ≡ partyDay (a .events .now) (a .leaders .now) (a .mask) (a .i) (l .j + 1)
+next c =
+    let s = c .before .before .before .before .before in
+    day-more (s .args .events .now) (s .args .leaders .now) _ (s .args .i) (s .pre .2) (s .pre .3) _ _ _ (c .before .before .loop .inv .1) (c .party-share .ensures)
 
-  abbrev l : List ℕ
-  l = c .before .before .before .before .before .args .leaders .now
-
-  abbrev m : ℕ
-  m = c .before .before .before .before .before .args .mask
-
-  abbrev i : ℕ
-  i = c .before .before .before .before .before .args .i
-
-  below : (k : ℕ) → k < c .before .before .loop .j + 1 → k < length e / eventWidth
-  below k b = let t = c .before .loop-test .taken in omega arith
-
-  gained : Turn (c .before .before .loop .gain) (c .party-share .result .gain) 3000000000000000 (ledBy l i (energyAt (positivePart 32) e m))
-  gained =
-      let s = c .before .before .before .before .before in
-      sum-turn _ _ _ _ _ (λ k b. energy-led (positivePart 32) positive-part e l m i (s .pre .3) (s .pre .4) k (below k b))
-      (c .before .before .loop .inv .1) (shares _ e l m i _ (c .party-share .ensures) .0)
-
-  lost : Turn (c .before .before .loop .loss) (c .party-share .result .loss) 3000000000000000 (ledBy l i (energyAt (negativePart 32) e m))
-  lost =
-      let s = c .before .before .before .before .before in
-      sum-turn _ _ _ _ _ (λ k b. energy-led (negativePart 32) negative-part e l m i (s .pre .3) (s .pre .4) k (below k b))
-      (c .before .before .loop .inv .2) (shares _ e l m i _ (c .party-share .ensures) .1)
-
-  risen : Turn (c .before .before .loop .rise) (c .party-share .result .rise) 2147483648 (ledBy l i (tccAt (positivePart 32) e))
-  risen =
-      let s = c .before .before .before .before .before in
-      sum-turn _ _ _ _ _ (λ k b. tcc-led (positivePart 32) positive-part e l m i (s .pre .3) (s .pre .4) k (below k b))
-      (c .before .before .loop .inv .3) (shares _ e l m i _ (c .party-share .ensures) .2)
-
-  fallen : Turn (c .before .before .loop .fall) (c .party-share .result .fall) 2147483648 (ledBy l i (tccAt (negativePart 32) e))
-  fallen =
-      let s = c .before .before .before .before .before in
-      sum-turn _ _ _ _ _ (λ k b. tcc-led (negativePart 32) negative-part e l m i (s .pre .3) (s .pre .4) k (below k b))
-      (c .before .before .loop .inv .4) (shares _ e l m i _ (c .party-share .ensures) .3)
+small : (c : tie.After-party-share Inv-loop μ-loop)
+    → let l = c .before .before .loop in
+    SmallDay (plus (record { gain = l .gain; loss = l .loss; rise = l .rise; fall = l .fall }) (c .party-share .result))
+small c =
+    let s = c .before .before .before .before .before in
+    let t = c .before .loop-test .taken in
+    let w = within (c .before .before .before) in
+    rw (next c) (day-small (s .args .events .now) (s .args .leaders .now) _ (s .args .i) (s .pre .2) (s .pre .3) _ (omega arith) (omega arith))
 
 pub party-day-spec : {M : Type 1} → statement M
-unfolding partyDay
 party-day-spec =
     tie.close
     (tie.spec
     Inv-loop
     μ-loop
+    (λ c κs. let s = c .before in (s .pre .0, s .pre .3 .runs))
     (λ c.
-    let s = c .before .before in (
-      omega arith,
-      none-before (s .args .events .now) _ _ _ (s .pre .0) (s .pre .4),
-      none-before (s .args .events .now) _ _ _ (s .pre .0) (s .pre .4),
-      none-before (s .args .events .now) _ _ _ (s .pre .0) (s .pre .4),
-      none-before (s .args .events .now) _ _ _ (s .pre .0) (s .pre .4),
-    ))
-    (λ c κs. let s = c .before .before .before .before in (c .loop-test .taken, omega arith, s .pre .3, s .pre .4))
-    (λ c. let t = gained (c .before) .1 in omega arith)
-    (λ c. let t = lost (c .before .before) .1 in omega arith)
-    (λ c. let t = risen (c .before .before .before) .1 in omega arith)
-    (λ c. let t = fallen (c .before .before .before .before) .1 in omega arith)
+    let s = c .before .before in
+    let a = c .run-end .ensures .after in
+    (omega arith, day-none (s .args .events .now) (s .args .leaders .now) _ _ (s .pre .2) (s .pre .3) (s .pre .0)))
+    (λ c κs.
+    let s = c .before .before .before .before in
+    let w = within (c .before .before) in
+    (omega arith, omega arith, s .pre .2, s .pre .3))
+    (λ c. let t = small (c .before) in omega arith)
+    (λ c. let t = small (c .before .before) in omega arith)
+    (λ c. let t = small (c .before .before .before) in omega arith)
+    (λ c. let t = small (c .before .before .before .before) in omega arith)
     (λ c. omega arith)
     (λ c. omega arith)
-    (λ c.
-    let p = c .before .before .before .before in
-    (omega arith, gained p .0, lost p .0, risen p .0, fallen p .0))
+    (λ c. (omega arith, next (c .before .before .before .before)))
     (λ c.
     let l = c .before .loop in
-    let e : l .j ≡ length (c .before .before .before .before .args .events .now) / eventWidth = omega arith in
-    rw (l .inv .1, l .inv .2, l .inv .3, l .inv .4, e)))
+    let r = c .before .before in
+    let s = r .before .before in
+    let e : l .j ≡ r .run-end .result = omega arith in
+    l .inv .1 ∙ ap (partyDay (s .args .events .now) (s .args .leaders .now) (s .args .mask) (s .args .i)) e
+    ∙ day-whole (s .args .events .now) (s .args .leaders .now) _ _ (s .pre .2) (s .pre .3) _ (r .run-end .ensures)))

@@ -20,7 +20,7 @@ party-share-spec =
     (λ c κs. search needs)
     (λ c κs.
     let t = c .before .before .before .before in
-    let s = t .before .before .before .before in (
+    let s = t .before .before .before in (
       c .cells-of .ensures .1,
       rw (c .cells-of .ensures .0)
           (led-amounts (s .args .events .now) (s .args .leaders .now) _ _ (s .pre .2) (s .pre .3) (s .pre .0) (t .if1 .left)),

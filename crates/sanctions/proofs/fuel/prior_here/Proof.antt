@@ -26,5 +26,5 @@ prior-here-spec =
     (λ c. omega arith)
     (λ c. (omega arith, rw (c .before .before .loop .inv .1, c .is-prior .ensures, any-more)))
     (λ c.
-    let e : c .before .loop .j ≡ c .before .before .before .before .before .args .i = omega arith in
+    let e : c .before .loop .j ≡ c .before .before .before .args .i = omega arith in
     rw (c .before .loop .inv .1, e)))

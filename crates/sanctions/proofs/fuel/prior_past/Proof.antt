@@ -5,15 +5,16 @@ use native.Mathlib.Omega.{arith}
 use lib.ListN.{length}
 use Rattle.binary.specs.Bounded.{anyTo}
 use Rattle.binary.proofs.BoundedLaws.{any-none, any-more}
+use Rattle.casefile.specs.Layout.{pastWidth}
 use Rattle.sanctions.specs.StageTables.{fuelEntryCounts}
 use Rattle.sanctions.proofs.fuel.prior_past.Statement.{statement}
 use Rattle.sanctions.proofs.fuel.prior_past.Tie as tie
 
 abbrev Inv-loop : tie.InvT-loop
-Inv-loop past day group n any₀ j₀ any j = (j ≤ length past / 12) × (any ≡ anyTo j (fuelEntryCounts past day group))
+Inv-loop past day group n any₀ j₀ any j = (j ≤ length past / pastWidth) × (any ≡ anyTo j (fuelEntryCounts past day group))
 
 abbrev μ-loop : tie.MeasureT-loop
-μ-loop past day group n any₀ j₀ any j = length past / 12 - j
+μ-loop past day group n any₀ j₀ any j = length past / pastWidth - j
 
 pub prior-past-spec : {M : Type 1} → statement M
 prior-past-spec =
@@ -27,5 +28,5 @@ prior-past-spec =
     (λ c. omega arith)
     (λ c. (omega arith, rw (c .before .before .loop .inv .1, c .is-prior-entry .ensures, any-more)))
     (λ c.
-    let e : c .before .loop .j ≡ length (c .before .before .before .args .past .now) / 12 = omega arith in
+    let e : c .before .loop .j ≡ length (c .before .before .before .args .past .now) / pastWidth = omega arith in
     rw (c .before .loop .inv .1, e)))

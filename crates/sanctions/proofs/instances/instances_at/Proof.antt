@@ -1,8 +1,11 @@
 use Prim.Native.Nat.{_≤_, _/_}
+use mathlib.Core.Path.{sym, _∙_}
 use borrow.Author.Needs.{needs}
+use borrow.Author.Tests.{not-true, not-false}
 use native.Mathlib.Omega.{arith}
 use lib.ListN.{length}
 use Rattle.binary.proofs.BoundedLaws.{count-bound}
+use Rattle.casefile.specs.Layout.{pastWidth}
 use Rattle.casefile.specs.Decode.{eventsIn}
 use Rattle.sanctions.specs.StageTables.{instancesHere, instancesPast, instancesAt}
 use Rattle.sanctions.proofs.instances.instances_at.Statement.{statement}
@@ -15,7 +18,7 @@ unfolding instancesHere
 here c = rw (c .instances-here .ensures) (count-bound _ _, count-bound _ _)
 
 outside : (c : tie.After-instances-past)
-    → let n = length (c .before .before .before .before .before .before .before .before .before .before .args .past .now) / 12 in
+    → let n = length (c .before .before .before .before .before .before .before .before .before .before .args .past .now) / pastWidth in
     (c .instances-past .result .n3 ≤ n) × (c .instances-past .result .n2 ≤ n)
 unfolding instancesPast
 outside c = rw (c .instances-past .ensures) (count-bound _ _, count-bound _ _)
@@ -25,6 +28,8 @@ unfolding instancesAt eventsIn
 instances-at-spec =
     tie.close
     (tie.spec
+    (λ c κs. search needs)
+    (λ c. rw (sym (c .before .is-instance .ensures) ∙ not-true _ (c .if1 .taken)))
     (λ c κs. search needs)
     (λ c κs. search needs)
     (λ c κs. search needs)
@@ -40,6 +45,7 @@ instances-at-spec =
     let p = c .before .before .before .before in
     let h = p .before in
     rw (
+      sym (h .before .before .before .before .before .before .is-instance .ensures) ∙ not-false _ (h .before .before .before .before .before .if1 .left),
       p .instances-past .ensures,
       h .instances-here .ensures,
       h .before .before .load-u16 .ensures,

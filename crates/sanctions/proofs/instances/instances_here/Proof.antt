@@ -3,58 +3,49 @@ use mathlib.Core.Path.{_≡_}
 use borrow.Author.Needs.{needs}
 use native.Mathlib.Omega.{arith}
 use Rattle.binary.specs.Bounded.{countTo}
-use Rattle.binary.proofs.BoundedLaws.{count-none}
+use Rattle.binary.proofs.BoundedLaws.{count-none, count-more}
 use Rattle.sanctions.specs.StageTables.{rowCounts, instancesHere}
-use Rattle.sanctions.proofs.TableLaws.{CountTurn, count-turn}
 use Rattle.sanctions.proofs.instances.instances_here.Statement.{statement}
 use Rattle.sanctions.proofs.instances.instances_here.Tie as tie
 
 abbrev Inv-loop : tie.InvT-loop
-Inv-loop events groups n3 group market period i three₀ two₀ j₀ three two j =
-    (j ≤ i) × (three ≡ countTo j (rowCounts events groups n3 group market period 2))
-    × (two ≡ countTo j (rowCounts events groups n3 group market period 1))
+Inv-loop events groups masks group market period i three₀ two₀ j₀ three two j =
+    (j ≤ i) × (three ≤ j) × (two ≤ j) × (three ≡ countTo j (rowCounts events groups masks group market period 2))
+    × (two ≡ countTo j (rowCounts events groups masks group market period 1))
 
 abbrev μ-loop : tie.MeasureT-loop
-μ-loop events groups n3 group market period i three₀ two₀ j₀ three two j = i - j
-
-three : (c : tie.After-one-where Inv-loop μ-loop)
-    → let l = c .before .before .before .before .before .loop in
-    let a = c .before .before .before .before .before .before .before .before .before .args in
-    CountTurn (l .j) (l .three) (c .one-where .result) (rowCounts (a .events .now) (a .groups .now) (a .n3 .now) (a .group) (a .market) (a .period) 2)
-unfolding rowCounts
-three c =
-    count-turn _ _ _ _ (c .before .before .before .before .before .loop .inv .1)
-    (rw (c .one-where .ensures, c .before .period-counts .ensures, c .before .before .period-of .ensures, c .before .before .before .is-instance .ensures))
-
-two : (c : tie.After-one-where2 Inv-loop μ-loop)
-    → let l = c .before .before .before .before .before .before .before .loop in
-    let a = c .before .before .before .before .before .before .before .before .before .before .before .args in
-    CountTurn (l .j) (l .two) (c .one-where2 .result) (rowCounts (a .events .now) (a .groups .now) (a .n3 .now) (a .group) (a .market) (a .period) 1)
-unfolding rowCounts
-two c =
-    count-turn _ _ _ _ (c .before .before .before .before .before .before .before .loop .inv .2)
-    (rw (c .one-where2 .ensures, c .before .period-counts2 .ensures, c .before .before .before .before .period-of .ensures, c .before .before .before .before .before .is-instance .ensures))
+μ-loop events groups masks group market period i three₀ two₀ j₀ three two j = i - j
 
 pub instances-here-spec : {M : Type 1} → statement M
-unfolding instancesHere
+unfolding rowCounts instancesHere
 instances-here-spec =
     tie.close
     (tie.spec
     Inv-loop
     μ-loop
-    (λ c. (omega arith, count-none _, count-none _))
+    (λ c. (omega arith, omega arith, omega arith, count-none _, count-none _))
     (λ c κs. search needs)
     (λ c κs. search needs)
     (λ c κs. tt)
     (λ c κs. tt)
-    (λ c. let t = three c .few in omega arith)
+    (λ c. omega arith)
     (λ c κs. tt)
     (λ c κs. tt)
-    (λ c. let t = two c .few in omega arith)
     (λ c. omega arith)
     (λ c. omega arith)
-    (λ c. (omega arith, three (c .before .before) .next, two c .next))
+    (λ c. omega arith)
     (λ c.
-    let s = c .before .before .before .before .before .args in
-    let e : c .before .loop .j ≡ s .i = omega arith in
-    rw (c .before .loop .inv .1, c .before .loop .inv .2, e)))
+    let t = c .before .before in
+    let p = t .before .before in
+    let l = p .before .before .before .loop in (
+      omega arith,
+      omega arith,
+      omega arith,
+      rw (l .inv .3, t .one-where .ensures .0, t .before .period-counts .ensures, p .period-of .ensures, p .before .is-instance-of .ensures, count-more),
+      rw (l .inv .4, c .one-where2 .ensures .0, c .before .period-counts2 .ensures, p .period-of .ensures, p .before .is-instance-of .ensures, count-more),
+    ))
+    (λ c.
+    let s = c .before .before .before .args in
+    let l = c .before .loop in
+    let e : l .j ≡ s .i = omega arith in
+    rw (l .inv .3, l .inv .4, e)))

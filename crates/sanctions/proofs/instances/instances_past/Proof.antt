@@ -4,58 +4,50 @@ use borrow.Author.Needs.{needs}
 use native.Mathlib.Omega.{arith}
 use lib.ListN.{length}
 use Rattle.binary.specs.Bounded.{countTo}
-use Rattle.binary.proofs.BoundedLaws.{count-none}
+use Rattle.binary.proofs.BoundedLaws.{count-none, count-more}
+use Rattle.casefile.specs.Layout.{pastWidth}
 use Rattle.sanctions.specs.StageTables.{entryCounts, instancesPast}
-use Rattle.sanctions.proofs.TableLaws.{CountTurn, count-turn}
 use Rattle.sanctions.proofs.instances.instances_past.Statement.{statement}
 use Rattle.sanctions.proofs.instances.instances_past.Tie as tie
 
 abbrev Inv-loop : tie.InvT-loop
 Inv-loop past group market period n three₀ two₀ j₀ three two j =
-    (j ≤ length past / 12) × (three ≡ countTo j (entryCounts past group market period 2))
+    (j ≤ length past / pastWidth) × (three ≤ j) × (two ≤ j) × (three ≡ countTo j (entryCounts past group market period 2))
     × (two ≡ countTo j (entryCounts past group market period 1))
 
 abbrev μ-loop : tie.MeasureT-loop
-μ-loop past group market period n three₀ two₀ j₀ three two j = length past / 12 - j
-
-three : (c : tie.After-one-where Inv-loop μ-loop)
-    → let l = c .before .before .before .before .before .loop in
-    let a = c .before .before .before .before .before .before .before .args in
-    CountTurn (l .j) (l .three) (c .one-where .result) (entryCounts (a .past .now) (a .group) (a .market) (a .period) 2)
-unfolding entryCounts
-three c =
-    count-turn _ _ _ _ (c .before .before .before .before .before .loop .inv .1)
-    (rw (c .one-where .ensures, c .before .period-counts .ensures, c .before .before .entry-period .ensures, c .before .before .before .is-entry .ensures))
-
-two : (c : tie.After-one-where2 Inv-loop μ-loop)
-    → let l = c .before .before .before .before .before .before .before .loop in
-    let a = c .before .before .before .before .before .before .before .before .before .args in
-    CountTurn (l .j) (l .two) (c .one-where2 .result) (entryCounts (a .past .now) (a .group) (a .market) (a .period) 1)
-unfolding entryCounts
-two c =
-    count-turn _ _ _ _ (c .before .before .before .before .before .before .before .loop .inv .2)
-    (rw (c .one-where2 .ensures, c .before .period-counts2 .ensures, c .before .before .before .before .entry-period .ensures, c .before .before .before .before .before .is-entry .ensures))
+μ-loop past group market period n three₀ two₀ j₀ three two j = length past / pastWidth - j
 
 pub instances-past-spec : {M : Type 1} → statement M
-unfolding instancesPast
+unfolding entryCounts instancesPast
 instances-past-spec =
     tie.close
     (tie.spec
     Inv-loop
     μ-loop
-    (λ c. (omega arith, count-none _, count-none _))
+    (λ c. (omega arith, omega arith, omega arith, count-none _, count-none _))
     (λ c κs. search needs)
     (λ c κs. search needs)
     (λ c κs. tt)
     (λ c κs. tt)
-    (λ c. let t = three c .few in omega arith)
+    (λ c. omega arith)
     (λ c κs. tt)
     (λ c κs. tt)
-    (λ c. let t = two c .few in omega arith)
     (λ c. omega arith)
     (λ c. omega arith)
-    (λ c. (omega arith, three (c .before .before) .next, two c .next))
+    (λ c. omega arith)
+    (λ c.
+    let t = c .before .before in
+    let p = t .before .before in
+    let l = p .before .before .before .loop in (
+      omega arith,
+      omega arith,
+      omega arith,
+      rw (l .inv .3, t .one-where .ensures .0, t .before .period-counts .ensures, p .entry-period .ensures, p .before .is-entry .ensures, count-more),
+      rw (l .inv .4, c .one-where2 .ensures .0, c .before .period-counts2 .ensures, p .entry-period .ensures, p .before .is-entry .ensures, count-more),
+    ))
     (λ c.
     let s = c .before .before .before .args in
-    let e : c .before .loop .j ≡ length (s .past .now) / 12 = omega arith in
-    rw (c .before .loop .inv .1, c .before .loop .inv .2, e)))
+    let l = c .before .loop in
+    let e : l .j ≡ length (s .past .now) / pastWidth = omega arith in
+    rw (l .inv .3, l .inv .4, e)))

@@ -11,7 +11,7 @@ use Rattle.sanctions.proofs.penalties.sanction_at.Statement.{statement}
 use Rattle.sanctions.proofs.penalties.sanction_at.Tie as tie
 
 kind : (c : tie.After-load-u8)
-    → let a = c .before .before .before .before .before .before .before .before .before .args in
+    → let a = c .before .before .before .before .args in
     c .load-u8 .result ≡ eventsIn (a .events .now) .kind (a .i)
 unfolding eventsIn
 kind c = rw (c .load-u8 .ensures, c .before .record-at .ensures .0)
@@ -25,14 +25,11 @@ sanction-at-spec =
     (λ c κs. search needs)
     (λ c κs.
     let k = kind (c .before) in
-    let s = c .before .before .before .before .before .before .before .before .before .before in (
+    let s = c .before .before .before .before .before in (
       s .pre .0 .0,
       omega arith,
-      omega arith,
-      omega arith,
-      omega arith,
       s .pre .0 .2,
-      s .pre .0 .3 .withheld (s .args .i) (s .pre .0 .0) (sym k ∙ c .if1 .taken),
+      s .pre .1 .withheld (s .args .i) (s .pre .0 .0) (sym k ∙ c .if1 .taken),
     ))
     (λ c. rw (eq-eqb _ 1 (sym (kind (c .before .before)) ∙ c .before .if1 .taken), c .withheld .ensures))
     (λ c κs. search needs)
@@ -48,15 +45,11 @@ sanction-at-spec =
     (λ c. search needs)
     (λ c κs.
     let k = kind (c .before .before .before .before) in
-    let s = c .before .before .before .before .before .before .before .before .before .before .before .before .before in (
+    let s = c .before .before .before .before .before .before .before .before in (
       s .pre .0 .0,
       s .pre .0 .1,
-      omega arith,
-      omega arith,
-      omega arith,
-      omega arith,
       sym k ∙ eqb-true _ 3 (and-l (eqb (c .before .before .before .before .load-u8 .result) 3) (eqb (getD (s .args .leaders .now) (s .args .i) 0) (s .args .i)) (c .if3 .taken)),
-      s .pre .0 .3,
+      s .pre .1,
     ))
     (λ c.
     let d = c .before .before .before in

@@ -1,6 +1,5 @@
-use mathlib.Core.Path.{sym, _∙_}
 use borrow.Author.Needs.{needs}
-use borrow.Author.Tests.{not-true, not-false}
+use borrow.Author.Tests.{eq-eqb, ne-eqb}
 use Rattle.sanctions.specs.StageTables.{noSanction, instanceRow, withheldRow}
 use Rattle.sanctions.proofs.withheld.withheld.Statement.{statement}
 use Rattle.sanctions.proofs.withheld.withheld.Tie as tie
@@ -11,8 +10,7 @@ withheld-spec =
     tie.close
     (tie.spec
     (λ c κs. search needs)
-    (λ c. rw (sym (c .before .with-impact .ensures) ∙ not-true _ (c .if1 .taken)))
-    (λ c κs. search needs)
+    (λ c. rw (← c .before .instances-at .ensures, eq-eqb _ 0 (c .if1 .taken)))
     (λ c. search needs)
     (λ c. search needs)
     (λ c κs. tt)
@@ -20,16 +18,16 @@ withheld-spec =
     (λ c. search needs)
     (λ c. search needs)
     (λ c κs.
-    let s = c .before .before .before .before .before .before .before .before .before .before .before .before .before in
-    (c .before .cells-of .ensures .1, rw (c .before .cells-of .ensures .0) (s .pre .6)))
+    let s = c .before .before .before .before .before .before .before in
+    (c .before .cells-of .ensures .1, rw (c .before .cells-of .ensures .0) (s .pre .3)))
     (λ c κs. c .amount .ensures .1)
     (λ c.
-    let i = c .before .before .before .before .before .before .before in
+    let l = c .before .before .before .before in
     rw (
-      sym (i .before .before .with-impact .ensures) ∙ not-false _ (i .before .if1 .left),
+      ← l .before .before .instances-at .ensures,
+      ne-eqb _ 0 (l .before .if1 .left),
       c .withheld-penalty .ensures,
       c .before .amount .ensures .0,
       c .before .before .before .cells-of .ensures .0,
-      c .before .before .before .before .ladder .ensures,
-      i .instances-at .ensures,
+      l .ladder .ensures,
     )))

@@ -4,41 +4,47 @@ use native.Mathlib.Omega.{arith}
 use lib.ListN.{length}
 use Rattle.casefile.specs.Refusal.{refusal}
 use Rattle.casefile.proofs.AcceptedLaws as case
-use Rattle.settlement.proofs.SettleLaws.{refused-answer, refused-told, settled-told, refused-rows, found-sections, settled-answer, settled-rows}
+use Rattle.casefile.specs.StageChecked.{AcceptedFile, HandedOn}
+use Rattle.settlement.proofs.RowsLaws.{count-is}
+use Rattle.settlement.proofs.SettleLaws.{refused-answer, refused-told, settled-told, refused-rows, settled-answer, settled-rows}
 use Rattle.settlement.proofs.settle.settle.Statement.{statement}
 use Rattle.settlement.proofs.settle.settle.Tie as tie
 
-fine : (c : tie.Else1) → let a = c .before .before .before .before .before .args in refusal (a .file .now) (a .correction .now) (length (a .rows .now)) ≡ 0
-fine c = sym (c .before .check .ensures) ∙ c .if1 .left
+abbrev first : tie.Else1 → tie.Start
+first c = c .before .before .before .before .before .before .before .before
+
+fine : (c : tie.Else1) → let a = first c .args in refusal (a .file .now) (a .correction .now) (length (a .rows .now)) ≡ 0
+fine c = sym (c .before .check-into .ensures .0) ∙ c .if1 .left
+
+accepted : (c : tie.Else1) → AcceptedFile (first c .args .file .now)
+accepted c = let a = first c .args in record { correction = a .correction .now; rowsLength = length (a .rows .now); accepted = fine c }
+
+handed : (c : tie.Else1) → let a = first c .args in
+    HandedOn (a .file .now) (a .correction .now) (c .before .check-into .last .1 .1 .1 .0) (c .before .check-into .last .1 .1 .1 .1 .0)
+    (c .before .check-into .last .1 .1 .1 .1 .1 .0)
+handed c = c .before .check-into .ensures .1 (c .if1 .left)
 
 pub settle-spec : {M : Type 1} → statement M
 settle-spec =
     tie.close
     (tie.spec
-    (λ c κs. tt)
+    (λ c κs. search needs)
     (λ c.
-    let a = c .before .before .before .before .before .args in
-    let e = refused-answer (a .file .now) (a .correction .now) _ _ (c .before .check .ensures) (c .if1 .taken) in (
+    let a = c .before .before .before .before .before .before .before .before .args in
+    let e = refused-answer (a .file .now) (a .correction .now) _ _ (c .before .check-into .ensures .0) (c .if1 .taken) in (
       refused-told _ _ e (c .if1 .taken),
-      refused-rows (a .file .now) (a .correction .now) (a .rows .now) _ (c .before .check .ensures) (c .if1 .taken),
+      refused-rows (a .file .now) (a .correction .now) (a .rows .now) _ (c .before .check-into .ensures .0) (c .if1 .taken),
     ))
-    (λ c κs. let a = c .before .before .before .before .before .args in case.has-section (a .file .now) (a .correction .now) _ (fine c) 0 (omega arith))
-    (λ c κs. let a = c .before .before .before .before .before .before .args in case.has-section (a .file .now) (a .correction .now) _ (fine (c .before)) 1 (omega arith))
-    (λ c κs. let a = c .before .before .before .before .before .before .before .args in case.has-section (a .file .now) (a .correction .now) _ (fine (c .before .before)) 2 (omega arith))
-    (λ c κs. let a = c .before .before .before .before .before .before .before .before .args in case.has-section (a .file .now) (a .correction .now) _ (fine (c .before .before .before)) 3 (omega arith))
-    (λ c κs. tt)
     (λ c κs.
-    let a = c .before .before .before .before .before .before .before .before .before .before .before .args in
-    found-sections (a .file .now) (a .correction .now) _ _ _ _ _ (c .before .before .before .before .before .section .ensures) (c .before .before .before .before .section2 .ensures)
-    (c .before .before .before .section3 .ensures) (c .before .correct-references .ensures) (c .before .before .section4 .ensures) _ (fine (c .before .before .before .before .before .before)))
+    let e = c .before .before .before .before in
+    let a = first e .args in
+    ((accepted e, handed e .placed), (handed e .levelled, case.rows-long (a .file .now) (a .correction .now) _ (fine e))))
+    (λ c κs. let e = c .before .before .before .before .before .before .before in let a = first e .args in case.has-section (a .file .now) (a .correction .now) _ (fine e) 3 (omega arith))
     (λ c. search needs)
     (λ c.
-    let a = c .before .before .before .before .before .before .before .before .before .before .before .before .before .before .args in
-    let s = c .before .before .settle-sections .ensures in
-    let e =
-    settled-answer (a .file .now) (a .correction .now) _ _ _ _ _ (c .before .before .before .before .before .before .before .before .section .ensures) (c .before .before .before .before .before .before .before .section2 .ensures)
-    (c .before .before .before .before .before .before .section3 .ensures) (c .before .before .before .before .correct-references .ensures) (c .before .before .before .before .before .section4 .ensures) _ _ (fine (c .before .before .before .before .before .before .before .before .before)) (s .0) in (
-      settled-told _ _ _ _ e,
-      settled-rows (a .file .now) (a .correction .now) _ _ _ _ _ (c .before .before .before .before .before .before .before .before .section .ensures) (c .before .before .before .before .before .before .before .section2 .ensures)
-          (c .before .before .before .before .before .before .section3 .ensures) (c .before .before .before .before .correct-references .ensures) (c .before .before .before .before .before .section4 .ensures) (a .rows .now) _ (fine (c .before .before .before .before .before .before .before .before .before)) (s .1),
+    let e = c .before .before .before .before .before .before .before .before in
+    let a = first e .args in
+    let s = c .before .before .before .settle-accepted .ensures in (
+      settled-told _ _ _ _ (settled-answer (a .file .now) (a .correction .now) _ _ _ (handed e) _ _ _ (fine e) (count-is (a .file .now) _ (c .section .ensures)) (s .0)),
+      settled-rows (a .file .now) (a .correction .now) _ _ _ (handed e) (a .rows .now) _ (fine e) (s .1),
     )))

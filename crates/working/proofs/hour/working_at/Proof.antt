@@ -1,65 +1,58 @@
-use mathlib.Core.List.{[]}
-use mathlib.Core.Path.{_∙_}
+use Prim.Native.Nat.{_/_, _≤_, _<_}
+use mathlib.Core.Path.{refl, _∙_}
 use borrow.Author.Needs.{needs}
-use Rattle.binary.proofs.ListLaws.{holds-fill, fill-long}
-use Rattle.conduct.proofs.FlagLaws.{flags-past}
-use Rattle.conduct.proofs.PartyLaws.{unit-sections, group-sections, leader-sections}
+use native.Mathlib.Omega.{arith}
+use lib.ListN.{length}
+use Rattle.casefile.specs.Layout.{eventWidth, mostEvents}
+use Rattle.casefile.specs.Decode.{decode}
+use Rattle.conduct.proofs.FileLaws.{has-section, file-few, file-bids}
+use Rattle.working.proofs.WorkingLaws.{count-is, figures-full, past-few, counts-are, flag-is, small-s, working-full}
 use Rattle.working.proofs.hour.working_at.Statement.{statement}
 use Rattle.working.proofs.hour.working_at.Tie as tie
 
-flags-asked : tie.Need-find-flags-requires
-flags-asked c κs =
-    let s = c .before .before .before .before .before .before .before .before .before .before in
-    let sections = s .pre .0 .sections in
-    let few = sections .accepted .few-events in (
-      (sections .units-ordered, sections .accepted .events-listed),
-      (
-        (sections .references-ordered, sections .levels-found),
-        ((sections .units-short, few), (few, (few, (few, (few, (few, few)))))),
-      ),
-    )
+abbrev first : tie.After-section → tie.Start
+first s = s .before .before .before .before .before .before
 
-found-asked : tie.Need-working-found-requires
-found-asked c κs =
-    let s = c .before .before .before .before .before .before .before .before .before .before .before .before .before .before .before .before .before .before .before .before .before .before in
-    let a = s .args in
-    let f = c .before .before .before .before .before .before .before .before .before .before .before .find-flags .ensures in (
-      s .pre .0,
-      (
-        record {
-          found =
-              record {
-                group-held = λ i l. holds-fill _ _ _ _ (f .1 .0) i l ∙ group-sections (a .units .now) (a .references .now) (a .references .now) [] (a .past .now) (a .events .now) i;
-                leader-held = λ i l. holds-fill _ _ _ _ (f .1 .1 .1 .0) i l ∙ leader-sections (a .units .now) (a .references .now) (a .references .now) [] (a .past .now) (a .events .now) i;
-                mask-held = λ i l. holds-fill _ _ _ _ (f .1 .1 .1 .1 .1) i l ∙ flags-past (a .units .now) (a .references .now) [] (a .past .now) (a .events .now) i;
-                groups-long = fill-long _ _ _ _ (f .1 .0);
-                leaders-long = fill-long _ _ _ _ (f .1 .1 .1 .0);
-                masks-long = fill-long _ _ _ _ (f .1 .1 .1 .1 .1);
-              };
-          place-held = λ i l. holds-fill _ _ _ _ (f .0) i l ∙ unit-sections (a .units .now) (a .references .now) (a .references .now) [] (a .past .now) (a .events .now) i;
-          level-held = holds-fill _ _ _ _ (f .1 .1 .1 .1 .0);
-          places-long = fill-long _ _ _ _ (f .0);
-          levels-long = fill-long _ _ _ _ (f .1 .1 .1 .1 .0);
-        },
-        s .pre .1,
-      ),
-    )
+below : (s : tie.After-section) → first s .args .i < length (s .section .result .now) / eventWidth
+below s = let q = count-is (first s .args .file .now) _ (s .section .ensures) in omega (arith, first s .pre .0 .1)
+
+few : (s : tie.After-section) → length (s .section .result .now) / eventWidth ≤ mostEvents
+few s = file-few (first s .args .file .now) (first s .pre .0 .0) _ _ refl (s .section .ensures)
+
+inside : (s : tie.After-section) → first s .args .i < mostEvents
+inside s = let b = below s in let n = few s in omega arith
 
 pub working-at-spec : {M : Type 1} → statement M
 working-at-spec =
     tie.close
     (tie.spec
-    (λ c. search needs)
-    (λ c. search needs)
-    (λ c. search needs)
-    (λ c. search needs)
-    (λ c. search needs)
-    (λ c. search needs)
-    flags-asked
-    (λ c. search needs)
-    (λ c. search needs)
-    (λ c. search needs)
-    (λ c. search needs)
-    (λ c. search needs)
-    found-asked
-    (λ c. c .working-found .ensures))
+    (λ c κs. let p = c .before .before .before .before .pre in (p .0 .0, (p .1 .0, p .1 .1)))
+    (λ c κs. has-section _ (c .before .before .before .before .before .pre .0 .0) 3 (omega arith))
+    (λ c. let b = inside c in omega arith)
+    (λ c. let b = inside c in omega arith)
+    (λ c κs. search needs)
+    (λ c κs. has-section _ (first (c .before) .pre .0 .0) 2 (omega arith))
+    (λ c κs. let s = c .before .before .before .before in (below s, inside s, past-few (first s .args .file .now) (first s .pre .0 .0) _ (c .before .before .section2 .ensures)))
+    (λ c κs. let s = c .before .before .before .before .before .before in (first s .pre .0, (first s .pre .1 .0, s .before .find-flags .ensures .1 .0)))
+    (λ c κs.
+    let s = c .before .before .before .before .before .before .before in
+    ((below s, few s), file-bids (first s .args .file .now) (first s .pre .0 .0) _ _ refl (s .section .ensures)))
+    (λ c. let b = inside (c .before .before .before .before .before .before .before .before) in omega arith)
+    (λ c. let b = inside (c .before .before .before .before .before .before .before .before) in omega arith)
+    (λ c. let b = inside (c .before .before .before .before .before .before .before .before .before) in omega arith)
+    (λ c. let b = inside (c .before .before .before .before .before .before .before .before .before) in omega arith)
+    (λ c. omega (arith, first (c .before .before .before .before .before .before .before .before .before .before) .pre .0 .2))
+    (λ c. omega (arith, first (c .before .before .before .before .before .before .before .before .before .before) .pre .0 .2))
+    (λ c κs. let p = first (c .before .before .before .before .before .before .before .before .before .before) .pre in (p .0, p .1 .0 _ (p .0 .1)))
+    (λ c κs. small-s _ _ _ _ _ _ _ (c .figures-at .ensures) (c .before .before .before .before .party-figures .ensures .1))
+    (λ c.
+    let s = c .before .before .before .before .before .before .before .before .before .before .before .before in
+    let a = first s .args in
+    let p = first s .pre in
+    let f = s .before .find-flags .ensures in
+    working-full (decode (a .file .now)) (a .i) (a .h) _ _ _ _ (c .working-from .ensures)
+    (figures-full (a .file .now) _ (s .section .ensures) (a .levels .now) (p .1 .1) (a .i) (a .h) _ _ _ (p .0 .1) (c .before .figures-at .ensures)
+    (c .before .before .before .before .before .party-figures .ensures .0) (c .before .before .before .before .time-totals .ensures .each _ (p .0 .2)))
+    (c .before .before .before .before .before .before .before .before .before .before .before .bit-of .ensures ∙ flag-is (a .file .now) (a .i) (a .h) _ (f .1 .1 _ (p .0 .1)) (p .0 .2))
+    (counts-are (a .file .now) (p .0 .0) _ _ _ (s .before .find-flags .last .1 .1 .1 .1 .0) _ (a .i) _ (c .before .before .before .before .before .before .before .before .before .before .section2 .ensures) (s .section .ensures)
+    (record { group-held = f .0; leader-held = f .1 .0; mask-held = f .1 .1 }) (p .0 .1) (c .before .before .before .before .before .before .before .instances-at .ensures))))

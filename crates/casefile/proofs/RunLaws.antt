@@ -1,0 +1,59 @@
+-- The events of one day, kind and market stand together: a run.
+use Prim.Native.Nat.{ℕ, _+_, _*_, _≤_, _<_}
+use mathlib.Core.List.{List}
+use mathlib.Core.Logic.{⊎-elim}
+use mathlib.Core.Path.{_≡_}
+use native.Mathlib.Nat.{eq-or-lt-of-le, le-refl}
+use native.Mathlib.Omega.{arith}
+use Rattle.binary.specs.Lists.{Bytes}
+use Rattle.casefile.specs.Layout.{eventWidth}
+use Rattle.casefile.specs.Decode.{sectionOf, caseIn, eventsIn, decode}
+use Rattle.casefile.specs.Refusal.{eventKey, refusal}
+use Rattle.casefile.proofs.RecordLaws.{record-value-lt, section-bytes}
+use Rattle.casefile.proofs.AcceptedLaws.{event-ranges, events-rise}
+
+-- keys in order, of which the last three bytes are the unit and the component
+leading : (x y a b : ℕ) → a < 16777216 → b < 16777216 → 16777216 * x + a ≤ 16777216 * y + b → x ≤ y
+leading x y a b l m h = omega arith
+
+last-byte : (x y a b : ℕ) → a < 256 → b < 256 → 256 * x + a ≡ 256 * y + b → a ≡ b
+last-byte x y a b l m e = omega arith
+
+module _ (f k : List ℕ) (n : ℕ) (b : Bytes f) (h : refusal f k n ≡ 0) where
+  -- unit numbers have two bytes
+  pub unit-lt : (j : ℕ) → decode f .events .unit j < 65536
+  unfolding decode caseIn eventsIn
+  unit-lt j = record-value-lt 2 eventWidth (sectionOf f 3) j 2 (section-bytes f 3 b) (omega arith)
+
+  -- day, kind and market in one number
+  abbrev run : ℕ → ℕ
+  run i = 256 * (256 * decode f .events .day i + decode f .events .kind i) + decode f .events .market i
+
+  behind : (i : ℕ) → i < decode f .events .count → 256 * decode f .events .unit i + decode f .events .component i < 16777216
+  behind i l = let c = event-ranges f k n h i l .component in omega (arith, unit-lt i)
+
+  runs-rise : (i j : ℕ) → i ≤ j → j < decode f .events .count → run i ≤ run j
+  unfolding eventKey
+  runs-rise i j l m =
+      ⊎-elim (λ (e : i ≡ j). rw e (le-refl _))
+      (λ (lt : i < j).
+      let r = events-rise f k n h i j lt m in
+      leading (run i) (run j) _ _ (behind i (omega arith)) (behind j m) (omega arith))
+      (eq-or-lt-of-le l)
+
+  pub runs-together : (i j m : ℕ) → i ≤ j → j ≤ m → m < decode f .events .count
+      → decode f .events .day i ≡ decode f .events .day m → decode f .events .kind i ≡ decode f .events .kind m
+      → decode f .events .market i ≡ decode f .events .market m
+      → (decode f .events .day i ≡ decode f .events .day j) × (decode f .events .kind i ≡ decode f .events .kind j)
+      × (decode f .events .market i ≡ decode f .events .market j)
+  runs-together i j m l q p day kind market =
+      let low = runs-rise i j l (omega arith) in
+      let high = runs-rise j m q p in
+      let same : run i ≡ run j = omega arith in
+      let ri = event-ranges f k n h i (omega arith) in
+      let rj = event-ranges f k n h j (omega arith) in
+      let em : decode f .events .market i ≡ decode f .events .market j =
+      last-byte _ _ _ _ (omega (arith, ri .market)) (omega (arith, rj .market)) same in
+      let ek : decode f .events .kind i ≡ decode f .events .kind j =
+      last-byte (decode f .events .day i) (decode f .events .day j) _ _ (omega (arith, ri .kind)) (omega (arith, rj .kind)) (omega arith) in
+      (omega arith, ek, em)

@@ -1,0 +1,43 @@
+-- What the check hands on of a case that it accepts.
+use Prim.Native.Nat.{ℕ, _/_}
+use mathlib.Core.Bool.{true}
+use mathlib.Core.List.{List}
+use mathlib.Core.Path.{_≡_}
+use lib.ListN.{length}
+use Rattle.binary.specs.Lists.{Holds}
+use Rattle.casefile.specs.Layout.{eventWidth}
+use Rattle.casefile.specs.Case.{Units, References, Events}
+use Rattle.casefile.specs.Decode.{unitsIn, referencesIn, eventsIn, decode}
+use Rattle.casefile.specs.Lookup.{placeOf, unitOf, bidLevel, correctIn}
+use Rattle.casefile.specs.StageLookup.{correctLevel}
+use Rattle.casefile.specs.Refusal.{referenceFound, refusal}
+use Rattle.casefile.specs.declared.events.Levels.{Levels}
+
+-- a file that is accepted with some correction and some rows buffer
+pub record AcceptedFile (file : List ℕ) : Type 0 where
+  pub correction : List ℕ
+  pub rowsLength : ℕ
+  pub accepted : refusal file correction rowsLength ≡ 0
+
+-- of each event what the check found: its unit's place, r and c, each where it is read
+pub record HandedOn (file correction places levels corrects : List ℕ) : Type 0 where
+  pub placed : Holds (decode file .events .count) places (unitOf (decode file))
+  pub levelled : Holds (decode file .events .count) levels (bidLevel (decode file .references) (decode file .events))
+  pub corrected : Holds (decode file .events .count) corrects (correctLevel (correctIn file correction) (decode file .events))
+
+-- ---- the same over the sections
+
+-- the place of event i's unit among these units
+unfoldable pub eventPlace : Units → Events → ℕ → ℕ
+eventPlace u e i = placeOf u (e .unit i)
+
+pub record Found (units references correct events places levels corrects : List ℕ) : Type 0 where
+  pub placed : Holds (length events / eventWidth) places (eventPlace (unitsIn units) (eventsIn events))
+  pub levelled : Holds (length events / eventWidth) levels (bidLevel (referencesIn references) (eventsIn events))
+  pub corrected : Holds (length events / eventWidth) corrects (correctLevel (referencesIn correct) (eventsIn events))
+
+-- of event i: whether the references that it reads are there, and then r and c
+pub record EventLevels (own correct : References) (e : Events) (i : ℕ) (l : Levels) : Type 0 where
+  pub found : l .found ≡ referenceFound own correct e i
+  pub levelled : l .found ≡ true → l .level ≡ bidLevel own e i
+  pub corrected : l .found ≡ true → l .correct ≡ correctLevel correct e i

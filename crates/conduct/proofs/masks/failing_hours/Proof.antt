@@ -1,0 +1,48 @@
+use Prim.Native.Nat.{_≤_, _-_, _^_}
+use mathlib.Core.Path.{_≡_, refl}
+use borrow.Author.Needs.{needs}
+use native.Mathlib.Omega.{arith}
+use Rattle.binary.specs.Bounded.{maskTo}
+use Rattle.binary.proofs.MaskLaws.{MaskTurn, mask-none, mask-turn}
+use Rattle.conduct.specs.StageMasks.{failsAt}
+use Rattle.conduct.proofs.masks.failing_hours.Statement.{statement}
+use Rattle.conduct.proofs.masks.failing_hours.Tie as tie
+
+abbrev Inv-loop : tie.InvT-loop
+Inv-loop test tight cells sums mask₀ weight₀ h₀ mask weight h = (h ≤ 24) × (weight ≡ 2 ^ h) × (mask ≡ maskTo h (failsAt test tight cells sums))
+
+abbrev μ-loop : tie.MeasureT-loop
+μ-loop test tight cells sums mask₀ weight₀ h₀ mask weight h = 24 - h
+
+turn :
+    (c : tie.After-choose-u32 Inv-loop μ-loop) →
+    let l = c .before .before .before .before .before .before .loop in
+    let a = c .before .before .before .before .before .before .before .before .args in
+    MaskTurn (l .h) (l .mask) (l .weight) (c .choose-u32 .result) (failsAt (a .test) (a .tight) (a .cells .now) (a .sums .now))
+unfolding failsAt
+turn c =
+    let l = c .before .before .before .before .before .before .loop in
+    mask-turn _ _ _ _ _ (omega arith) (l .inv .1) (l .inv .2)
+    (rw (c .before .fails .ensures, c .before .before .bit-of .ensures, c .before .before .before .before .cell-at .ensures) at (c .choose-u32 .ensures))
+
+pub failing-hours-spec : {M : Type 1} → statement M
+failing-hours-spec =
+    tie.close
+    (tie.spec
+    Inv-loop
+    μ-loop
+    (λ c. (omega arith, refl, mask-none _))
+    (λ c κs. search needs)
+    (λ c. search needs)
+    (λ c. search needs)
+    (λ c κs. tt)
+    (λ c κs. c .before .before .before .before .before .before .pre .1 _ (c .before .before .before .loop-test .taken))
+    (λ c κs. tt)
+    (λ c. record { fits = turn c .mask-fits })
+    (λ c. record { fits = turn c .weight-fits })
+    (λ c. omega arith)
+    (λ c. omega arith)
+    (λ c. (omega arith, turn c .weight-next, turn c .mask-next))
+    (λ c.
+    let e : c .before .loop .h ≡ 24 = omega arith in
+    rw (c .before .loop .inv .2, e)))

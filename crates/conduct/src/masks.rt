@@ -1,0 +1,159 @@
+// The hours of an event that fail its conduct test: one loop for every kind.
+ghost use mathlib.Core.Path.{_≡_};
+ghost use Prim.Native.Nat.{_*_, _/_, _≤_, _<_};
+ghost use lib.ListN.{length};
+ghost use Rattle.binary.specs.Bounded.{maskTo};
+ghost use Rattle.casefile.specs.Layout.{cellWidth, mostHours, eventWidth, unitWidth};
+ghost use Rattle.casefile.specs.Decode.{unitsIn, eventsIn};
+ghost use Rattle.conduct.specs.StageMasks.{bidOf, testOf, tightHours, failsIn, failsAt, highestSum, SmallRow};
+use binary::bytes::load_u8;
+use binary::bytes::load_u16;
+use binary::bytes::load_u32;
+use binary::masks::bit_of;
+use binary::numbers::choose_u32;
+use casefile::cells::cell_at;
+use casefile::layout;
+use casefile::records::record_at;
+use tariff::conduct_tests::bid_test;
+use tariff::conduct_tests::dispatch_test;
+use tariff::conduct_tests::withheld_test;
+
+// What the test of a withheld event reads beside its hours.
+pub struct Withheld {
+    pub capability: u32,
+    pub group_capability: u64,
+}
+
+// What the test of a bid reads beside its hours.
+pub struct Bid {
+    pub component: u8,
+    pub reference: u32,
+    pub market: u8,
+    pub average_price: u32,
+    pub constrained_hours: u16,
+}
+
+// A conduct test with what it reads beside the hours; Dispatch holds the unit's response rate.
+pub enum ConductTest {
+    Withheld(Withheld),
+    Dispatch(u32),
+    Fuel,
+    Bid(Bid),
+    NoTest,
+}
+
+// Whether an hour fails; sum is S for kinds 1 and 2, the events that have the hour for kind 3, and the time total for kind 4.
+fn fails(test: ConductTest, a: u32, sum: u64, tight: bool) -> bool
+    requires { ⌜ sum ≤ highestSum ⌝ }
+    ensures { λ r. ⌜ r ≡ failsIn test a sum tight ⌝ }
+{
+    match test {
+        ConductTest::Withheld(w) => {
+            let capability = w.capability;
+            let g = w.group_capability;
+            withheld_test(a, capability, sum, g, tight)
+        }
+        ConductTest::Dispatch(rate) => dispatch_test(a, rate, sum, tight),
+        ConductTest::Fuel => 0 < sum,
+        ConductTest::Bid(bid) => {
+            let component = bid.component;
+            let reference = bid.reference;
+            let market = bid.market;
+            let price = bid.average_price;
+            let hours = bid.constrained_hours;
+            bid_test(component, reference, a, market, tight, price, hours, sum)
+        }
+        ConductTest::NoTest => false,
+    }
+}
+
+// The hours that fail; tight are the tight hours, and sums those that the test reads.
+pub fn failing_hours(
+    test: ConductTest,
+    tight: u32,
+    cells: &[u8],
+    sums: &[u64; layout::HOURS],
+) -> u32
+    requires { ⌜ length (now cells) ≡ cellWidth * mostHours ⌝ }
+    requires { ⌜ SmallRow (now sums) ⌝ }
+    ensures { λ r. ⌜ r ≡ maskTo mostHours (failsAt test tight (now (cells .entry)) (now (sums .entry))) ⌝ }
+{
+    let mut mask: u32 = 0;
+    let mut weight: u32 = 1;
+    let mut h = 0;
+    while h < layout::HOURS {
+        let cell = cell_at(cells, h);
+        let a = cell.a;
+        let failed = fails(test, a, sums[h], bit_of(tight, h));
+        mask += choose_u32(failed, weight, 0);
+        weight *= 2;
+        h += 1;
+    }
+    mask
+}
+
+// The tight hours of event i: P where its unit's area is 1.
+pub fn tight_hours(units: &[u8], events: &[u8], place: usize, i: usize) -> u32
+    requires { ⌜ (i < length (now events) / eventWidth) × (place < length (now units) / unitWidth) ⌝ }
+    ensures { λ r. ⌜ r ≡ tightHours (unitsIn (now (units .entry))) (eventsIn (now (events .entry))) place i ⌝ }
+{
+    let event = record_at(events, i, layout::EVENT_WIDTH);
+    let p = load_u32(event, 12);
+    let unit = record_at(units, place, layout::UNIT_WIDTH);
+    let area = load_u8(unit, 4);
+    choose_u32(area == 1, p, 0)
+}
+
+// What the test of bid i reads, with a reference level.
+pub fn bid_of(units: &[u8], events: &[u8], place: usize, level: u32, i: usize) -> Bid
+    requires { ⌜ (i < length (now events) / eventWidth) × (place < length (now units) / unitWidth) ⌝ }
+    ensures { λ r. ⌜ r ≡ bidOf (unitsIn (now (units .entry))) (eventsIn (now (events .entry))) place level i ⌝ }
+{
+    let event = record_at(events, i, layout::EVENT_WIDTH);
+    let component = load_u8(event, 6);
+    let market = load_u8(event, 1);
+    let unit = record_at(units, place, layout::UNIT_WIDTH);
+    let average_price = load_u32(unit, 16);
+    let constrained_hours = load_u16(unit, 20);
+    Bid {
+        component,
+        reference: level,
+        market,
+        average_price,
+        constrained_hours,
+    }
+}
+
+// The test of event i, by its kind; g is the listed capability of its group where the kind is 1.
+pub fn test_of(
+    units: &[u8],
+    events: &[u8],
+    place: usize,
+    level: u32,
+    g: u64,
+    i: usize,
+) -> ConductTest
+    requires { ⌜ (i < length (now events) / eventWidth) × (place < length (now units) / unitWidth) ⌝ }
+    ensures { λ r. ⌜ r ≡ testOf (unitsIn (now (units .entry))) (eventsIn (now (events .entry))) place level g i ⌝ }
+{
+    let kind = load_u8(record_at(events, i, layout::EVENT_WIDTH), 0);
+    if kind == 4 {
+        return ConductTest::Bid(bid_of(units, events, place, level, i));
+    }
+    let unit = record_at(units, place, layout::UNIT_WIDTH);
+    let capability = load_u32(unit, 8);
+    let rate = load_u32(unit, 12);
+    if kind == 1 {
+        return ConductTest::Withheld(Withheld {
+            capability,
+            group_capability: g,
+        });
+    }
+    if kind == 2 {
+        return ConductTest::Dispatch(rate);
+    }
+    if kind == 3 {
+        return ConductTest::Fuel;
+    }
+    ConductTest::NoTest
+}

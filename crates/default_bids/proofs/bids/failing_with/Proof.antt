@@ -1,0 +1,21 @@
+use Prim.Native.Nat.{zero-le}
+use borrow.Author.Needs.{needs}
+use Rattle.casefile.specs.Layout.{mostHours}
+use Rattle.conduct.proofs.SumLaws.{zeros-at}
+use Rattle.default_bids.proofs.BidLaws.{tested-with}
+use Rattle.default_bids.proofs.bids.failing_with.Statement.{statement}
+use Rattle.default_bids.proofs.bids.failing_with.Tie as tie
+
+pub failing-with-spec : {M : Type 1} → statement M
+failing-with-spec =
+    tie.close
+    (tie.spec
+    (λ c κs. search needs)
+    (λ c κs. search needs)
+    (λ c κs. search needs)
+    (λ c κs. (search needs, λ h l. rw (zeros-at mostHours h) zero-le))
+    (λ c.
+    let t = c .before .before .before in
+    let a = t .before .before .before .before .args in
+    rw (c .failing-hours .ensures, c .before .before .cells-of .ensures .0, t .tight-hours .ensures, t .before .bid-of .ensures)
+    (tested-with (a .units .now) (a .events .now) (a .place) (a .correct) (a .i))))
