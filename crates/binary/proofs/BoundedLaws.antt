@@ -8,9 +8,9 @@ use native.Mathlib.Nat.{add-zero, add-suc, add-assoc, le-refl, add-le-add, mul-l
 use native.Mathlib.Numerals.{add-one}
 use native.Mathlib.Omega.{arith}
 use lib.Dec.{ltb}
-use borrow.Author.Tests.{lt-ltb, ltb-true}
+use borrow.Author.Tests.{lt-ltb}
 use Rattle.binary.specs.Bounded.{sumTo, countTo, anyTo, allTo, firstTo, lastTo}
-use Rattle.binary.proofs.Implies.{_⇒_, keep, or-mono, and-mono, count-le, T→true, true→T, and-l, and-r, or-l, or-r}
+use Rattle.binary.proofs.Implies.{_⇒_, keep, or-mono, count-le, and-l, and-r, or-l, or-r}
 
 -- ---- none, and one more
 
@@ -115,11 +115,6 @@ unfolding anyTo
 any-mono zero p q h = keep false
 any-mono (suc n) p q h = or-mono (any-mono n p q (λ i l. h i (omega arith))) (h n (omega arith))
 
-pub all-mono : (n : ℕ) (p q : ℕ → Bool) → ((i : ℕ) → i < n → p i ⇒ q i) → allTo n p ⇒ allTo n q
-unfolding allTo
-all-mono zero p q h = keep true
-all-mono (suc n) p q h = and-mono (all-mono n p q (λ i l. h i (omega arith))) (h n (omega arith))
-
 -- ---- bounds
 
 -- with both bounds written out, as omega wants them
@@ -164,41 +159,6 @@ last-bound (suc n) p h = go n (p n) (last-bound n p)
     go k true f = omega arith
     go zero false f = none
     go (suc k) false f = let l = f (omega arith) in omega arith
-
-pub last-le : (n : ℕ) (p : ℕ → Bool) → lastTo n p ≤ n
-unfolding lastTo
-last-le zero p = zero-le
-last-le (suc n) p = let l = last-bound (suc n) p (omega arith) in omega arith
-
--- where more indices pass, the first is no later and the last no earlier
-pub first-mono : (n : ℕ) (p q : ℕ → Bool) → ((i : ℕ) → i < n → p i ⇒ q i) → firstTo n q ≤ firstTo n p
-unfolding firstTo
-first-mono zero p q h = zero-le
-first-mono (suc n) p q h = go (first-mono n p q (λ i l. h i (omega arith)))
-  where
-    before : firstTo n q ≤ firstTo n p → ltb (firstTo n p) n ⇒ ltb (firstTo n q) n
-    before again = record { give = λ t. true→T (ltb (firstTo n q) n) (lt-ltb (firstTo n q) n (let l = ltb-true (firstTo n p) n (T→true (ltb (firstTo n p) n) t) in omega arith)) }
-
-    pick : firstTo n q ≤ firstTo n p → (a b : Bool) → a ⇒ b → cond b (firstTo n q) (suc n) ≤ cond a (firstTo n p) (suc n)
-    pick again true true i = again
-    pick again true false i = absurd (i .give tt)
-    pick again false true i = let l = first-bound n q in omega arith
-    pick again false false i = le-refl (suc n)
-
-    go : firstTo n q ≤ firstTo n p
-        → cond (ltb (firstTo n q) n || q n) (firstTo n q) (suc n) ≤ cond (ltb (firstTo n p) n || p n) (firstTo n p) (suc n)
-    go again = pick again _ _ (or-mono (before again) (h n (omega arith)))
-
-pub last-mono : (n : ℕ) (p q : ℕ → Bool) → ((i : ℕ) → i < n → p i ⇒ q i) → lastTo n p ≤ lastTo n q
-unfolding lastTo
-last-mono zero p q h = zero-le
-last-mono (suc n) p q h = go (last-mono n p q (λ i l. h i (omega arith))) (p n) (q n) (h n (omega arith))
-  where
-    go : lastTo n p ≤ lastTo n q → (a b : Bool) → a ⇒ b → cond a n (lastTo n p) ≤ cond b n (lastTo n q)
-    go again true true i = le-refl n
-    go again true false i = absurd (i .give tt)
-    go again false true i = last-le n p
-    go again false false i = again
 
 -- ---- what one index decides
 

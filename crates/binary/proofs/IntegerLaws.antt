@@ -23,10 +23,7 @@ less-below : (x d : ℕ) → subℕ x (x + d) ≡ negℤ (pos d)
 less-below x zero = rw (le-ltb x (x + 0) (omega arith)) (ap pos (omega arith))
 less-below x (suc d) = rw (lt-ltb x (x + suc d) (omega arith)) (ap negsuc (omega arith))
 
--- it is not negative where y is at most x
-pub not-negative : (x y : ℕ) → y ≤ x → pos 0 ≤ℤ subℕ x y
-not-negative x y h = rw (le-ltb x y h) zero-le
-
+-- where it is not negative, y is at most x
 pub at-least : (x y : ℕ) → pos 0 ≤ℤ subℕ x y → y ≤ x
 at-least x y h = go (ltb x y) refl h
   where

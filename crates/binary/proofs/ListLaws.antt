@@ -2,13 +2,13 @@
 use Prim.Native.Nat.{ℕ, zero, suc, _+_, _-_, _*_, _≤_, _<_}
 use mathlib.Core.Bool.{Bool, true, false, cond}
 use mathlib.Core.List.{List, [], _∷_, _++_, append-assoc}
-use mathlib.Core.Path.{_≡_, refl, sym, ap, ap₂, subst, _∙_}
+use mathlib.Core.Path.{_≡_, refl, sym, ap₂, subst, _∙_}
 use mathlib.Core.Logic.{⊎-elim}
 use native.Mathlib.Nat.{add-zero, add-suc, suc-add, mul-suc, mul-zero, le-refl, add-sub-cancel-left, not-suc-le-zero, le-of-suc-le-suc, eq-or-lt-of-le, mul-le-mul-left}
 use native.Mathlib.Numerals.{add-one}
 use native.Mathlib.Omega.{arith}
-use lib.ListN.{length, getD, drop, set, length-append, length-drop, List·getD-append}
-use lib.Seq.{getD-drop, drop-cons, set-at, append-snoc, getD-at, take-at, drop-at, drop-drop, getD-append-add, ext-getD}
+use lib.ListN.{length, getD, drop, set, length-append, List·getD-append}
+use lib.Seq.{drop-cons, set-at, append-snoc, getD-at, take-at, drop-at, drop-drop, getD-append-add}
 use borrow.Rule.Slice.PartMut.{putMid}
 use Rattle.binary.specs.Lists.{listTo, joinTo, firstFrom, Holds}
 
@@ -139,7 +139,3 @@ from-passed (suc k) j m p l h = pick (p j) refl h (λ t r. from-passed k (suc j)
 -- what a loop of stores leaves holds the figures
 pub holds-fill : (n : ℕ) (f : ℕ → ℕ) (l d : List ℕ) → l ≡ listTo n f ++ drop n d → Holds n l f
 holds-fill n f l d e i h = rw e (fill-at f n i 0 (drop n d) h)
-
--- and reaches as far
-pub fill-long : (n : ℕ) (f : ℕ → ℕ) (l d : List ℕ) → l ≡ listTo n f ++ drop n d → n ≤ length l
-fill-long n f l d e = rw (e, length-append, list-length) (omega arith)

@@ -5,13 +5,12 @@ use mathlib.Core.Path.{_≡_, refl, sym, ap, ap₂, subst, _∙_}
 use mathlib.Core.Logic.{⊎-elim}
 use native.Mathlib.Numerals.{add-one}
 use native.Mathlib.Omega.{arith}
-use native.Mathlib.Nat.{add-zero, add-le-add, mul-comm, mod-lt, div-add-mod, div-eq-of-lt, add-div-right, add-mul-div-left, add-mul-mod-self-left, mul-le-mul-left, pow-suc, le-refl, lt-of-lt-of-le, eq-or-lt-of-le, le-of-suc-le-suc, not-suc-le-zero}
+use native.Mathlib.Nat.{add-zero, mul-comm, mod-lt, div-add-mod, div-eq-of-lt, add-div-right, add-mul-div-left, add-mul-mod-self-left, mul-le-mul-left, pow-suc, le-refl, lt-of-lt-of-le, eq-or-lt-of-le, le-of-suc-le-suc, not-suc-le-zero}
 use lib.Bits.{bitAnd, and-shr, and-mod}
 use lib.Dec.{ltb, eqb, lit<}
 use lib.Pow.{pow-pos, pow-add, pow-mono}
 use borrow.Author.Tests.{lt-ltb}
 use Rattle.binary.specs.Bounded.{anyTo, maskTo, bitOf}
-use Rattle.binary.proofs.Implies.{_⇒_, count-le}
 
 pub mask-none : (p : ℕ → Bool) → 0 ≡ maskTo 0 p
 unfolding maskTo
@@ -30,12 +29,6 @@ mask-same (suc n) p q h =
 cond-le : (c : Bool) (x : ℕ) → cond c x 0 ≤ x
 cond-le true x = le-refl x
 cond-le false x = zero-le
-
--- where more indices pass, the mask is no smaller
-pub mask-mono : (n : ℕ) (p q : ℕ → Bool) → ((i : ℕ) → i < n → p i ⇒ q i) → maskTo n p ≤ maskTo n q
-unfolding maskTo
-mask-mono zero p q h = le-refl 0
-mask-mono (suc n) p q h = add-le-add (mask-mono n p q (λ i l. h i (omega arith))) (count-le (h n (omega arith)) (le-refl (2 ^ n)))
 
 pub mask-lt : (n : ℕ) (p : ℕ → Bool) → maskTo n p < 2 ^ n
 unfolding maskTo
