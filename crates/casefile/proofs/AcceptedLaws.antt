@@ -1,20 +1,18 @@
 -- What an accepted case keeps: from `refusal f k n ≡ 0` to the facts that settling it goes by.
-use Prim.Native.Nat.{ℕ, _*_, _/_, _%_, _≤_, _<_}
+use Prim.Native.Nat.{ℕ, _*_, _≤_, _<_}
 use mathlib.Core.List.{List}
 use mathlib.Core.Path.{_≡_, sym, _∙_}
 use native.Mathlib.Omega.{arith}
-use lib.ListN.{length, length-take, length-drop}
+use lib.ListN.{length}
 use borrow.Author.Tests.{leb-true}
-use Rattle.binary.proofs.Implies.{and-l, and-r}
-use Rattle.casefile.specs.Layout.{sectionCount, longestFile, pastWidth, mostPast, mostEvents, rowWidth}
-use Rattle.casefile.specs.Decode.{caseIn, lengthOf, sectionOf, FollowOn, HasSection, pastIn, eventsIn, decode}
+use Rattle.casefile.specs.Layout.{sectionCount, longestFile, mostPast, mostEvents, numberLimit, rowWidth}
+use Rattle.casefile.specs.Decode.{formatIn, caseIn, lengthOf, sectionOf, FollowOn, HasSection, eventsIn, decode}
 use Rattle.casefile.specs.Lookup.{correctReferences}
 use Rattle.casefile.specs.StageLookup.{Rising}
-use Rattle.casefile.specs.Refusal.{sizesFine, eventKey, rowsFine, refusal}
+use Rattle.casefile.specs.Refusal.{eventKey, rowsFine, refusal}
 use Rattle.casefile.specs.StageRefusal.{eventsRefusal}
 use Rattle.casefile.proofs.RangeLaws.{EventRange}
 use Rattle.casefile.proofs.SectionLaws as section
-use Rattle.casefile.proofs.SectionLaws.{sized}
 use Rattle.casefile.proofs.RefusalLaws as stages
 use Rattle.casefile.proofs.RefusalLaws.{HeaderFine, RecordsFine, EventsFine}
 
@@ -24,16 +22,16 @@ module _ (f k : List ℕ) (n : ℕ) (h : refusal f k n ≡ 0) where
   pub header : HeaderFine f
   header = stages.header-fine f _ (sym (stages.in-stages f k n) ∙ h) .0
 
-  records-and-events : RecordsFine (sectionOf f 0) (sectionOf f 1) k (sectionOf f 2)
-      × (eventsRefusal (sectionOf f 0) (sectionOf f 1) (correctReferences k (sectionOf f 1)) (sectionOf f 3) n ≡ 0)
+  records-and-events : RecordsFine (formatIn f) (sectionOf f 0) (sectionOf f 1) k (sectionOf f 2)
+      × (eventsRefusal (formatIn f) (sectionOf f 0) (sectionOf f 1) (correctReferences k (sectionOf f 1)) (sectionOf f 3) n ≡ 0)
   records-and-events =
-      stages.records-fine (sectionOf f 0) (sectionOf f 1) k (sectionOf f 2) _ (stages.header-fine f _ (sym (stages.in-stages f k n) ∙ h) .1)
+      stages.records-fine (formatIn f) (sectionOf f 0) (sectionOf f 1) k (sectionOf f 2) _ (stages.header-fine f _ (sym (stages.in-stages f k n) ∙ h) .1)
 
-  pub records : RecordsFine (sectionOf f 0) (sectionOf f 1) k (sectionOf f 2)
+  pub records : RecordsFine (formatIn f) (sectionOf f 0) (sectionOf f 1) k (sectionOf f 2)
   records = records-and-events .0
 
-  pub events : EventsFine (sectionOf f 0) (sectionOf f 1) (correctReferences k (sectionOf f 1)) (sectionOf f 3) n
-  events = stages.events-fine (sectionOf f 0) (sectionOf f 1) (correctReferences k (sectionOf f 1)) (sectionOf f 3) n (records-and-events .1)
+  pub events : EventsFine (formatIn f) (sectionOf f 0) (sectionOf f 1) (correctReferences k (sectionOf f 1)) (sectionOf f 3) n
+  events = stages.events-fine (formatIn f) (sectionOf f 0) (sectionOf f 1) (correctReferences k (sectionOf f 1)) (sectionOf f 3) n (records-and-events .1)
 
   -- the file
 
@@ -47,35 +45,29 @@ module _ (f k : List ℕ) (n : ℕ) (h : refusal f k n ≡ 0) where
   has-section = stages.has-section f header
 
   pub section-length : (i : ℕ) → i < sectionCount → length (sectionOf f i) ≡ lengthOf f i
-  unfolding sectionOf
-  section-length i l = let s = has-section i l in simp (length-take, length-drop) (omega arith)
+  section-length = section.section-length f header
 
   -- sizes
 
-  past-sized : (lengthOf f 2 % pastWidth ≡ 0) × (lengthOf f 2 / pastWidth ≤ mostPast)
-  unfolding sizesFine
-  past-sized = let t = header .sizes in sized (lengthOf f 2) pastWidth mostPast (search (and-l, and-r))
-
   pub past-count : decode f .past .count ≤ mostPast
-  unfolding decode caseIn pastIn
-  past-count = let e = section-length 2 (omega arith) in let s = past-sized in omega arith
+  unfolding decode caseIn
+  past-count = section.past-fit f header
 
   pub events-count : decode f .events .count ≤ mostEvents
-  unfolding decode caseIn eventsIn
+  unfolding decode caseIn
   events-count = section.events-fit f header
 
   -- events
 
   pub event-ranges : (i : ℕ) → i < decode f .events .count → EventRange (decode f .events) i
   unfolding decode caseIn
-  event-ranges i l = section.event-ranges (sectionOf f 3) (events .events-fine) i l
+  event-ranges i l = section.event-ranges (formatIn f) (sectionOf f 3) (events .events-fine) i l
 
   pub events-rise : Rising (eventKey (decode f .events)) (decode f .events .count)
   unfolding decode caseIn
-  events-rise i j l m = section.events-rise (eventsIn (sectionOf f 3)) (events .order-fine) i j l m
+  events-rise i j l m = section.events-rise (eventsIn (formatIn f) (sectionOf f 3)) (events .order-fine) i j l m
 
-  -- unit numbers have two bytes
-  pub days-in-order : (i j : ℕ) → i < j → j < decode f .events .count → decode f .events .unit j < 65536
+  pub days-in-order : (i j : ℕ) → i < j → j < decode f .events .count → decode f .events .unit j < numberLimit
       → decode f .events .day i ≤ decode f .events .day j
   unfolding eventKey
   days-in-order i j l m unit =
@@ -88,6 +80,6 @@ module _ (f k : List ℕ) (n : ℕ) (h : refusal f k n ≡ 0) where
 
   -- rows
 
-  pub rows-long : rowWidth * decode f .events .count ≤ n
+  pub rows-long : rowWidth (formatIn f) * decode f .events .count ≤ n
   unfolding decode caseIn rowsFine
   rows-long = leb-true _ _ (events .rows-fine)

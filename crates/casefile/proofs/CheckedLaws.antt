@@ -13,7 +13,7 @@ use Rattle.binary.specs.Lists.{Holds}
 use Rattle.binary.proofs.Implies.{and-l, and-r}
 use Rattle.binary.proofs.BoundedLaws.{all-none, all-more}
 use Rattle.casefile.specs.Case.{References, Events}
-use Rattle.casefile.specs.Decode.{sectionOf, eventsIn, caseIn, decode}
+use Rattle.casefile.specs.Decode.{formatIn, sectionOf, caseIn, decode}
 use Rattle.casefile.specs.Lookup.{unitOf, hasReference, levelOf, readsCorrect, bidLevel, correctReferences, correctIn}
 use Rattle.casefile.specs.StageLookup.{readsLevel, correctLevel}
 use Rattle.casefile.specs.Refusal.{referenceFound}
@@ -86,7 +86,7 @@ module _ (own correct : References) (e : Events) (levels corrects : List ℕ) wh
 -- ---- over the file
 
 pub handed-on : (f k places levels corrects : List ℕ)
-    → Found (sectionOf f 0) (sectionOf f 1) (correctReferences k (sectionOf f 1)) (sectionOf f 3) places levels corrects
+    → Found (formatIn f) (sectionOf f 0) (sectionOf f 1) (correctReferences k (sectionOf f 1)) (sectionOf f 3) places levels corrects
     → HandedOn f k places levels corrects
-unfolding decode caseIn unitOf eventPlace correctIn eventsIn
+unfolding decode caseIn unitOf eventPlace correctIn
 handed-on f k places levels corrects h = record { placed = h .placed; levelled = h .levelled; corrected = h .corrected }

@@ -3,41 +3,40 @@ use Prim.Native.Nat.{ℕ, zero, suc, _+_, _-_, _≤_, _<_}
 use mathlib.Core.Bool.{Bool, true, false, _&&_, _||_}
 use mathlib.Core.List.{List}
 use mathlib.Core.Path.{_≡_, refl, sym, ap, ap₂, subst, _∙_}
-use native.Mathlib.Nat.{add-assoc}
 use native.Mathlib.Omega.{arith}
 use lib.Dec.{ltb, eqb}
-use lib.ListN.{length, take, drop}
 use borrow.Author.Tests.{ne-eqb}
 use Rattle.binary.specs.Bounded.{allTo}
-use Rattle.binary.proofs.BoundedLaws.{all-more, all-at, all-same, all-true}
-use Rattle.binary.proofs.ByteLaws.{value-drop}
+use Rattle.binary.specs.Lists.{Bytes}
+use Rattle.binary.proofs.BoundedLaws.{all-more, all-at, all-true}
 use Rattle.tariff.specs.Ranges.{highestDay}
-use Rattle.casefile.specs.Layout.{eventWidth, cellsOffset, mostHours}
+use Rattle.casefile.specs.declared.layout.Format.{Format}
+use Rattle.casefile.specs.Layout.{mostHours, numberLimit}
 use Rattle.casefile.specs.Case.{Units, Events}
-use Rattle.casefile.specs.Decode.{recordAt, eventsIn, amountsIn}
+use Rattle.casefile.specs.Decode.{cellsFrom, cellsIn, eventsIn, amountsIn}
 use Rattle.casefile.specs.Lookup.{placeOf}
 use Rattle.casefile.specs.Refusal.{rises, fieldsFine, cellFine, hourFine, eventFine, eventKey, eventListed, eventsListed, withinCapability, unless}
-use Rattle.casefile.specs.StageRead.{cellOf, cellFineAt, amountWithin, fieldsOf, keyOf, numberOf, readIf, readEvent}
+use Rattle.casefile.specs.StageRead.{cellOf, cellFineAt, amountWithin, eventAt, keyOf, numberOf, readIf, readEvent}
 use Rattle.casefile.specs.declared.events.Event.{Event}
 use Rattle.casefile.specs.declared.events.EventRead.{EventRead}
 use Rattle.casefile.specs.declared.events.EventRead.the-variants.{Event as Readable, Unreadable}
-use Rattle.casefile.proofs.RecordLaws.{rest}
+use Rattle.casefile.proofs.RecordLaws.{event-unit-lt}
 use Rattle.casefile.proofs.LookupLaws.{listed-place}
 use Rattle.casefile.proofs.RangeLaws.{event-range}
 
 -- ---- the cells, read in the part where they begin
 
-pub cells-hours : (s : List ℕ) (i : ℕ)
-    → allTo mostHours (cellFineAt (eventsIn s .kind i) (eventsIn s .component i) (drop cellsOffset (recordAt eventWidth s i)))
-    ≡ allTo (eventsIn s .hours i) (hourFine (eventsIn s) (amountsIn s) i)
-unfolding eventsIn amountsIn cellFineAt cellOf hourFine
-cells-hours s i = all-same mostHours _ _ (λ h l. simp (value-drop, add-assoc))
+pub cells-hours : (format : Format) (s : List ℕ) (i : ℕ)
+    → allTo mostHours (cellFineAt (eventsIn format s .kind i) (eventsIn format s .component i) (cellsFrom format s i))
+    ≡ allTo (eventsIn format s .hours i) (hourFine (eventsIn format s) (amountsIn format s) i)
+unfolding eventsIn amountsIn cellsIn cellFineAt cellOf hourFine
+cells-hours format s i = refl
 
-pub amounts-hours : (u : Units) (s : List ℕ) (i : ℕ)
-    → allTo mostHours (amountWithin (u .capability (placeOf u (eventsIn s .unit i))) (drop cellsOffset (recordAt eventWidth s i)))
-    ≡ allTo (eventsIn s .hours i) (withinCapability u (eventsIn s) (amountsIn s) i)
-unfolding eventsIn amountsIn amountWithin cellOf withinCapability
-amounts-hours u s i = all-same mostHours _ _ (λ h l. simp value-drop)
+pub amounts-hours : (format : Format) (u : Units) (s : List ℕ) (i : ℕ)
+    → allTo mostHours (amountWithin (u .capability (placeOf u (eventsIn format s .unit i))) (cellsFrom format s i))
+    ≡ allTo (eventsIn format s .hours i) (withinCapability u (eventsIn format s) (amountsIn format s) i)
+unfolding eventsIn amountsIn cellsIn amountWithin cellOf withinCapability
+amounts-hours format u s i = refl
 
 -- a cell of no kind breaks no limit of a kind
 pub other-kind : (kind component : ℕ) (cells : List ℕ) → (kind ≡ 1 → ⊥) → (kind ≡ 2 → ⊥) → (kind ≡ 3 → ⊥) → (kind ≡ 4 → ⊥)
@@ -48,32 +47,31 @@ other-kind kind component cells a b c d =
 
 -- ---- the event reader
 
-pub read-is : (s : List ℕ) (i : ℕ) (e : Event) (r : List ℕ) (fields cells b : Bool)
-    → e ≡ fieldsOf (eventsIn s) i
+pub read-is : (format : Format) (s : List ℕ) (i : ℕ) (e : Event) (r : List ℕ) (fields cells b : Bool)
+    → e ≡ eventAt (eventsIn format s) i
     → fields ≡ fieldsFine mostHours (e .kind) (e .market) (e .component) (e .impact) (e .day) (e .p) (e .q) (e .r)
-    → r ≡ recordAt eventWidth s i
-    → cells ≡ allTo mostHours (cellFineAt (e .kind) (e .component) (take (length r - cellsOffset) (drop cellsOffset r)))
+    → r ≡ cellsFrom format s i
+    → cells ≡ allTo mostHours (cellFineAt (e .kind) (e .component) r)
     → (fields && cells) ≡ b
-    → readIf b e ≡ readEvent s i
-unfolding readEvent eventFine fieldsOf eventsIn
-read-is s i e r fields cells b same f part t d =
+    → readIf b e ≡ readEvent format s i
+unfolding readEvent eventFine eventAt eventsIn
+read-is format s i e r fields cells b same f part t d =
     let f′ : fields ≡ fieldsFine mostHours (o .kind) (o .market) (o .component) (o .impact) (o .day) (o .p) (o .q) (o .r) =
     f ∙ ap (λ (x : Event). fieldsFine mostHours (x .kind) (x .market) (x .component) (x .impact) (x .day) (x .p) (x .q) (x .r)) same in
-    let t′ : cells ≡ allTo (eventsIn s .hours i) (hourFine (eventsIn s) (amountsIn s) i) =
+    let t′ : cells ≡ allTo (eventsIn format s .hours i) (hourFine (eventsIn format s) (amountsIn format s) i) =
     t
-    ∙ ap₂ (λ (x : Event) (y : List ℕ). allTo mostHours (cellFineAt (x .kind) (x .component) (take (length y - cellsOffset) (drop cellsOffset y)))) same part
-    ∙ ap (λ (y : List ℕ). allTo mostHours (cellFineAt (o .kind) (o .component) y)) (rest cellsOffset (recordAt eventWidth s i))
-    ∙ cells-hours s i in
+    ∙ ap₂ (λ (x : Event) (y : List ℕ). allTo mostHours (cellFineAt (x .kind) (x .component) y)) same part
+    ∙ cells-hours format s i in
     ap₂ readIf (sym (ap₂ _&&_ (sym f′) (sym t′) ∙ d)) same
   where
     o : Event
-    o = fieldsOf (eventsIn s) i
+    o = eventAt (eventsIn format s) i
 
-pub read-number : (s : List ℕ) (i : ℕ) (a : EventRead) → a ≡ readEvent s i → numberOf a ≡ unless (eventFine (eventsIn s) (amountsIn s) i) 10 0
+pub read-number : (format : Format) (s : List ℕ) (i : ℕ) (a : EventRead) → a ≡ readEvent format s i → numberOf a ≡ unless (eventFine (eventsIn format s) (amountsIn format s) i) 10 0
 unfolding readEvent numberOf readIf
-read-number s i a h = ap numberOf h ∙ go (eventFine (eventsIn s) (amountsIn s) i)
+read-number format s i a h = ap numberOf h ∙ go (eventFine (eventsIn format s) (amountsIn format s) i)
   where
-    go : (b : Bool) → numberOf (readIf b (fieldsOf (eventsIn s) i)) ≡ unless b 10 0
+    go : (b : Bool) → numberOf (readIf b (eventAt (eventsIn format s) i)) ≡ unless b 10 0
     go true = refl
     go false = refl
 
@@ -87,25 +85,29 @@ unfolding readIf
 unreadable-of true e h = cc
 unreadable-of false e h = refl
 
-pub readable : (s : List ℕ) (i : ℕ) (e : Event) → readEvent s i ≡ Readable e
-    → (eventFine (eventsIn s) (amountsIn s) i ≡ true) × (e ≡ fieldsOf (eventsIn s) i)
+pub readable : (format : Format) (s : List ℕ) (i : ℕ) (e : Event) → readEvent format s i ≡ Readable e
+    → (eventFine (eventsIn format s) (amountsIn format s) i ≡ true) × (e ≡ eventAt (eventsIn format s) i)
 unfolding readEvent
-readable s i e h = readable-of _ _ e h
+readable format s i e h = readable-of _ _ e h
 
-pub unreadable : (s : List ℕ) (i : ℕ) → readEvent s i ≡ Unreadable → eventFine (eventsIn s) (amountsIn s) i ≡ false
+pub unreadable : (format : Format) (s : List ℕ) (i : ℕ) → readEvent format s i ≡ Unreadable → eventFine (eventsIn format s) (amountsIn format s) i ≡ false
 unfolding readEvent
-unreadable s i h = unreadable-of _ _ h
+unreadable format s i h = unreadable-of _ _ h
 
 -- ---- from one check to the next
 
-pub read-day : (s : List ℕ) (i : ℕ) (e : Event) → eventFine (eventsIn s) (amountsIn s) i ≡ true → e ≡ fieldsOf (eventsIn s) i → e .day ≤ highestDay
-unfolding fieldsOf
-read-day s i e fine same =
-    subst (λ (x : Event). x .day ≤ highestDay) (sym same) (event-range (eventsIn s) (amountsIn s) i fine .day)
+pub read-day : (format : Format) (s : List ℕ) (i : ℕ) (e : Event) → eventFine (eventsIn format s) (amountsIn format s) i ≡ true → e ≡ eventAt (eventsIn format s) i → e .day ≤ highestDay
+unfolding eventAt
+read-day format s i e fine same =
+    subst (λ (x : Event). x .day ≤ highestDay) (sym same) (event-range (eventsIn format s) (amountsIn format s) i fine .day)
 
-pub read-key : (s : List ℕ) (i : ℕ) (e : Event) → e ≡ fieldsOf (eventsIn s) i → keyOf e ≡ eventKey (eventsIn s) i
-unfolding keyOf fieldsOf eventKey
-read-key s i e same = ap keyOf same
+pub read-unit : (format : Format) (s : List ℕ) (i : ℕ) (e : Event) → Bytes s → e ≡ eventAt (eventsIn format s) i → e .unit < numberLimit
+unfolding eventAt
+read-unit format s i e b same = subst (λ (x : Event). x .unit < numberLimit) (sym same) (event-unit-lt format s i b)
+
+pub read-key : (format : Format) (s : List ℕ) (i : ℕ) (e : Event) → e ≡ eventAt (eventsIn format s) i → keyOf e ≡ eventKey (eventsIn format s) i
+unfolding keyOf eventAt eventKey
+read-key format s i e same = ap keyOf same
 
 -- the order of one event more
 pub order-turn : (key : ℕ → ℕ) (i last k order : ℕ) → order ≡ unless (allTo i (rises key)) 11 0 → (0 < i → last ≡ key (i - 1)) → k ≡ key i

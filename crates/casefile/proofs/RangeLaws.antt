@@ -1,5 +1,5 @@
 -- What the tests of records and cells say: the ranges of fields, and the strict orders.
-use Prim.Native.Nat.{ℕ, zero, suc, _-_, _/_, _≤_, _<_}
+use Prim.Native.Nat.{ℕ, zero, suc, _-_, _≤_, _<_}
 use mathlib.Core.Bool.{Bool, true, false, cond, not, _&&_, _||_}
 use mathlib.Core.List.{List}
 use mathlib.Core.Logic.{⊎-elim}
@@ -14,7 +14,7 @@ use Rattle.binary.proofs.Implies.{and-l, and-r}
 use Rattle.binary.proofs.BoundedLaws.{all-at}
 use Rattle.binary.proofs.WordLaws.{within-positive}
 use Rattle.tariff.specs.Ranges.{highestCapability, highestComponent, highestMarket, highestDay, highestKind, highestPrice, highestRevenue, highestFuelMoney, highestEnergy, highestPriceChange, highestMegawatts, bidInRange}
-use Rattle.casefile.specs.Layout.{unitWidth, referenceWidth}
+use Rattle.casefile.specs.declared.layout.Format.{Format}
 use Rattle.casefile.specs.Case.{Units, Events}
 use Rattle.casefile.specs.Decode.{unitsIn, referencesIn}
 use Rattle.casefile.specs.Lookup.{referenceKey, correctReferences}
@@ -32,9 +32,9 @@ of-kind k kind t h e = or-right (not (eqb kind k)) t h (ap not (eq-eqb kind k e)
 
 -- ---- the ranges that settling a case goes by
 
-pub capability-range : (s : List ℕ) (i : ℕ) → unitFine s i ≡ true → unitsIn s .capability i ≤ highestCapability
+pub capability-range : (format : Format) (s : List ℕ) (i : ℕ) → unitFine format s i ≡ true → unitsIn format s .capability i ≤ highestCapability
 unfolding unitFine unitFieldsFine
-capability-range s i h = leb-true (unitsIn s .capability i) highestCapability (search (and-l, and-r) depth 10)
+capability-range format s i h = leb-true (unitsIn format s .capability i) highestCapability (search (and-l, and-r) depth 10)
 
 pub record EventRange (e : Events) (i : ℕ) : Type 0 where
   pub kind : e .kind i ≤ highestKind
@@ -106,23 +106,23 @@ rising key n h i (suc j) l m =
         ltb-true (key j) (key (suc j))
         (rw e at (or-right (eqb (suc j) 0) (ltb (key (suc j - 1)) (key (suc j))) (h (suc j) m) (ne-eqb (suc j) 0 (λ q. omega arith))))
 
-pub numbers-in-order : (s : List ℕ) → unitsFine s ≡ true → UnitsInOrder s
-unfolding unitsFine unitFine unitsIn
-numbers-in-order s h =
-    rising (unitsIn s .number) (length s / unitWidth)
-    (λ j l. let t = all-at (length s / unitWidth) j (unitFine s) l h in search (and-l, and-r))
+pub numbers-in-order : (format : Format) (s : List ℕ) → unitsFine format s ≡ true → UnitsInOrder format s
+unfolding unitsFine unitFine
+numbers-in-order format s h =
+    rising (unitsIn format s .number) (unitsIn format s .count)
+    (λ j l. let t = all-at (unitsIn format s .count) j (unitFine format s) l h in search (and-l, and-r))
 
-pub references-in-order : (u : Units) (s : List ℕ) → referencesFine u s ≡ true → InOrder s
-unfolding referencesFine referenceFine referencesIn
-references-in-order u s h =
-    rising (referenceKey (referencesIn s)) (length s / referenceWidth)
-    (λ j l. let t = all-at (length s / referenceWidth) j (referenceFine u s) l h in search (and-l, and-r))
+pub references-in-order : (format : Format) (u : Units) (s : List ℕ) → referencesFine format u s ≡ true → InOrder format s
+unfolding referencesFine referenceFine
+references-in-order format u s h =
+    rising (referenceKey (referencesIn format s)) (referencesIn format s .count)
+    (λ j l. let t = all-at (referencesIn format s .count) j (referenceFine format u s) l h in search (and-l, and-r))
 
-pub correct-in-order : (u : Units) (correction own : List ℕ) → referencesFine u own ≡ true → correctionFine u correction ≡ true
-    → InOrder (correctReferences correction own)
+pub correct-in-order : (format : Format) (u : Units) (correction own : List ℕ) → referencesFine format u own ≡ true
+    → correctionFine format u correction ≡ true → InOrder format (correctReferences correction own)
 unfolding correctReferences correctionFine
-correct-in-order u correction own h k = go (eqb (length correction) 0)
+correct-in-order format u correction own h k = go (eqb (length correction) 0)
   where
-    go : (b : Bool) → InOrder (cond b own correction)
-    go true = references-in-order u own h
-    go false = references-in-order u correction (search (and-l, and-r))
+    go : (b : Bool) → InOrder format (cond b own correction)
+    go true = references-in-order format u own h
+    go false = references-in-order format u correction (search (and-l, and-r))

@@ -1,18 +1,20 @@
 -- Parts of a section's bytes.
-use Prim.Native.Nat.{ℕ, zero, suc, _+_, _-_, _*_, _^_, _≤_, _<_}
+use Prim.Native.Nat.{ℕ, zero, suc, _+_, _-_, _*_, _/_, _%_, _^_, _≤_, _<_}
 use mathlib.Core.Bool.{Bool, true, false}
 use mathlib.Core.List.{List}
 use mathlib.Core.Path.{_≡_, refl}
-use native.Mathlib.Nat.{pow-suc}
+use native.Mathlib.Nat.{pow-suc, mul-le-mul-left, mul-div-le, mul-suc}
 use native.Mathlib.Omega.{arith}
 use lib.Dec.{ltb}
 use lib.ListN.{length, getD, take, drop, length-take, length-drop, List·getD-eq-default}
-use lib.Seq.{take-all}
+use lib.Seq.{take-all, getD-take, getD-drop}
 use borrow.Author.Tests.{ltb-true, ltb-false}
-use Rattle.binary.specs.Bytes.{byteAt, valueAt}
+use Rattle.binary.specs.Bytes.{valueAt}
 use Rattle.binary.specs.Lists.{Bytes}
-use Rattle.binary.proofs.ByteLaws.{value-drop, value-take, stretch-byte}
-use Rattle.casefile.specs.Decode.{offsetOf, lengthOf, sectionOf, recordAt}
+use Rattle.binary.proofs.ByteLaws.{value-drop, value-take}
+use Rattle.casefile.specs.declared.layout.Format.{Format}
+use Rattle.casefile.specs.Layout.{referenceWidth, eventWidth, eventUnit, cellWidth, cells, cellsOffset, numberLimit, firstWidths, widthsOf, Fits}
+use Rattle.casefile.specs.Decode.{offsetOf, lengthOf, sectionOf, recordAt, cellsFrom, cellsIn, referencesIn, eventsIn}
 
 -- the part from byte a on
 pub rest : (a : ℕ) (s : List ℕ) → take (length s - a) (drop a s) ≡ drop a s
@@ -23,27 +25,88 @@ pub value-record : (w width : ℕ) (s : List ℕ) (i p : ℕ) → p + w ≤ widt
 unfolding recordAt
 value-record w width s i p l = rw (value-take w width (drop (width * i) s) p l, value-drop)
 
+-- record i lies whole within n bytes
+pub record-end : (w n i : ℕ) → i < n / w → w * i + w ≤ n
+record-end w n i l =
+    let a = mul-le-mul-left w l in
+    let b = mul-div-le n w in
+    let e = mul-suc w i in
+    omega arith
+
+-- a byte of a section stands in one record
+pub one-record : (w x i q r : ℕ) → q < w → r < w → w * x + q ≡ w * i + r → x ≡ i
+one-record w x i q r lq lr e = go (ltb x i) refl (ltb i x) refl
+  where
+    below : (a b : ℕ) → a < b → w * a + w ≤ w * b
+    below a b l = let m = mul-le-mul-left w l in let n = mul-suc w a in omega arith
+
+    go : (a : Bool) → ltb x i ≡ a → (b : Bool) → ltb i x ≡ b → x ≡ i
+    go true ea b eb = absurd (let m = below x i (ltb-true x i ea) in omega arith)
+    go false ea true eb = absurd (let m = below i x (ltb-true i x eb) in omega arith)
+    go false ea false eb = let k = ltb-false x i ea in let l = ltb-false i x eb in omega arith
+
+-- ---- widths
+
+-- the widths of each version fit
+pub first-fits : Fits firstWidths
+unfolding firstWidths
+first-fits =
+    record {
+      unit = omega arith;
+      reference = omega arith;
+      event = omega arith;
+      unit-number = omega arith;
+      reference-unit = omega arith;
+      event-unit = omega arith;
+      number = refl;
+    }
+
+pub fits : (format : Format) → Fits (widthsOf format)
+unfolding widthsOf
+fits format = first-fits
+
 -- ---- bytes
 
+take-bytes : (n : ℕ) (l : List ℕ) → Bytes l → Bytes (take n l)
+take-bytes n l b j = go (ltb j n) refl
+  where
+    go : (t : Bool) → ltb j n ≡ t → getD (take n l) j 0 < 256
+    go true e = rw (getD-take n l j 0 (ltb-true j n e)) (b j)
+    go false e =
+        let m = ltb-false j n e in
+        let k = length-take n l in
+        rw (List·getD-eq-default (take n l) 0 {n = j} (omega arith)) (omega arith)
+
+drop-bytes : (n : ℕ) (l : List ℕ) → Bytes l → Bytes (drop n l)
+drop-bytes n l b j = rw (getD-drop n l j 0) (b (n + j))
+
+pub record-bytes : (width : ℕ) (s : List ℕ) (i : ℕ) → Bytes s → Bytes (recordAt width s i)
+unfolding recordAt
+record-bytes width s i b = take-bytes width (drop (width * i) s) (drop-bytes (width * i) s b)
+
+pub section-bytes : (f : List ℕ) (k : ℕ) → Bytes f → Bytes (sectionOf f k)
+unfolding sectionOf
+section-bytes f k b = take-bytes (lengthOf f k) (drop (offsetOf f k) f) (drop-bytes (offsetOf f k) f b)
+
+pub cells-bytes : (format : Format) (s : List ℕ) (i : ℕ) → Bytes s → Bytes (cellsIn format s i)
+unfolding cellsIn cellsFrom
+cells-bytes format s i b =
+    take-bytes (cellWidth * cells format) (drop cellsOffset (recordAt (eventWidth format) s i))
+    (drop-bytes cellsOffset (recordAt (eventWidth format) s i) (record-bytes (eventWidth format) s i b))
+
 -- a number of w bytes
-value-lt : (w : ℕ) (s : List ℕ) (p : ℕ) → Bytes s → valueAt w s p < 256 ^ w
+pub value-lt : (w : ℕ) (s : List ℕ) (p : ℕ) → Bytes s → valueAt w s p < 256 ^ w
 unfolding valueAt
 value-lt zero s p b = omega arith
 value-lt (suc w) s p b = omega (arith, b p, value-lt w s (p + 1) b, pow-suc 256 w)
 
-pub record-byte-lt : (width : ℕ) (s : List ℕ) (i p : ℕ) → Bytes s → p < width → byteAt (recordAt width s i) p < 256
-unfolding recordAt
-record-byte-lt width s i p b l = rw (stretch-byte s (width * i) width p l) (b (width * i + p))
+-- unit numbers have two bytes
+pub event-unit-lt : (format : Format) (s : List ℕ) (i : ℕ) → Bytes s → eventsIn format s .unit i < numberLimit
+unfolding eventsIn
+event-unit-lt format s i b =
+    rw (fits format .number) (omega (arith, value-lt 2 (recordAt (eventWidth format) s i) (eventUnit format) (record-bytes (eventWidth format) s i b)))
 
-pub record-value-lt : (w width : ℕ) (s : List ℕ) (i p : ℕ) → Bytes s → p + w ≤ width → valueAt w (recordAt width s i) p < 256 ^ w
-record-value-lt w width s i p b l = rw (value-record w width s i p l) (value-lt w s (width * i + p) b)
-
-pub section-bytes : (f : List ℕ) (k : ℕ) → Bytes f → Bytes (sectionOf f k)
-unfolding sectionOf
-section-bytes f k b j = go (ltb j (lengthOf f k)) refl
-  where
-    go : (t : Bool) → ltb j (lengthOf f k) ≡ t → getD (take (lengthOf f k) (drop (offsetOf f k) f)) j 0 < 256
-    go true e = rw (stretch-byte f (offsetOf f k) (lengthOf f k) j (ltb-true _ _ e)) (b (offsetOf f k + j))
-    go false e =
-        let l = ltb-false j (lengthOf f k) e in
-        rw (List·getD-eq-default (take (lengthOf f k) (drop (offsetOf f k) f)) 0 {n = j} (rw length-take (omega arith))) (omega arith)
+-- a reference's component is a byte
+pub component-byte : (format : Format) (s : List ℕ) → Bytes s → (i : ℕ) → i < referencesIn format s .count → referencesIn format s .component i < 256
+unfolding referencesIn
+component-byte format s b i l = record-bytes (referenceWidth format) s i b 2

@@ -9,8 +9,9 @@ use lib.Dec.{leb, eqb}
 use lib.ListN.{length}
 use borrow.Author.Tests.{leb-true, eqb-true, ne-eqb}
 use Rattle.binary.proofs.Implies.{and-l, and-r}
+use Rattle.casefile.specs.declared.layout.Format.{Format}
 use Rattle.casefile.specs.Layout.{sectionCount, headerWidth, longestFile}
-use Rattle.casefile.specs.Decode.{offsetOf, lengthOf, sectionOf, FollowOn, HasSection, unitsIn, referencesIn, eventsIn}
+use Rattle.casefile.specs.Decode.{formatIn, offsetOf, lengthOf, sectionOf, FollowOn, HasSection, unitsIn, referencesIn, eventsIn}
 use Rattle.casefile.specs.Lookup.{correctReferences}
 use Rattle.casefile.specs.Refusal.{lengthFine, versionFine, sectionsFine, pairsFine, sizesFine, unitsFine, referencesFine, correctionFine, pastFine, eventsFine, orderFine, eventsListed, amountsFine, referencesFound, rowsFine, unless, refusal}
 use Rattle.casefile.specs.StageRefusal.{headerRefusal, recordsRefusal, eventsRefusal}
@@ -44,10 +45,11 @@ header-next f m = go (lengthFine f) (versionFine f) (sectionsFine f) (pairsFine 
     go true true true true false = refl
     go true true true true true = refl
 
-pub records-next : (u r k p : List ℕ) (m : ℕ)
-    → recordsRefusal u r k p m ≡ cond (eqb (recordsRefusal u r k p 0) 0) m (recordsRefusal u r k p 0)
+pub records-next : (format : Format) (u r k p : List ℕ) (m : ℕ)
+    → recordsRefusal format u r k p m ≡ cond (eqb (recordsRefusal format u r k p 0) 0) m (recordsRefusal format u r k p 0)
 unfolding recordsRefusal
-records-next u r k p m = go (unitsFine u) (referencesFine (unitsIn u) r) (correctionFine (unitsIn u) k) (pastFine p)
+records-next format u r k p m =
+    go (unitsFine format u) (referencesFine format (unitsIn format u) r) (correctionFine format (unitsIn format u) k) (pastFine p)
   where
     chain : (a b c d : Bool) (next : ℕ) → ℕ
     chain a b c d next = unless a 6 (unless b 7 (unless c 8 (unless d 9 next)))
@@ -63,8 +65,8 @@ records-next u r k p m = go (unitsFine u) (referencesFine (unitsIn u) r) (correc
 pub in-stages : (f k : List ℕ) (n : ℕ)
     → refusal f k n
     ≡ headerRefusal f
-    (recordsRefusal (sectionOf f 0) (sectionOf f 1) k (sectionOf f 2)
-    (eventsRefusal (sectionOf f 0) (sectionOf f 1) (correctReferences k (sectionOf f 1)) (sectionOf f 3) n))
+    (recordsRefusal (formatIn f) (sectionOf f 0) (sectionOf f 1) k (sectionOf f 2)
+    (eventsRefusal (formatIn f) (sectionOf f 0) (sectionOf f 1) (correctReferences k (sectionOf f 1)) (sectionOf f 3) n))
 unfolding refusal headerRefusal recordsRefusal eventsRefusal
 in-stages f k n = refl
 
@@ -72,13 +74,13 @@ pub refusal-header : (f k : List ℕ) (n h : ℕ) → h ≡ headerRefusal f 0 �
 refusal-header f k n h e ne = rw (in-stages f k n, header-next f, ← e, ne-eqb h 0 ne)
 
 pub refusal-records : (f k : List ℕ) (n r : ℕ) → headerRefusal f 0 ≡ 0
-    → r ≡ recordsRefusal (sectionOf f 0) (sectionOf f 1) k (sectionOf f 2) 0 → (r ≡ 0 → ⊥) → r ≡ refusal f k n
-refusal-records f k n r h e ne = rw (in-stages f k n, header-next f, h, records-next (sectionOf f 0), ← e, ne-eqb r 0 ne)
+    → r ≡ recordsRefusal (formatIn f) (sectionOf f 0) (sectionOf f 1) k (sectionOf f 2) 0 → (r ≡ 0 → ⊥) → r ≡ refusal f k n
+refusal-records f k n r h e ne = rw (in-stages f k n, header-next f, h, records-next (formatIn f) (sectionOf f 0), ← e, ne-eqb r 0 ne)
 
 pub refusal-events : (f k : List ℕ) (n : ℕ) → headerRefusal f 0 ≡ 0
-    → recordsRefusal (sectionOf f 0) (sectionOf f 1) k (sectionOf f 2) 0 ≡ 0
-    → eventsRefusal (sectionOf f 0) (sectionOf f 1) (correctReferences k (sectionOf f 1)) (sectionOf f 3) n ≡ refusal f k n
-refusal-events f k n h r = rw (in-stages f k n, header-next f, h, records-next (sectionOf f 0), r)
+    → recordsRefusal (formatIn f) (sectionOf f 0) (sectionOf f 1) k (sectionOf f 2) 0 ≡ 0
+    → eventsRefusal (formatIn f) (sectionOf f 0) (sectionOf f 1) (correctReferences k (sectionOf f 1)) (sectionOf f 3) n ≡ refusal f k n
+refusal-events f k n h r = rw (in-stages f k n, header-next f, h, records-next (formatIn f) (sectionOf f 0), r)
 
 -- ---- what a stage that breaks no limit says
 
@@ -89,19 +91,19 @@ pub record HeaderFine (f : List ℕ) : Type 0 where
   pub pairs : pairsFine f ≡ true
   pub sizes : sizesFine f ≡ true
 
-pub record RecordsFine (units references correction past : List ℕ) : Type 0 where
-  pub units-fine : unitsFine units ≡ true
-  pub references-fine : referencesFine (unitsIn units) references ≡ true
-  pub correction-fine : correctionFine (unitsIn units) correction ≡ true
+pub record RecordsFine (format : Format) (units references correction past : List ℕ) : Type 0 where
+  pub units-fine : unitsFine format units ≡ true
+  pub references-fine : referencesFine format (unitsIn format units) references ≡ true
+  pub correction-fine : correctionFine format (unitsIn format units) correction ≡ true
   pub past-fine : pastFine past ≡ true
 
-pub record EventsFine (units references correct events : List ℕ) (rowsLength : ℕ) : Type 0 where
-  pub events-fine : eventsFine events ≡ true
-  pub order-fine : orderFine (eventsIn events) ≡ true
-  pub events-listed : eventsListed (unitsIn units) (eventsIn events) ≡ true
-  pub amounts-fine : amountsFine (unitsIn units) events ≡ true
-  pub references-found : referencesFound (referencesIn references) (referencesIn correct) (eventsIn events) ≡ true
-  pub rows-fine : rowsFine (eventsIn events) rowsLength ≡ true
+pub record EventsFine (format : Format) (units references correct events : List ℕ) (rowsLength : ℕ) : Type 0 where
+  pub events-fine : eventsFine format events ≡ true
+  pub order-fine : orderFine (eventsIn format events) ≡ true
+  pub events-listed : eventsListed (unitsIn format units) (eventsIn format events) ≡ true
+  pub amounts-fine : amountsFine format (unitsIn format units) events ≡ true
+  pub references-found : referencesFound (referencesIn format references) (referencesIn format correct) (eventsIn format events) ≡ true
+  pub rows-fine : rowsFine format (eventsIn format events) rowsLength ≡ true
 
 pub header-fine : (f : List ℕ) (m : ℕ) → headerRefusal f m ≡ 0 → HeaderFine f × (m ≡ 0)
 unfolding headerRefusal
@@ -113,24 +115,24 @@ header-fine f m e =
     let p5 = passed (sizesFine f) 4 _ (p4 .1) in
     (record { fits = p1 .0; versioned = p2 .0; sections = p3 .0; pairs = p4 .0; sizes = p5 .0 }, p5 .1)
 
-pub records-fine : (u r k p : List ℕ) (m : ℕ) → recordsRefusal u r k p m ≡ 0 → RecordsFine u r k p × (m ≡ 0)
+pub records-fine : (format : Format) (u r k p : List ℕ) (m : ℕ) → recordsRefusal format u r k p m ≡ 0 → RecordsFine format u r k p × (m ≡ 0)
 unfolding recordsRefusal
-records-fine u r k p m e =
-    let p6 = passed (unitsFine u) 5 _ e in
-    let p7 = passed (referencesFine (unitsIn u) r) 6 _ (p6 .1) in
-    let p8 = passed (correctionFine (unitsIn u) k) 7 _ (p7 .1) in
+records-fine format u r k p m e =
+    let p6 = passed (unitsFine format u) 5 _ e in
+    let p7 = passed (referencesFine format (unitsIn format u) r) 6 _ (p6 .1) in
+    let p8 = passed (correctionFine format (unitsIn format u) k) 7 _ (p7 .1) in
     let p9 = passed (pastFine p) 8 _ (p8 .1) in
     (record { units-fine = p6 .0; references-fine = p7 .0; correction-fine = p8 .0; past-fine = p9 .0 }, p9 .1)
 
-pub events-fine : (u r c s : List ℕ) (n : ℕ) → eventsRefusal u r c s n ≡ 0 → EventsFine u r c s n
+pub events-fine : (format : Format) (u r c s : List ℕ) (n : ℕ) → eventsRefusal format u r c s n ≡ 0 → EventsFine format u r c s n
 unfolding eventsRefusal
-events-fine u r c s n e =
-    let p10 = passed (eventsFine s) 9 _ e in
-    let p11 = passed (orderFine (eventsIn s)) 10 _ (p10 .1) in
-    let p12 = passed (eventsListed (unitsIn u) (eventsIn s)) 11 _ (p11 .1) in
-    let p13 = passed (amountsFine (unitsIn u) s) 12 _ (p12 .1) in
-    let p14 = passed (referencesFound (referencesIn r) (referencesIn c) (eventsIn s)) 13 _ (p13 .1) in
-    let p15 = passed (rowsFine (eventsIn s) n) 14 _ (p14 .1) in
+events-fine format u r c s n e =
+    let p10 = passed (eventsFine format s) 9 _ e in
+    let p11 = passed (orderFine (eventsIn format s)) 10 _ (p10 .1) in
+    let p12 = passed (eventsListed (unitsIn format u) (eventsIn format s)) 11 _ (p11 .1) in
+    let p13 = passed (amountsFine format (unitsIn format u) s) 12 _ (p12 .1) in
+    let p14 = passed (referencesFound (referencesIn format r) (referencesIn format c) (eventsIn format s)) 13 _ (p13 .1) in
+    let p15 = passed (rowsFine format (eventsIn format s) n) 14 _ (p14 .1) in
     record {
       events-fine = p10 .0;
       order-fine = p11 .0;

@@ -1,35 +1,34 @@
 -- The events of one day, kind and market stand together: a run.
-use Prim.Native.Nat.{ℕ, _+_, _*_, _≤_, _<_}
+use Prim.Native.Nat.{ℕ, _+_, _*_, _^_, _≤_, _<_}
 use mathlib.Core.List.{List}
 use mathlib.Core.Logic.{⊎-elim}
 use mathlib.Core.Path.{_≡_}
 use native.Mathlib.Nat.{eq-or-lt-of-le, le-refl}
 use native.Mathlib.Omega.{arith}
 use Rattle.binary.specs.Lists.{Bytes}
-use Rattle.casefile.specs.Layout.{eventWidth}
-use Rattle.casefile.specs.Decode.{sectionOf, caseIn, eventsIn, decode}
+use Rattle.casefile.specs.Layout.{numberLimit}
+use Rattle.casefile.specs.Decode.{formatIn, sectionOf, caseIn, decode}
 use Rattle.casefile.specs.Refusal.{eventKey, refusal}
-use Rattle.casefile.proofs.RecordLaws.{record-value-lt, section-bytes}
+use Rattle.casefile.proofs.RecordLaws.{event-unit-lt, section-bytes}
 use Rattle.casefile.proofs.AcceptedLaws.{event-ranges, events-rise}
 
--- keys in order, of which the last three bytes are the unit and the component
-leading : (x y a b : ℕ) → a < 16777216 → b < 16777216 → 16777216 * x + a ≤ 16777216 * y + b → x ≤ y
+-- keys in order, of which the last 28 bits are the unit and the component
+leading : (x y a b : ℕ) → a < 2 ^ 28 → b < 2 ^ 28 → 2 ^ 28 * x + a ≤ 2 ^ 28 * y + b → x ≤ y
 leading x y a b l m h = omega arith
 
 last-byte : (x y a b : ℕ) → a < 256 → b < 256 → 256 * x + a ≡ 256 * y + b → a ≡ b
 last-byte x y a b l m e = omega arith
 
 module _ (f k : List ℕ) (n : ℕ) (b : Bytes f) (h : refusal f k n ≡ 0) where
-  -- unit numbers have two bytes
-  pub unit-lt : (j : ℕ) → decode f .events .unit j < 65536
-  unfolding decode caseIn eventsIn
-  unit-lt j = record-value-lt 2 eventWidth (sectionOf f 3) j 2 (section-bytes f 3 b) (omega arith)
+  pub unit-lt : (j : ℕ) → decode f .events .unit j < numberLimit
+  unfolding decode caseIn
+  unit-lt j = event-unit-lt (formatIn f) (sectionOf f 3) j (section-bytes f 3 b)
 
   -- day, kind and market in one number
   abbrev run : ℕ → ℕ
   run i = 256 * (256 * decode f .events .day i + decode f .events .kind i) + decode f .events .market i
 
-  behind : (i : ℕ) → i < decode f .events .count → 256 * decode f .events .unit i + decode f .events .component i < 16777216
+  behind : (i : ℕ) → i < decode f .events .count → 2 ^ 8 * decode f .events .unit i + decode f .events .component i < 2 ^ 28
   behind i l = let c = event-ranges f k n h i l .component in omega (arith, unit-lt i)
 
   runs-rise : (i j : ℕ) → i ≤ j → j < decode f .events .count → run i ≤ run j

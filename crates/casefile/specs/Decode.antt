@@ -3,8 +3,9 @@ use Prim.Native.Nat.{ℕ, _+_, _*_, _/_, _≤_, _<_}
 use mathlib.Core.List.{List}
 use mathlib.Core.Path.{_≡_}
 use lib.ListN.{length, take, drop}
-use Rattle.binary.specs.Bytes.{byteAt, u16At, u32At}
-use Rattle.casefile.specs.Layout.{sectionCount, headerWidth, unitWidth, referenceWidth, pastWidth, eventWidth, cellsOffset, cellWidth, mostHours}
+use Rattle.binary.specs.Bytes.{byteAt, u16At, u32At, valueAt}
+use Rattle.casefile.specs.declared.layout.Format.{Format}
+use Rattle.casefile.specs.Layout.{sectionCount, headerWidth, unitWidth, unitNumber, referenceWidth, referenceUnit, pastWidth, eventWidth, eventUnit, numberWidth, cellsOffset, cellWidth, cells}
 use Rattle.casefile.specs.Case.{Units, References, Violation, Past, Events, Case}
 
 -- the pair of section k (0 units, 1 references, 2 past, 3 events), and the section: that stretch of the file itself
@@ -16,6 +17,10 @@ lengthOf f k = u32At f (8 + 8 * k)
 
 unfoldable pub sectionOf : List ℕ → ℕ → List ℕ
 sectionOf f k = take (lengthOf f k) (drop (offsetOf f k) f)
+
+-- the format of a file: what its version decides
+unfoldable pub formatIn : List ℕ → Format
+formatIn f = record { version = u16At f 0 }
 
 -- the pairs follow on, from the header's end to the file's end
 pub record FollowOn (f : List ℕ) : Type 0 where
@@ -35,26 +40,26 @@ pub record HasSection (f : List ℕ) (k : ℕ) : Type 0 where
 unfoldable pub recordAt : (width : ℕ) → List ℕ → ℕ → List ℕ
 recordAt width s i = take width (drop (width * i) s)
 
-unfoldable pub unitsIn : List ℕ → Units
-unitsIn s =
+unfoldable pub unitsIn : Format → List ℕ → Units
+unitsIn format s =
     record {
-      count = length s / unitWidth;
-      number = λ i. u16At (recordAt unitWidth s i) 0;
-      group = λ i. u16At (recordAt unitWidth s i) 2;
-      area = λ i. byteAt (recordAt unitWidth s i) 4;
-      capability = λ i. u32At (recordAt unitWidth s i) 8;
-      rate = λ i. u32At (recordAt unitWidth s i) 12;
-      averagePrice = λ i. u32At (recordAt unitWidth s i) 16;
-      constrainedHours = λ i. u16At (recordAt unitWidth s i) 20;
+      count = length s / unitWidth format;
+      number = λ i. valueAt (numberWidth format) (recordAt (unitWidth format) s i) (unitNumber format);
+      group = λ i. u16At (recordAt (unitWidth format) s i) 2;
+      area = λ i. byteAt (recordAt (unitWidth format) s i) 4;
+      capability = λ i. u32At (recordAt (unitWidth format) s i) 8;
+      rate = λ i. u32At (recordAt (unitWidth format) s i) 12;
+      averagePrice = λ i. u32At (recordAt (unitWidth format) s i) 16;
+      constrainedHours = λ i. u16At (recordAt (unitWidth format) s i) 20;
     }
 
-unfoldable pub referencesIn : List ℕ → References
-referencesIn s =
+unfoldable pub referencesIn : Format → List ℕ → References
+referencesIn format s =
     record {
-      count = length s / referenceWidth;
-      unit = λ i. u16At (recordAt referenceWidth s i) 0;
-      component = λ i. byteAt (recordAt referenceWidth s i) 2;
-      value = λ i. u32At (recordAt referenceWidth s i) 4;
+      count = length s / referenceWidth format;
+      unit = λ i. valueAt (numberWidth format) (recordAt (referenceWidth format) s i) (referenceUnit format);
+      component = λ i. byteAt (recordAt (referenceWidth format) s i) 2;
+      value = λ i. u32At (recordAt (referenceWidth format) s i) 4;
     }
 
 unfoldable pub violationIn : List ℕ → Violation
@@ -74,39 +79,46 @@ pastIn s = record { count = length s / pastWidth; entry = λ i. violationIn (rec
 abbrev pub cellAt : ℕ → ℕ
 cellAt h = cellsOffset + cellWidth * h
 
-unfoldable pub eventsIn : List ℕ → Events
-eventsIn s =
+-- the part of event i's record where its cells begin, and the cells: nothing that follows the last
+unfoldable pub cellsFrom : Format → List ℕ → ℕ → List ℕ
+cellsFrom format s i = drop cellsOffset (recordAt (eventWidth format) s i)
+
+unfoldable pub cellsIn : Format → List ℕ → ℕ → List ℕ
+cellsIn format s i = take (cellWidth * cells format) (cellsFrom format s i)
+
+unfoldable pub eventsIn : Format → List ℕ → Events
+eventsIn format s =
     record {
-      count = length s / eventWidth;
-      kind = λ i. byteAt (recordAt eventWidth s i) 0;
-      market = λ i. byteAt (recordAt eventWidth s i) 1;
-      unit = λ i. u16At (recordAt eventWidth s i) 2;
-      period = λ i. u16At (recordAt eventWidth s i) 4;
-      component = λ i. byteAt (recordAt eventWidth s i) 6;
-      impact = λ i. byteAt (recordAt eventWidth s i) 7;
-      day = λ i. u32At (recordAt eventWidth s i) 8;
-      hours = λ i. mostHours;
-      P = λ i. u32At (recordAt eventWidth s i) 12;
-      Q = λ i. u32At (recordAt eventWidth s i) 16;
-      R = λ i. u32At (recordAt eventWidth s i) 20;
-      b = λ i h. u32At (recordAt eventWidth s i) (cellAt h + 4);
-      m = λ i h. u32At (recordAt eventWidth s i) (cellAt h + 8);
+      count = length s / eventWidth format;
+      kind = λ i. byteAt (recordAt (eventWidth format) s i) 0;
+      market = λ i. byteAt (recordAt (eventWidth format) s i) 1;
+      unit = λ i. valueAt (numberWidth format) (recordAt (eventWidth format) s i) (eventUnit format);
+      period = λ i. u16At (recordAt (eventWidth format) s i) 4;
+      component = λ i. byteAt (recordAt (eventWidth format) s i) 6;
+      impact = λ i. byteAt (recordAt (eventWidth format) s i) 7;
+      day = λ i. u32At (recordAt (eventWidth format) s i) 8;
+      hours = λ i. cells format;
+      P = λ i. u32At (recordAt (eventWidth format) s i) 12;
+      Q = λ i. u32At (recordAt (eventWidth format) s i) 16;
+      R = λ i. u32At (recordAt (eventWidth format) s i) 20;
+      b = λ i h. u32At (cellsIn format s i) (cellWidth * h + 4);
+      m = λ i h. u32At (cellsIn format s i) (cellWidth * h + 8);
     }
 
 -- a of event i and hour h
-unfoldable pub amountsIn : List ℕ → ℕ → ℕ → ℕ
-amountsIn s i h = u32At (recordAt eventWidth s i) (cellAt h)
+unfoldable pub amountsIn : Format → List ℕ → ℕ → ℕ → ℕ
+amountsIn format s i h = u32At (cellsIn format s i) (cellWidth * h)
 
 -- the case of four sections
-unfoldable pub caseIn : (units references past events : List ℕ) → Case
-caseIn u r p e =
+unfoldable pub caseIn : Format → (units references past events : List ℕ) → Case
+caseIn format u r p e =
     record {
-      units = unitsIn u;
-      references = referencesIn r;
+      units = unitsIn format u;
+      references = referencesIn format r;
       past = pastIn p;
-      events = eventsIn e;
-      a = amountsIn e;
+      events = eventsIn format e;
+      a = amountsIn format e;
     }
 
 unfoldable pub decode : List ℕ → Case
-decode f = caseIn (sectionOf f 0) (sectionOf f 1) (sectionOf f 2) (sectionOf f 3)
+decode f = caseIn (formatIn f) (sectionOf f 0) (sectionOf f 1) (sectionOf f 2) (sectionOf f 3)

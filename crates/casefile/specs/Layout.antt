@@ -1,9 +1,13 @@
--- The numbers of the layout (docs/RULES.md, B): widths in bytes, the hours of a day, and the limits.
-use Prim.Native.Nat.{ℕ}
+-- The numbers of the layout (docs/RULES.md, B): what the versions of the file share, and then what a version decides.
+use Prim.Native.Nat.{ℕ, _+_, _*_, _^_, _≤_}
+use mathlib.Core.Path.{_≡_}
 use Rattle.tariff.specs.DefaultBidRules.{dayHours}
+use Rattle.casefile.specs.declared.layout.Format.{Format}
+use Rattle.casefile.specs.declared.layout.Widths.{Widths}
 
-abbrev pub version : ℕ
-version = 1
+-- the version of the file
+abbrev pub firstVersion : ℕ
+firstVersion = 1
 
 abbrev pub sectionCount : ℕ
 sectionCount = 4
@@ -14,17 +18,9 @@ headerWidth = 36
 abbrev pub longestFile : ℕ
 longestFile = 65000
 
-abbrev pub unitWidth : ℕ
-unitWidth = 24
-
-abbrev pub referenceWidth : ℕ
-referenceWidth = 8
-
+-- a past entry
 abbrev pub pastWidth : ℕ
 pastWidth = 12
-
-abbrev pub eventWidth : ℕ
-eventWidth = 312
 
 -- the hour cells begin here in an event's record
 abbrev pub cellsOffset : ℕ
@@ -33,7 +29,7 @@ cellsOffset = 24
 abbrev pub cellWidth : ℕ
 cellWidth = 12
 
--- the hours of a day, as the rules have them: the cells of an event and the bits of a mask
+-- the most hours of a day, as the rules have them: the bits of a mask
 abbrev pub mostHours : ℕ
 mostHours = dayHours
 
@@ -49,6 +45,64 @@ mostPast = 256
 abbrev pub mostEvents : ℕ
 mostEvents = 200
 
+-- a unit's number is below this: the keys of an order leave room for six digits
+abbrev pub numberLimit : ℕ
+numberLimit = 2 ^ 20
+
+-- ---- what a version decides
+
+-- the widths of the records, and where a unit's number stands in each, with its width
+unfoldable pub firstWidths : Widths
+firstWidths =
+    record {
+      «unit_width» = 24;
+      «unit_number» = 0;
+      «reference_width» = 8;
+      «reference_unit» = 0;
+      «event_width» = 312;
+      «event_unit» = 2;
+      «number_width» = 2;
+    }
+
+-- the widths of a format: an unknown version, which check 2 refuses, is read as the first
+unfoldable pub widthsOf : Format → Widths
+widthsOf format = firstWidths
+
+abbrev pub unitWidth : Format → ℕ
+unitWidth format = widthsOf format .«unit_width»
+
+abbrev pub unitNumber : Format → ℕ
+unitNumber format = widthsOf format .«unit_number»
+
+abbrev pub referenceWidth : Format → ℕ
+referenceWidth format = widthsOf format .«reference_width»
+
+abbrev pub referenceUnit : Format → ℕ
+referenceUnit format = widthsOf format .«reference_unit»
+
+abbrev pub eventWidth : Format → ℕ
+eventWidth format = widthsOf format .«event_width»
+
+abbrev pub eventUnit : Format → ℕ
+eventUnit format = widthsOf format .«event_unit»
+
+abbrev pub numberWidth : Format → ℕ
+numberWidth format = widthsOf format .«number_width»
+
+-- the hour cells of an event: one for each hour that a day can have
+abbrev pub cells : Format → ℕ
+cells format = mostHours
+
 -- a row of the rows buffer
-abbrev pub rowWidth : ℕ
-rowWidth = 128
+abbrev pub rowWidth : Format → ℕ
+rowWidth format = 128
+
+-- each field stands within its record, the hour cells within an event's
+pub record Fits (w : Widths) : Type 0 where
+  pub unit : 24 ≤ w .«unit_width»
+  pub reference : 8 ≤ w .«reference_width»
+  pub event : cellsOffset + cellWidth * mostHours ≤ w .«event_width»
+  pub unit-number : w .«unit_number» + w .«number_width» ≤ w .«unit_width»
+  pub reference-unit : w .«reference_unit» + w .«number_width» ≤ w .«reference_width»
+  pub event-unit : w .«event_unit» + w .«number_width» ≤ w .«event_width»
+  pub number : w .«number_width» ≡ 2

@@ -1,13 +1,13 @@
 -- A unit found by its number, and a reference by its unit and component. Numbers and references strictly rise (checks 6 to 8),
 -- so that the last match is the only one.
-use Prim.Native.Nat.{ℕ, _+_, _*_}
+use Prim.Native.Nat.{ℕ, _+_, _*_, _^_}
 use mathlib.Core.Bool.{Bool, cond, _&&_, _||_}
 use mathlib.Core.List.{List}
 use lib.Dec.{leb, eqb}
 use lib.ListN.{length}
 use Rattle.binary.specs.Bounded.{anyTo, lastTo}
 use Rattle.casefile.specs.Case.{Units, References, Events, Case}
-use Rattle.casefile.specs.Decode.{referencesIn, sectionOf}
+use Rattle.casefile.specs.Decode.{formatIn, referencesIn, sectionOf}
 
 -- unit j has this number
 unfoldable pub isUnit : Units → (number j : ℕ) → Bool
@@ -40,7 +40,7 @@ levelOf r unit component = r .value (lastTo (r .count) (isReference r unit compo
 
 -- the order of references: by unit, then component
 unfoldable pub referenceKey : References → ℕ → ℕ
-referenceKey r i = 256 * r .unit i + r .component i
+referenceKey r i = 2 ^ 8 * r .unit i + r .component i
 
 -- the correction slice where it isn't empty, otherwise the case's own reference section (docs/RULES.md, D6)
 unfoldable pub correctReferences : (correction own : List ℕ) → List ℕ
@@ -52,7 +52,7 @@ readsCorrect component = leb component 1 || eqb component 3
 
 -- the references that c is found in
 unfoldable pub correctIn : (file correction : List ℕ) → References
-correctIn f k = referencesIn (correctReferences k (sectionOf f 1))
+correctIn f k = referencesIn (formatIn f) (correctReferences k (sectionOf f 1))
 
 -- r of event i
 unfoldable pub referenceOf : Case → ℕ → ℕ

@@ -9,9 +9,10 @@ use Rattle.binary.specs.Bounded.{allTo}
 use Rattle.binary.specs.Bytes.{byteAt, u16At}
 use Rattle.binary.specs.Word.{within}
 use Rattle.tariff.specs.Ranges.{highestArea, lowestCapability, highestCapability, highestRate, highestAveragePrice, mostConstrainedHours, highestComponent, referenceInRange, highestMarket, highestDay, lowestKind, highestKind, highestImpact, highestPrice, highestRevenue, highestFuelMoney, highestEnergy, highestPriceChange, mostRunHours, highestMegawatts, bidInRange}
-use Rattle.casefile.specs.Layout.{version, sectionCount, headerWidth, longestFile, unitWidth, referenceWidth, pastWidth, eventWidth, mostUnits, mostReferences, mostPast, mostEvents, rowWidth}
+use Rattle.casefile.specs.declared.layout.Format.{Format}
+use Rattle.casefile.specs.Layout.{firstVersion, sectionCount, headerWidth, longestFile, unitWidth, referenceWidth, pastWidth, eventWidth, mostUnits, mostReferences, mostPast, mostEvents, rowWidth}
 use Rattle.casefile.specs.Case.{Units, References, Violation, Events}
-use Rattle.casefile.specs.Decode.{offsetOf, lengthOf, sectionOf, recordAt, unitsIn, referencesIn, pastIn, eventsIn, amountsIn}
+use Rattle.casefile.specs.Decode.{formatIn, offsetOf, lengthOf, sectionOf, recordAt, unitsIn, referencesIn, pastIn, eventsIn, amountsIn}
 use Rattle.casefile.specs.Lookup.{isListed, placeOf, referenceKey, hasReference, readsCorrect, correctReferences}
 
 -- 1: the length
@@ -20,7 +21,7 @@ lengthFine f = leb headerWidth (length f) && leb (length f) longestFile
 
 -- 2 and 3: the version and the section count
 unfoldable pub versionFine : List ℕ → Bool
-versionFine f = eqb (u16At f 0) version
+versionFine f = eqb (formatIn f .version) firstVersion
 
 unfoldable pub sectionsFine : List ℕ → Bool
 sectionsFine f = eqb (u16At f 2) sectionCount
@@ -40,8 +41,8 @@ sizeFine n width most = eqb (n % width) 0 && leb (n / width) most
 
 unfoldable pub sizesFine : List ℕ → Bool
 sizesFine f =
-    sizeFine (lengthOf f 0) unitWidth mostUnits && sizeFine (lengthOf f 1) referenceWidth mostReferences
-    && sizeFine (lengthOf f 2) pastWidth mostPast && sizeFine (lengthOf f 3) eventWidth mostEvents
+    sizeFine (lengthOf f 0) (unitWidth (formatIn f)) mostUnits && sizeFine (lengthOf f 1) (referenceWidth (formatIn f)) mostReferences
+    && sizeFine (lengthOf f 2) pastWidth mostPast && sizeFine (lengthOf f 3) (eventWidth (formatIn f)) mostEvents
 
 -- strictly rising: the key of record i is above that of the record before
 unfoldable pub rises : (ℕ → ℕ) → ℕ → Bool
@@ -57,33 +58,33 @@ unitFieldsFine area capability rate averagePrice constrainedHours =
 unfoldable pub unitSpareFine : List ℕ → Bool
 unitSpareFine r = eqb (byteAt r 5) 0 && eqb (u16At r 6) 0 && eqb (u16At r 22) 0
 
-unfoldable pub unitFine : List ℕ → ℕ → Bool
-unitFine s i =
-    unitFieldsFine (unitsIn s .area i) (unitsIn s .capability i) (unitsIn s .rate i) (unitsIn s .averagePrice i)
-    (unitsIn s .constrainedHours i)
-    && unitSpareFine (recordAt unitWidth s i)
-    && rises (unitsIn s .number) i
+unfoldable pub unitFine : Format → List ℕ → ℕ → Bool
+unitFine format s i =
+    unitFieldsFine (unitsIn format s .area i) (unitsIn format s .capability i) (unitsIn format s .rate i) (unitsIn format s .averagePrice i)
+    (unitsIn format s .constrainedHours i)
+    && unitSpareFine (recordAt (unitWidth format) s i)
+    && rises (unitsIn format s .number) i
 
-unfoldable pub unitsFine : List ℕ → Bool
-unitsFine s = allTo (unitsIn s .count) (unitFine s)
+unfoldable pub unitsFine : Format → List ℕ → Bool
+unitsFine format s = allTo (unitsIn format s .count) (unitFine format s)
 
 -- 7: a reference, among these units
 unfoldable pub referenceFieldsFine : (component value : ℕ) → Bool
 referenceFieldsFine component value = leb component highestComponent && referenceInRange component value
 
-unfoldable pub referenceFine : Units → List ℕ → ℕ → Bool
-referenceFine u s i =
-    referenceFieldsFine (referencesIn s .component i) (referencesIn s .value i)
-    && eqb (byteAt (recordAt referenceWidth s i) 3) 0
-    && isListed u (referencesIn s .unit i)
-    && rises (referenceKey (referencesIn s)) i
+unfoldable pub referenceFine : Format → Units → List ℕ → ℕ → Bool
+referenceFine format u s i =
+    referenceFieldsFine (referencesIn format s .component i) (referencesIn format s .value i)
+    && eqb (byteAt (recordAt (referenceWidth format) s i) 3) 0
+    && isListed u (referencesIn format s .unit i)
+    && rises (referenceKey (referencesIn format s)) i
 
-unfoldable pub referencesFine : Units → List ℕ → Bool
-referencesFine u s = allTo (referencesIn s .count) (referenceFine u s)
+unfoldable pub referencesFine : Format → Units → List ℕ → Bool
+referencesFine format u s = allTo (referencesIn format s .count) (referenceFine format u s)
 
 -- 8: the correction, laid out as references
-unfoldable pub correctionFine : Units → List ℕ → Bool
-correctionFine u s = sizeFine (length s) referenceWidth mostReferences && referencesFine u s
+unfoldable pub correctionFine : Format → Units → List ℕ → Bool
+correctionFine format u s = sizeFine (length s) (referenceWidth format) mostReferences && referencesFine format u s
 
 -- 9: a past entry's fields, and bytes 6 to 7
 unfoldable pub violationFine : Violation → Bool
@@ -136,13 +137,13 @@ eventFine e a i =
     fieldsFine (e .hours i) (e .kind i) (e .market i) (e .component i) (e .impact i) (e .day i) (e .P i) (e .Q i) (e .R i)
     && allTo (e .hours i) (hourFine e a i)
 
-unfoldable pub eventsFine : List ℕ → Bool
-eventsFine s = allTo (eventsIn s .count) (eventFine (eventsIn s) (amountsIn s))
+unfoldable pub eventsFine : Format → List ℕ → Bool
+eventsFine format s = allTo (eventsIn format s .count) (eventFine (eventsIn format s) (amountsIn format s))
 
 -- 11: the order of events: by day, kind, market, unit, component
 unfoldable pub eventKey : Events → ℕ → ℕ
 eventKey e i =
-    1099511627776 * e .day i + 4294967296 * e .kind i + 16777216 * e .market i + 256 * e .unit i + e .component i
+    2 ^ 44 * e .day i + 2 ^ 36 * e .kind i + 2 ^ 28 * e .market i + 2 ^ 8 * e .unit i + e .component i
 
 unfoldable pub orderFine : Events → Bool
 orderFine e = allTo (e .count) (rises (eventKey e))
@@ -161,8 +162,8 @@ withinCapability u e a i h = leb (a i h) (u .capability (placeOf u (e .unit i)))
 unfoldable pub amountFine : Units → Events → (a : ℕ → ℕ → ℕ) → ℕ → Bool
 amountFine u e a i = ltb 2 (e .kind i) || allTo (e .hours i) (withinCapability u e a i)
 
-unfoldable pub amountsFine : Units → List ℕ → Bool
-amountsFine u s = allTo (eventsIn s .count) (amountFine u (eventsIn s) (amountsIn s))
+unfoldable pub amountsFine : Format → Units → List ℕ → Bool
+amountsFine format u s = allTo (eventsIn format s .count) (amountFine u (eventsIn format s) (amountsIn format s))
 
 -- 14: kind 4 has r, and c where it is read
 unfoldable pub referenceFound : (own correct : References) → Events → ℕ → Bool
@@ -175,8 +176,8 @@ unfoldable pub referencesFound : (own correct : References) → Events → Bool
 referencesFound own correct e = allTo (e .count) (referenceFound own correct e)
 
 -- 15: a row for each event
-unfoldable pub rowsFine : Events → (rowsLength : ℕ) → Bool
-rowsFine e rowsLength = leb (rowWidth * e .count) rowsLength
+unfoldable pub rowsFine : Format → Events → (rowsLength : ℕ) → Bool
+rowsFine format e rowsLength = leb (rowWidth format * e .count) rowsLength
 
 -- ---- the limits, in checking order
 
@@ -199,31 +200,31 @@ headerLimits f =
     ∷ []
 
 -- 6 to 9, of the units, the references, the correction and the past
-abbrev pub recordLimits : (units references correction past : List ℕ) → List Limit
-recordLimits units references correction past =
-    limit 6 (unitsFine units)
-    ∷ limit 7 (referencesFine (unitsIn units) references)
-    ∷ limit 8 (correctionFine (unitsIn units) correction)
+abbrev pub recordLimits : Format → (units references correction past : List ℕ) → List Limit
+recordLimits format units references correction past =
+    limit 6 (unitsFine format units)
+    ∷ limit 7 (referencesFine format (unitsIn format units) references)
+    ∷ limit 8 (correctionFine format (unitsIn format units) correction)
     ∷ limit 9 (pastFine past)
     ∷ []
 
 -- 10 to 15, of the events
-abbrev pub eventLimits : (units references correct events : List ℕ) (rowsLength : ℕ) → List Limit
-eventLimits units references correct events rowsLength =
-    limit 10 (eventsFine events)
-    ∷ limit 11 (orderFine (eventsIn events))
-    ∷ limit 12 (eventsListed (unitsIn units) (eventsIn events))
-    ∷ limit 13 (amountsFine (unitsIn units) events)
-    ∷ limit 14 (referencesFound (referencesIn references) (referencesIn correct) (eventsIn events))
-    ∷ limit 15 (rowsFine (eventsIn events) rowsLength)
+abbrev pub eventLimits : Format → (units references correct events : List ℕ) (rowsLength : ℕ) → List Limit
+eventLimits format units references correct events rowsLength =
+    limit 10 (eventsFine format events)
+    ∷ limit 11 (orderFine (eventsIn format events))
+    ∷ limit 12 (eventsListed (unitsIn format units) (eventsIn format events))
+    ∷ limit 13 (amountsFine format (unitsIn format units) events)
+    ∷ limit 14 (referencesFound (referencesIn format references) (referencesIn format correct) (eventsIn format events))
+    ∷ limit 15 (rowsFine format (eventsIn format events) rowsLength)
     ∷ []
 
 -- every limit of a case with its correction and a rows buffer of that length
 abbrev pub limits : (file correction : List ℕ) (rowsLength : ℕ) → List Limit
 limits f k n =
     headerLimits f
-    ++ (recordLimits (sectionOf f 0) (sectionOf f 1) k (sectionOf f 2)
-    ++ eventLimits (sectionOf f 0) (sectionOf f 1) (correctReferences k (sectionOf f 1)) (sectionOf f 3) n)
+    ++ (recordLimits (formatIn f) (sectionOf f 0) (sectionOf f 1) k (sectionOf f 2)
+    ++ eventLimits (formatIn f) (sectionOf f 0) (sectionOf f 1) (correctReferences k (sectionOf f 1)) (sectionOf f 3) n)
 
 -- ---- the number
 

@@ -1,11 +1,10 @@
 -- What the check hands on of a case that it accepts.
-use Prim.Native.Nat.{ℕ, _/_}
+use Prim.Native.Nat.{ℕ}
 use mathlib.Core.Bool.{true}
 use mathlib.Core.List.{List}
 use mathlib.Core.Path.{_≡_}
-use lib.ListN.{length}
 use Rattle.binary.specs.Lists.{Holds}
-use Rattle.casefile.specs.Layout.{eventWidth}
+use Rattle.casefile.specs.declared.layout.Format.{Format}
 use Rattle.casefile.specs.Case.{Units, References, Events}
 use Rattle.casefile.specs.Decode.{unitsIn, referencesIn, eventsIn, decode}
 use Rattle.casefile.specs.Lookup.{placeOf, unitOf, bidLevel, correctIn}
@@ -31,10 +30,10 @@ pub record HandedOn (file correction places levels corrects : List ℕ) : Type 0
 unfoldable pub eventPlace : Units → Events → ℕ → ℕ
 eventPlace u e i = placeOf u (e .unit i)
 
-pub record Found (units references correct events places levels corrects : List ℕ) : Type 0 where
-  pub placed : Holds (length events / eventWidth) places (eventPlace (unitsIn units) (eventsIn events))
-  pub levelled : Holds (length events / eventWidth) levels (bidLevel (referencesIn references) (eventsIn events))
-  pub corrected : Holds (length events / eventWidth) corrects (correctLevel (referencesIn correct) (eventsIn events))
+pub record Found (format : Format) (units references correct events places levels corrects : List ℕ) : Type 0 where
+  pub placed : Holds (eventsIn format events .count) places (eventPlace (unitsIn format units) (eventsIn format events))
+  pub levelled : Holds (eventsIn format events .count) levels (bidLevel (referencesIn format references) (eventsIn format events))
+  pub corrected : Holds (eventsIn format events .count) corrects (correctLevel (referencesIn format correct) (eventsIn format events))
 
 -- of event i: whether the references that it reads are there, and then r and c
 pub record EventLevels (own correct : References) (e : Events) (i : ℕ) (l : Levels) : Type 0 where

@@ -1,11 +1,10 @@
 -- What the search for a unit or a reference leans on, records in order (checks 6 to 8), and what it finds.
-use Prim.Native.Nat.{ℕ, _/_, _≤_, _<_}
+use Prim.Native.Nat.{ℕ, _≤_, _<_}
 use mathlib.Core.Bool.{Bool, cond, _&&_}
 use mathlib.Core.List.{List}
 use mathlib.Core.Path.{_≡_}
 use lib.Dec.{eqb}
-use lib.ListN.{length}
-use Rattle.casefile.specs.Layout.{unitWidth, referenceWidth}
+use Rattle.casefile.specs.declared.layout.Format.{Format}
 use Rattle.casefile.specs.Case.{Units, References, Events}
 use Rattle.casefile.specs.Decode.{unitsIn, referencesIn}
 use Rattle.casefile.specs.Lookup.{isListed, placeOf, levelOf, readsCorrect, referenceKey}
@@ -16,12 +15,12 @@ abbrev pub Rising : (key : ℕ → ℕ) (n : ℕ) → Type 0
 Rising key n = (i j : ℕ) → i < j → j < n → key i < key j
 
 -- the units of a section stand in the order of their numbers (check 6)
-abbrev pub UnitsInOrder : (units : List ℕ) → Type 0
-UnitsInOrder s = Rising (unitsIn s .number) (length s / unitWidth)
+abbrev pub UnitsInOrder : Format → (units : List ℕ) → Type 0
+UnitsInOrder format s = Rising (unitsIn format s .number) (unitsIn format s .count)
 
 -- the references of a section stand in their order (checks 7 and 8)
-abbrev pub InOrder : (references : List ℕ) → Type 0
-InOrder s = Rising (referenceKey (referencesIn s)) (length s / referenceWidth)
+abbrev pub InOrder : Format → (references : List ℕ) → Type 0
+InOrder format s = Rising (referenceKey (referencesIn format s)) (referencesIn format s .count)
 
 -- every key before lo is below the target, and none from hi on is
 pub record Between (key : ℕ → ℕ) (n target lo hi : ℕ) : Type 0 where

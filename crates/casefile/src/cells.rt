@@ -1,6 +1,6 @@
 // Hour cells: the reader, and the part of checks 10 and 13 that looks at each hour.
 ghost use mathlib.Core.Path.{_≡_};
-ghost use Prim.Native.Nat.{_*_, _<_};
+ghost use Prim.Native.Nat.{_*_, _≤_, _<_};
 ghost use lib.ListN.{length};
 ghost use Rattle.binary.specs.Bounded.{allTo};
 ghost use Rattle.casefile.specs.Layout.{cellWidth, mostHours};
@@ -16,9 +16,9 @@ pub struct Cell {
     pub m: u32,
 }
 
-// The cell of hour h, of the part of an event where its cells begin.
+// The cell of hour h, of the part of an event where its cells begin; what follows the last cell is not read.
 pub fn cell_at(cells: &[u8], h: usize) -> Cell
-    requires { ⌜ (h < mostHours) × (length (now cells) ≡ cellWidth * mostHours) ⌝ }
+    requires { ⌜ (h < mostHours) × (cellWidth * mostHours ≤ length (now cells)) ⌝ }
     ensures { λ r. ⌜ r ≡ cellOf (now (cells .entry)) h ⌝ }
 {
     let at = layout::CELL_WIDTH * h;
@@ -31,7 +31,7 @@ pub fn cell_at(cells: &[u8], h: usize) -> Cell
 
 // The ranges of the cells of kind 1.
 fn withheld_cells(cells: &[u8]) -> bool
-    requires { ⌜ length (now cells) ≡ cellWidth * mostHours ⌝ }
+    requires { ⌜ cellWidth * mostHours ≤ length (now cells) ⌝ }
     ensures { λ r. ⌜ r ≡ allTo mostHours (cellFineAt 1 0 (now (cells .entry))) ⌝ }
 {
     let mut fine = true;
@@ -49,7 +49,7 @@ fn withheld_cells(cells: &[u8]) -> bool
 
 // Of kind 2.
 fn dispatch_cells(cells: &[u8]) -> bool
-    requires { ⌜ length (now cells) ≡ cellWidth * mostHours ⌝ }
+    requires { ⌜ cellWidth * mostHours ≤ length (now cells) ⌝ }
     ensures { λ r. ⌜ r ≡ allTo mostHours (cellFineAt 2 0 (now (cells .entry))) ⌝ }
 {
     let mut fine = true;
@@ -66,7 +66,7 @@ fn dispatch_cells(cells: &[u8]) -> bool
 
 // Of kind 3.
 fn fuel_cells(cells: &[u8]) -> bool
-    requires { ⌜ length (now cells) ≡ cellWidth * mostHours ⌝ }
+    requires { ⌜ cellWidth * mostHours ≤ length (now cells) ⌝ }
     ensures { λ r. ⌜ r ≡ allTo mostHours (cellFineAt 3 0 (now (cells .entry))) ⌝ }
 {
     let mut fine = true;
@@ -85,7 +85,7 @@ fn fuel_cells(cells: &[u8]) -> bool
 
 // Of kind 4.
 fn bid_cells(component: u8, cells: &[u8]) -> bool
-    requires { ⌜ length (now cells) ≡ cellWidth * mostHours ⌝ }
+    requires { ⌜ cellWidth * mostHours ≤ length (now cells) ⌝ }
     ensures { λ r. ⌜ r ≡ allTo mostHours (cellFineAt 4 component (now (cells .entry))) ⌝ }
 {
     let mut fine = true;
@@ -105,7 +105,7 @@ fn bid_cells(component: u8, cells: &[u8]) -> bool
 
 // The ranges of an event's cells: the kind is asked once, and not in each hour.
 pub fn cells_fine(kind: u8, component: u8, cells: &[u8]) -> bool
-    requires { ⌜ length (now cells) ≡ cellWidth * mostHours ⌝ }
+    requires { ⌜ cellWidth * mostHours ≤ length (now cells) ⌝ }
     ensures { λ r. ⌜ r ≡ allTo mostHours (cellFineAt kind component (now (cells .entry))) ⌝ }
 {
     if kind == 1 {
@@ -125,7 +125,7 @@ pub fn cells_fine(kind: u8, component: u8, cells: &[u8]) -> bool
 
 // Whether no a is above the capability.
 pub fn amounts_within(capability: u32, cells: &[u8]) -> bool
-    requires { ⌜ length (now cells) ≡ cellWidth * mostHours ⌝ }
+    requires { ⌜ cellWidth * mostHours ≤ length (now cells) ⌝ }
     ensures { λ r. ⌜ r ≡ allTo mostHours (amountWithin capability (now (cells .entry))) ⌝ }
 {
     let mut fine = true;

@@ -1,19 +1,22 @@
 // The check of a whole case, in number order.
 ghost use mathlib.Core.Path.{_≡_};
-ghost use Prim.Native.Nat.{_/_, _≤_};
-ghost use lib.ListN.{length};
-ghost use Rattle.casefile.specs.Layout.{eventWidth, mostEvents};
+ghost use Prim.Native.Nat.{_≤_};
+ghost use Rattle.casefile.specs.Layout.{mostEvents};
+ghost use Rattle.casefile.specs.Decode.{eventsIn};
 ghost use Rattle.casefile.specs.StageLookup.{UnitsInOrder, InOrder};
 ghost use Rattle.casefile.specs.Refusal.{refusal};
 ghost use Rattle.casefile.specs.StageRefusal.{recordsRefusal, eventsRefusal};
 ghost use Rattle.casefile.specs.StageChecked.{Found, HandedOn};
 use crate::events::amounts_fine;
+use crate::events::event_count;
 use crate::events::events_listed;
 use crate::events::order_refusal;
 use crate::events::references_found;
+use crate::header::format_of;
 use crate::header::header_refusal;
 use crate::header::section;
 use crate::layout;
+use crate::layout::Format;
 use crate::past::past_fine;
 use crate::references::correct_references;
 use crate::references::correction_fine;
@@ -22,15 +25,21 @@ use crate::refusal::unless;
 use crate::units::units_fine;
 
 // The number of the first limit that units, references, correction or past break, or 0.
-fn records_refusal(units: &[u8], references: &[u8], correction: &[u8], past: &[u8]) -> u8
-    ensures { λ r. ⌜ r ≡ recordsRefusal (now (units .entry)) (now (references .entry)) (now (correction .entry)) (now (past .entry)) 0 ⌝ }
+fn records_refusal(
+    format: Format,
+    units: &[u8],
+    references: &[u8],
+    correction: &[u8],
+    past: &[u8],
+) -> u8
+    ensures { λ r. ⌜ r ≡ recordsRefusal format (now (units .entry)) (now (references .entry)) (now (correction .entry)) (now (past .entry)) 0 ⌝ }
 {
     // Units are looked up by their order, which 6 is about.
-    if !units_fine(units) {
+    if !units_fine(format, units) {
         return 6;
     }
-    let references_good = references_fine(units, references);
-    let correction_good = correction_fine(units, correction);
+    let references_good = references_fine(format, units, references);
+    let correction_good = correction_fine(format, units, correction);
     let past_good = past_fine(past);
     let from_9 = unless(past_good, 9, 0);
     let from_8 = unless(correction_good, 8, from_9);
@@ -39,6 +48,7 @@ fn records_refusal(units: &[u8], references: &[u8], correction: &[u8], past: &[u
 
 // The number of the first limit that the events break, or 0: then the tables hold what was found of each event.
 fn events_refusal(
+    format: Format,
     units: &[u8],
     references: &[u8],
     correct: &[u8],
@@ -48,20 +58,20 @@ fn events_refusal(
     levels: &mut [u32; layout::MOST_EVENTS],
     corrects: &mut [u32; layout::MOST_EVENTS],
 ) -> u8
-    requires { ⌜ UnitsInOrder (now units) × InOrder (now references) × InOrder (now correct) × (length (now events) / eventWidth ≤ mostEvents) ⌝ }
-    ensures { λ r. ⌜ r ≡ eventsRefusal (now (units .entry)) (now (references .entry)) (now (correct .entry)) (now (events .entry)) «rows_length» ⌝ }
-    ensures { λ r. ⌜ (r ≡ 0 → Found (now (units .entry)) (now (references .entry)) (now (correct .entry)) (now (events .entry)) (now (places .exit)) (now (levels .exit)) (now (corrects .exit))) ⌝ }
+    requires { ⌜ UnitsInOrder format (now units) × InOrder format (now references) × InOrder format (now correct) × (eventsIn format (now events) .count ≤ mostEvents) ⌝ }
+    ensures { λ r. ⌜ r ≡ eventsRefusal format (now (units .entry)) (now (references .entry)) (now (correct .entry)) (now (events .entry)) «rows_length» ⌝ }
+    ensures { λ r. ⌜ (r ≡ 0 → Found format (now (units .entry)) (now (references .entry)) (now (correct .entry)) (now (events .entry)) (now (places .exit)) (now (levels .exit)) (now (corrects .exit))) ⌝ }
 {
-    let order = order_refusal(events);
+    let order = order_refusal(format, events);
     if order != 0 {
         return order;
     }
-    if !events_listed(units, events, places) {
+    if !events_listed(format, units, events, places) {
         return 12;
     }
-    let amounts_good = amounts_fine(units, events, places);
-    let references_good = references_found(references, correct, events, levels, corrects);
-    let rows = layout::ROW_WIDTH * (events.len() / layout::EVENT_WIDTH);
+    let amounts_good = amounts_fine(format, units, events, places);
+    let references_good = references_found(format, references, correct, events, levels, corrects);
+    let rows = layout::ROW_WIDTH * event_count(format, events);
     let from_15 = unless(rows <= rows_length, 15, 0);
     let from_14 = unless(references_good, 14, from_15);
     unless(amounts_good, 13, from_14)
@@ -83,16 +93,18 @@ pub fn check_into<'a>(
     if header != 0 {
         return header;
     }
+    let format = format_of(file);
     let units = section(file, 0);
     let references = section(file, 1);
     let past = section(file, 2);
-    let records = records_refusal(units, references, correction, past);
+    let records = records_refusal(format, units, references, correction, past);
     if records != 0 {
         return records;
     }
     let events = section(file, 3);
     let correct = correct_references(correction, references);
     events_refusal(
+        format,
         units,
         references,
         correct,

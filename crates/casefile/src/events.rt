@@ -1,24 +1,29 @@
 // Events: the reader, and the checks 10 to 14.
 ghost use mathlib.Core.Bool.{true};
 ghost use mathlib.Core.Path.{_≡_};
-ghost use Prim.Native.Nat.{_/_, _<_, _≤_};
+ghost use Prim.Native.Nat.{_+_, _*_, _<_, _≤_};
 ghost use lib.ListN.{length};
 ghost use Rattle.binary.specs.Lists.{Holds};
 ghost use Rattle.tariff.specs.Ranges.{highestDay};
-ghost use Rattle.casefile.specs.Layout.{unitWidth, eventWidth, mostHours, mostEvents};
-ghost use Rattle.casefile.specs.Decode.{unitsIn, referencesIn, eventsIn, amountsIn};
+ghost use Rattle.casefile.specs.Layout.{eventWidth, cellsOffset, cellWidth, mostHours, mostEvents, numberLimit};
+ghost use Rattle.casefile.specs.Decode.{recordAt, cellsFrom, unitsIn, referencesIn, eventsIn, amountsIn};
 ghost use Rattle.casefile.specs.Lookup.{readsCorrect, bidLevel};
 ghost use Rattle.casefile.specs.StageLookup.{UnitsInOrder, InOrder, correctLevel};
 ghost use Rattle.casefile.specs.Refusal.{quantitiesFine, fieldsFine, eventFine, eventsFine, orderFine, eventsListed, amountFine, amountsFine, referencesFound, unless as unlessOf};
-ghost use Rattle.casefile.specs.StageRead.{fieldsOf, keyOf, numberOf, readEvent};
+ghost use Rattle.casefile.specs.StageRead.{eventAt, keyOf, numberOf, readEvent};
 ghost use Rattle.casefile.specs.StageChecked.{eventPlace, EventLevels};
 use crate::cells::amounts_within;
 use crate::cells::cells_fine;
 use crate::layout;
+use crate::layout::Format;
+use crate::layout::widths_of;
+use crate::records::count_of;
+use crate::records::number_at;
 use crate::records::record_at;
-use crate::references::reference_at;
+use crate::references::level_of;
 use crate::refusal::unless;
 use crate::units::next_place;
+use crate::units::unit_at;
 use crate::units::unit_place;
 use binary::bytes::load_u8;
 use binary::bytes::load_u16;
@@ -29,11 +34,12 @@ use tariff::ranges;
 pub struct Event {
     pub kind: u8,
     pub market: u8,
-    pub unit: u16,
+    pub unit: u32,
     pub period: u16,
     pub component: u8,
     pub impact: u8,
     pub day: u32,
+    pub hours: usize,
     pub p: u32,
     pub q: u32,
     pub r: u32,
@@ -44,24 +50,51 @@ pub enum EventRead {
     Unreadable,
 }
 
-// The fields of event i, as they stand.
-pub fn event_at(events: &[u8], i: usize) -> Event
-    requires { ⌜ i < length (now events) / eventWidth ⌝ }
-    ensures { λ r. ⌜ r ≡ fieldsOf (eventsIn (now (events .entry))) i ⌝ }
+pub fn event_count(format: Format, events: &[u8]) -> usize
+    ensures { λ r. ⌜ (r ≡ eventsIn format (now (events .entry)) .count) × (r ≤ length (now (events .entry))) ⌝ }
 {
-    let event = record_at(events, i, layout::EVENT_WIDTH);
+    let w = widths_of(format);
+    count_of(events, w.event_width)
+}
+
+// The record of event i.
+fn event_record(format: Format, events: &[u8], i: usize) -> &[u8]
+    requires { ⌜ i < eventsIn format (now events) .count ⌝ }
+    ensures { λ r. ⌜ (now r ≡ recordAt (eventWidth format) (now (events .entry)) i) × (length (now r) ≡ eventWidth format) × (cellsOffset + cellWidth * mostHours ≤ length (now r)) ⌝ }
+{
+    let w = widths_of(format);
+    record_at(events, i, w.event_width)
+}
+
+// The fields of event i, as they stand.
+pub fn event_at(format: Format, events: &[u8], i: usize) -> Event
+    requires { ⌜ i < eventsIn format (now events) .count ⌝ }
+    ensures { λ r. ⌜ r ≡ eventAt (eventsIn format (now (events .entry))) i ⌝ }
+{
+    let w = widths_of(format);
+    let event = event_record(format, events, i);
     Event {
         kind: load_u8(event, 0),
         market: load_u8(event, 1),
-        unit: load_u16(event, 2),
+        unit: number_at(event, w.event_unit),
         period: load_u16(event, 4),
         component: load_u8(event, 6),
         impact: load_u8(event, 7),
         day: load_u32(event, 8),
+        hours: layout::HOURS,
         p: load_u32(event, 12),
         q: load_u32(event, 16),
         r: load_u32(event, 20),
     }
+}
+
+// The part of event i where its cells begin, to the record's end.
+pub fn event_cells(format: Format, events: &[u8], i: usize) -> &[u8]
+    requires { ⌜ i < eventsIn format (now events) .count ⌝ }
+    ensures { λ r. ⌜ (now r ≡ cellsFrom format (now (events .entry)) i) × (cellWidth * mostHours ≤ length (now r)) ⌝ }
+{
+    let event = event_record(format, events, i);
+    &event[layout::CELLS_OFFSET..]
 }
 
 // The ranges of Q and R, by kind.
@@ -104,11 +137,11 @@ fn fields_fine(
 }
 
 // Event i, where its fields and its cells are in their ranges.
-pub fn read_event(events: &[u8], i: usize) -> EventRead
-    requires { ⌜ i < length (now events) / eventWidth ⌝ }
-    ensures { λ r. ⌜ (r ≡ readEvent (now (events .entry)) i) × (numberOf r ≡ unlessOf (eventFine (eventsIn (now (events .entry))) (amountsIn (now (events .entry))) i) 10 0) ⌝ }
+pub fn read_event(format: Format, events: &[u8], i: usize) -> EventRead
+    requires { ⌜ i < eventsIn format (now events) .count ⌝ }
+    ensures { λ r. ⌜ (r ≡ readEvent format (now (events .entry)) i) × (numberOf r ≡ unlessOf (eventFine (eventsIn format (now (events .entry))) (amountsIn format (now (events .entry))) i) 10 0) ⌝ }
 {
-    let e = event_at(events, i);
+    let e = event_at(format, events, i);
     let fields = fields_fine(
         e.kind,
         e.market,
@@ -119,8 +152,7 @@ pub fn read_event(events: &[u8], i: usize) -> EventRead
         e.q,
         e.r,
     );
-    let event = record_at(events, i, layout::EVENT_WIDTH);
-    let cells = cells_fine(e.kind, e.component, &event[layout::CELLS_OFFSET..]);
+    let cells = cells_fine(e.kind, e.component, event_cells(format, events, i));
     if fields & cells {
         EventRead::Event(e)
     } else {
@@ -130,26 +162,26 @@ pub fn read_event(events: &[u8], i: usize) -> EventRead
 
 // The place of an event in the order: by day, kind, market, unit, component.
 fn event_key(e: Event) -> u64
-    requires { ⌜ e .day ≤ highestDay ⌝ }
+    requires { ⌜ (e .day ≤ highestDay) × (e .unit < numberLimit) ⌝ }
     ensures { λ r. ⌜ r ≡ keyOf e ⌝ }
 {
-    1_099_511_627_776 * (e.day as u64)
-        + 4_294_967_296 * (e.kind as u64)
-        + 16_777_216 * (e.market as u64)
+    17_592_186_044_416 * (e.day as u64)
+        + 68_719_476_736 * (e.kind as u64)
+        + 268_435_456 * (e.market as u64)
         + 256 * (e.unit as u64)
         + (e.component as u64)
 }
 
 // 10 where an event can't be read, else 11 where one is out of order, else 0.
-pub fn order_refusal(events: &[u8]) -> u8
-    ensures { λ r. ⌜ r ≡ unlessOf (eventsFine (now (events .entry))) 10 (unlessOf (orderFine (eventsIn (now (events .entry)))) 11 0) ⌝ }
+pub fn order_refusal(format: Format, events: &[u8]) -> u8
+    ensures { λ r. ⌜ r ≡ unlessOf (eventsFine format (now (events .entry))) 10 (unlessOf (orderFine (eventsIn format (now (events .entry)))) 11 0) ⌝ }
 {
-    let n = events.len() / layout::EVENT_WIDTH;
+    let n = event_count(format, events);
     let mut order = 0;
     let mut last = 0;
     let mut i = 0;
     while i < n {
-        let EventRead::Event(e) = read_event(events, i) else {
+        let EventRead::Event(e) = read_event(format, events, i) else {
             return 10;
         };
         let key = event_key(e);
@@ -161,21 +193,27 @@ pub fn order_refusal(events: &[u8]) -> u8
 }
 
 // Whether each event's unit is listed; the table holds its place.
-pub fn events_listed(units: &[u8], events: &[u8], places: &mut [usize; layout::MOST_EVENTS]) -> bool
-    requires { ⌜ UnitsInOrder (now units) × (length (now events) / eventWidth ≤ mostEvents) ⌝ }
-    ensures { λ r. ⌜ r ≡ eventsListed (unitsIn (now (units .entry))) (eventsIn (now (events .entry))) ⌝ }
-    ensures { λ r. ⌜ Holds (length (now (events .entry)) / eventWidth) (now (places .exit)) (eventPlace (unitsIn (now (units .entry))) (eventsIn (now (events .entry)))) ⌝ }
+pub fn events_listed(
+    format: Format,
+    units: &[u8],
+    events: &[u8],
+    places: &mut [usize; layout::MOST_EVENTS],
+) -> bool
+    requires { ⌜ UnitsInOrder format (now units) × (eventsIn format (now events) .count ≤ mostEvents) ⌝ }
+    ensures { λ r. ⌜ r ≡ eventsListed (unitsIn format (now (units .entry))) (eventsIn format (now (events .entry))) ⌝ }
+    ensures { λ r. ⌜ Holds (eventsIn format (now (events .entry)) .count) (now (places .exit)) (eventPlace (unitsIn format (now (units .entry))) (eventsIn format (now (events .entry)))) ⌝ }
 {
     // As a slice the table has a length that is known.
     let table: &mut [usize] = places;
-    let n = events.len() / layout::EVENT_WIDTH;
+    let n = event_count(format, events);
     let mut fine = true;
-    let mut last: u16 = 0;
-    let mut place = unit_place(units, 0);
+    let mut last: u32 = 0;
+    let mut place = unit_place(format, units, 0);
     let mut i = 0;
     while i < n {
-        let unit = load_u16(record_at(events, i, layout::EVENT_WIDTH), 2);
-        place = next_place(units, unit, last, place);
+        let event = event_at(format, events, i);
+        let unit = event.unit;
+        place = next_place(format, units, unit, last, place);
         last = unit;
         let at = place.at;
         let listed = place.listed;
@@ -187,31 +225,34 @@ pub fn events_listed(units: &[u8], events: &[u8], places: &mut [usize; layout::M
 }
 
 // Whether a is within the capability in each hour of event i, where its kind asks that; its unit is at this place.
-fn amount_fine(units: &[u8], events: &[u8], i: usize, place: usize) -> bool
-    requires { ⌜ (i < length (now events) / eventWidth) × (place < length (now units) / unitWidth) ⌝ }
-    requires { ⌜ place ≡ eventPlace (unitsIn (now units)) (eventsIn (now events)) i ⌝ }
-    ensures { λ r. ⌜ r ≡ amountFine (unitsIn (now (units .entry))) (eventsIn (now (events .entry))) (amountsIn (now (events .entry))) i ⌝ }
+fn amount_fine(format: Format, units: &[u8], events: &[u8], i: usize, place: usize) -> bool
+    requires { ⌜ (i < eventsIn format (now events) .count) × (place < unitsIn format (now units) .count) ⌝ }
+    requires { ⌜ place ≡ eventPlace (unitsIn format (now units)) (eventsIn format (now events)) i ⌝ }
+    ensures { λ r. ⌜ r ≡ amountFine (unitsIn format (now (units .entry))) (eventsIn format (now (events .entry))) (amountsIn format (now (events .entry))) i ⌝ }
 {
-    let event = record_at(events, i, layout::EVENT_WIDTH);
-    let kind = load_u8(event, 0);
-    if 2 < kind {
+    let event = event_at(format, events, i);
+    if 2 < event.kind {
         return true;
     }
-    let unit = record_at(units, place, layout::UNIT_WIDTH);
-    let capability = load_u32(unit, 8);
-    amounts_within(capability, &event[layout::CELLS_OFFSET..])
+    let unit = unit_at(format, units, place);
+    amounts_within(unit.capability, event_cells(format, events, i))
 }
 
-pub fn amounts_fine(units: &[u8], events: &[u8], places: &[usize; layout::MOST_EVENTS]) -> bool
-    requires { ⌜ (length (now events) / eventWidth ≤ mostEvents) × (eventsListed (unitsIn (now units)) (eventsIn (now events)) ≡ true) ⌝ }
-    requires { ⌜ Holds (length (now events) / eventWidth) (now places) (eventPlace (unitsIn (now units)) (eventsIn (now events))) ⌝ }
-    ensures { λ r. ⌜ r ≡ amountsFine (unitsIn (now (units .entry))) (now (events .entry)) ⌝ }
+pub fn amounts_fine(
+    format: Format,
+    units: &[u8],
+    events: &[u8],
+    places: &[usize; layout::MOST_EVENTS],
+) -> bool
+    requires { ⌜ (eventsIn format (now events) .count ≤ mostEvents) × (eventsListed (unitsIn format (now units)) (eventsIn format (now events)) ≡ true) ⌝ }
+    requires { ⌜ Holds (eventsIn format (now events) .count) (now places) (eventPlace (unitsIn format (now units)) (eventsIn format (now events))) ⌝ }
+    ensures { λ r. ⌜ r ≡ amountsFine format (unitsIn format (now (units .entry))) (now (events .entry)) ⌝ }
 {
-    let n = events.len() / layout::EVENT_WIDTH;
+    let n = event_count(format, events);
     let mut fine = true;
     let mut i = 0;
     while i < n {
-        fine = fine & amount_fine(units, events, i, places[i]);
+        fine = fine & amount_fine(format, units, events, i, places[i]);
         i += 1;
     }
     fine
@@ -231,26 +272,31 @@ pub struct Levels {
     pub correct: u32,
 }
 
-fn event_levels(references: &[u8], correct: &[u8], events: &[u8], i: usize) -> Levels
-    requires { ⌜ (i < length (now events) / eventWidth) × InOrder (now references) × InOrder (now correct) ⌝ }
-    ensures { λ r. ⌜ EventLevels (referencesIn (now (references .entry))) (referencesIn (now (correct .entry))) (eventsIn (now (events .entry))) i r ⌝ }
+fn event_levels(
+    format: Format,
+    references: &[u8],
+    correct: &[u8],
+    events: &[u8],
+    i: usize,
+) -> Levels
+    requires { ⌜ (i < eventsIn format (now events) .count) × InOrder format (now references) × InOrder format (now correct) ⌝ }
+    ensures { λ r. ⌜ EventLevels (referencesIn format (now (references .entry))) (referencesIn format (now (correct .entry))) (eventsIn format (now (events .entry))) i r ⌝ }
 {
-    let event = record_at(events, i, layout::EVENT_WIDTH);
-    let kind = load_u8(event, 0);
-    if kind != 4 {
+    let event = event_at(format, events, i);
+    if event.kind != 4 {
         return Levels {
             found: true,
             level: 0,
             correct: 0,
         };
     }
-    let unit = load_u16(event, 2);
-    let component = load_u8(event, 6);
-    let own = reference_at(references, unit, component);
+    let unit = event.unit;
+    let component = event.component;
+    let own = level_of(format, references, unit, component);
     let there = own.there;
     let level = own.level;
     if reads_correct(component) {
-        let other = reference_at(correct, unit, component);
+        let other = level_of(format, correct, unit, component);
         let found = there & other.there;
         return Levels {
             found,
@@ -267,24 +313,25 @@ fn event_levels(references: &[u8], correct: &[u8], events: &[u8], i: usize) -> L
 
 // Whether each event of kind 4 has its reference, and the correct one where it is read; the tables hold their levels.
 pub fn references_found(
+    format: Format,
     references: &[u8],
     correct: &[u8],
     events: &[u8],
     levels: &mut [u32; layout::MOST_EVENTS],
     corrects: &mut [u32; layout::MOST_EVENTS],
 ) -> bool
-    requires { ⌜ InOrder (now references) × InOrder (now correct) × (length (now events) / eventWidth ≤ mostEvents) ⌝ }
-    ensures { λ r. ⌜ r ≡ referencesFound (referencesIn (now (references .entry))) (referencesIn (now (correct .entry))) (eventsIn (now (events .entry))) ⌝ }
-    ensures { λ r. ⌜ (r ≡ true → Holds (length (now (events .entry)) / eventWidth) (now (levels .exit)) (bidLevel (referencesIn (now (references .entry))) (eventsIn (now (events .entry))))) ⌝ }
-    ensures { λ r. ⌜ (r ≡ true → Holds (length (now (events .entry)) / eventWidth) (now (corrects .exit)) (correctLevel (referencesIn (now (correct .entry))) (eventsIn (now (events .entry))))) ⌝ }
+    requires { ⌜ InOrder format (now references) × InOrder format (now correct) × (eventsIn format (now events) .count ≤ mostEvents) ⌝ }
+    ensures { λ r. ⌜ r ≡ referencesFound (referencesIn format (now (references .entry))) (referencesIn format (now (correct .entry))) (eventsIn format (now (events .entry))) ⌝ }
+    ensures { λ r. ⌜ (r ≡ true → Holds (eventsIn format (now (events .entry)) .count) (now (levels .exit)) (bidLevel (referencesIn format (now (references .entry))) (eventsIn format (now (events .entry))))) ⌝ }
+    ensures { λ r. ⌜ (r ≡ true → Holds (eventsIn format (now (events .entry)) .count) (now (corrects .exit)) (correctLevel (referencesIn format (now (correct .entry))) (eventsIn format (now (events .entry))))) ⌝ }
 {
     let own: &mut [u32] = levels;
     let other: &mut [u32] = corrects;
-    let n = events.len() / layout::EVENT_WIDTH;
+    let n = event_count(format, events);
     let mut fine = true;
     let mut i = 0;
     while i < n {
-        let event = event_levels(references, correct, events, i);
+        let event = event_levels(format, references, correct, events, i);
         let found = event.found;
         own[i] = event.level;
         other[i] = event.correct;

@@ -3,10 +3,12 @@ ghost use mathlib.Core.Path.{_≡_};
 ghost use Prim.Native.Nat.{_+_, _*_, _≤_, _<_};
 ghost use lib.ListN.{length};
 ghost use Rattle.casefile.specs.Layout.{sectionCount, headerWidth};
-ghost use Rattle.casefile.specs.Decode.{offsetOf, lengthOf, sectionOf, HasSection};
+ghost use Rattle.casefile.specs.Decode.{formatIn, offsetOf, lengthOf, sectionOf, HasSection};
 ghost use Rattle.casefile.specs.Refusal.{pairsFine, sizesFine};
 ghost use Rattle.casefile.specs.StageRefusal.{headerRefusal};
 use crate::layout;
+use crate::layout::Format;
+use crate::layout::widths_of;
 use crate::records::size_fine;
 use crate::refusal::unless;
 use binary::bytes::load_u16;
@@ -24,6 +26,16 @@ fn length_of(file: &[u8], k: usize) -> u32
     ensures { λ r. ⌜ r ≡ lengthOf (now (file .entry)) k ⌝ }
 {
     load_u32(file, 8 + 8 * k)
+}
+
+// The format of a file: what its version decides.
+pub fn format_of(file: &[u8]) -> Format
+    requires { ⌜ headerWidth ≤ length (now file) ⌝ }
+    ensures { λ r. ⌜ r ≡ formatIn (now (file .entry)) ⌝ }
+{
+    Format {
+        version: load_u16(file, 0),
+    }
 }
 
 // Section k (0 units, 1 references, 2 past, 3 events): that stretch of the file itself.
@@ -65,10 +77,11 @@ fn sizes_fine(file: &[u8]) -> bool
     let references = length_of(file, 1) as usize;
     let past = length_of(file, 2) as usize;
     let events = length_of(file, 3) as usize;
-    size_fine(units, layout::UNIT_WIDTH, layout::MOST_UNITS)
-        & size_fine(references, layout::REFERENCE_WIDTH, layout::MOST_REFERENCES)
+    let w = widths_of(format_of(file));
+    size_fine(units, w.unit_width, layout::MOST_UNITS)
+        & size_fine(references, w.reference_width, layout::MOST_REFERENCES)
         & size_fine(past, layout::PAST_WIDTH, layout::MOST_PAST)
-        & size_fine(events, layout::EVENT_WIDTH, layout::MOST_EVENTS)
+        & size_fine(events, w.event_width, layout::MOST_EVENTS)
 }
 
 // The number of the first limit of the header that is broken, or 0.
@@ -81,12 +94,12 @@ pub fn header_refusal(file: &[u8]) -> u8
     if layout::LONGEST_FILE < file.len() {
         return 1;
     }
-    let version = load_u16(file, 0);
+    let format = format_of(file);
     let sections = load_u16(file, 2);
     let pairs = pairs_fine(file);
     let sizes = sizes_fine(file);
     let from_5 = unless(sizes, 5, 0);
     let from_4 = unless(pairs, 4, from_5);
     let from_3 = unless(sections == layout::SECTION_COUNT, 3, from_4);
-    unless(version == layout::VERSION, 2, from_3)
+    unless(format.version == layout::FIRST_VERSION, 2, from_3)
 }

@@ -7,11 +7,12 @@ use native.Mathlib.Omega.{arith}
 use borrow.Author.Tests.{eqb-true}
 use lib.Dec.{ltb, eqb}
 use lib.ListN.{getD}
+use Rattle.casefile.specs.declared.layout.Format.{Format}
 use Rattle.binary.specs.Bounded.{maskTo, bitOf}
 use Rattle.binary.proofs.MaskLaws.{mask-same, bit-past}
 use Rattle.tariff.proofs.ComparisonLaws.{bid-total}
 use Rattle.casefile.specs.Case.{Case}
-use Rattle.casefile.specs.Decode.{unitsIn, eventsIn, caseIn}
+use Rattle.casefile.specs.Decode.{unitsIn, eventsIn, caseIn, cellsFrom}
 use Rattle.casefile.specs.Lookup.{unitOf}
 use Rattle.casefile.specs.StageRead.{cellOf}
 use Rattle.conduct.specs.declared.masks.Bid.{Bid}
@@ -19,7 +20,7 @@ use Rattle.conduct.specs.declared.masks.Withheld.{Withheld}
 use Rattle.conduct.specs.declared.masks.ConductTest.the-variants as test
 use Rattle.conduct.specs.Flags.{tight, sumTogether, groupCapability, groupSum, withheldFlag, dispatchFlag, fuelFlag, flagged}
 use Rattle.conduct.specs.StageMasks.{bidOf, testOf, tightHours, failsIn, failsAt}
-use Rattle.conduct.specs.StageFlags.{cellsIn, partySum, HasRow, timeTotalIn, totalRead, bidFlagIn, flaggedIn, flagMaskIn, maskIn}
+use Rattle.conduct.specs.StageFlags.{partySum, HasRow, timeTotalIn, totalRead, bidFlagIn, flaggedIn, flagMaskIn, maskIn}
 use Rattle.conduct.proofs.SumLaws.{cell-amount, sum-amounts, sum-union}
 
 -- ---- an hour's test, by the kind
@@ -93,31 +94,31 @@ hour-at c levels sums i h level G a t r l ea et =
     amounts : (k : ℕ) → c .events .kind i ≡ k → k < 4 → (k ≡ 3 → ⊥) → getD sums h 0 ≡ groupSum c i h
     amounts k e m n = amounts-at c i h a _ t ea et k e n (row k e m)
 
-pub hours-are : (u e levels : List ℕ) (i : ℕ) → maskTo 24 (flaggedIn (caseIn u [] [] e) levels i) ≡ flagMaskIn (caseIn u [] [] e) levels i
+pub hours-are : (format : Format) (u e levels : List ℕ) (i : ℕ) → maskTo 24 (flaggedIn (caseIn format u [] [] e) levels i) ≡ flagMaskIn (caseIn format u [] [] e) levels i
 unfolding flagMaskIn caseIn eventsIn
-hours-are u e levels i = refl
+hours-are format u e levels i = refl
 
-module _ (u e : List ℕ) (i : ℕ) where
-  amount-is : (h : ℕ) → cellOf (cellsIn e i) h .a ≡ caseIn u [] [] e .a i h
+module _ (format : Format) (u e : List ℕ) (i : ℕ) where
+  amount-is : (h : ℕ) → cellOf (cellsFrom format e i) h .a ≡ caseIn format u [] [] e .a i h
   unfolding caseIn
-  amount-is h = cell-amount e i h
+  amount-is h = cell-amount format e i h
 
-  tight-is : (h : ℕ) → bitOf (tightHours (unitsIn u) (eventsIn e) (unitOf (caseIn u [] [] e) i) i) h ≡ tight (caseIn u [] [] e) i h
+  tight-is : (h : ℕ) → bitOf (tightHours (unitsIn format u) (eventsIn format e) (unitOf (caseIn format u [] [] e) i) i) h ≡ tight (caseIn format u [] [] e) i h
   unfolding tightHours tight caseIn
-  tight-is h = tight-bit (eqb (unitsIn u .area (unitOf (caseIn u [] [] e) i)) 1) (eventsIn e .P i) h
+  tight-is h = tight-bit (eqb (unitsIn format u .area (unitOf (caseIn format u [] [] e) i)) 1) (eventsIn format e .P i) h
 
-  test-is : (level G : ℕ) → testOf (unitsIn u) (eventsIn e) (unitOf (caseIn u [] [] e) i) level G i
-      ≡ testOf (caseIn u [] [] e .units) (caseIn u [] [] e .events) (unitOf (caseIn u [] [] e) i) level G i
+  test-is : (level G : ℕ) → testOf (unitsIn format u) (eventsIn format e) (unitOf (caseIn format u [] [] e) i) level G i
+      ≡ testOf (caseIn format u [] [] e .units) (caseIn format u [] [] e .events) (unitOf (caseIn format u [] [] e) i) level G i
   unfolding caseIn
   test-is level G = refl
 
-  pub mask-is : (levels sums : List ℕ) (place level G x : ℕ) → place ≡ unitOf (caseIn u [] [] e) i → Read (caseIn u [] [] e) levels i level G sums
-      → x ≡ maskIn u e place level G sums i → x ≡ flagMaskIn (caseIn u [] [] e) levels i
+  pub mask-is : (levels sums : List ℕ) (place level G x : ℕ) → place ≡ unitOf (caseIn format u [] [] e) i → Read (caseIn format u [] [] e) levels i level G sums
+      → x ≡ maskIn format u e place level G sums i → x ≡ flagMaskIn (caseIn format u [] [] e) levels i
   unfolding maskIn failsAt
   mask-is levels sums place level G x at r q =
-      q ∙ ap (λ (p : ℕ). maskIn u e p level G sums i) at
+      q ∙ ap (λ (p : ℕ). maskIn format u e p level G sums i) at
       ∙ mask-same 24 _ _
       (λ h l.
-      ap (λ k. failsIn k (cellOf (cellsIn e i) h .a) (getD sums h 0) (bitOf (tightHours (unitsIn u) (eventsIn e) (unitOf (caseIn u [] [] e) i) i) h)) (test-is level G)
-      ∙ hour-at (caseIn u [] [] e) levels sums i h level G _ _ r l (amount-is h) (tight-is h))
-      ∙ hours-are u e levels i
+      ap (λ k. failsIn k (cellOf (cellsFrom format e i) h .a) (getD sums h 0) (bitOf (tightHours (unitsIn format u) (eventsIn format e) (unitOf (caseIn format u [] [] e) i) i) h)) (test-is level G)
+      ∙ hour-at (caseIn format u [] [] e) levels sums i h level G _ _ r l (amount-is h) (tight-is h))
+      ∙ hours-are format u e levels i

@@ -9,13 +9,14 @@ use native.Mathlib.Nat.{zero-add, le-refl, eq-or-lt-of-le}
 use native.Mathlib.Omega.{arith}
 use borrow.Author.Tests.{eqb-true, eq-eqb, ne-eqb}
 use lib.Dec.{eqb}
+use Rattle.casefile.specs.declared.layout.Format.{Format}
 use Rattle.binary.specs.Bounded.{anyTo}
 use Rattle.binary.specs.Lists.{firstFrom, Bytes}
 use Rattle.binary.proofs.Implies.{and-l, and-r, same-test}
 use Rattle.binary.proofs.BoundedLaws.{any-same}
 use Rattle.binary.proofs.ListLaws.{from-le, from-holds, from-passed}
 use Rattle.casefile.specs.Case.{Events, Case}
-use Rattle.casefile.specs.Decode.{sectionOf, eventsIn, caseIn, decode}
+use Rattle.casefile.specs.Decode.{formatIn, sectionOf, eventsIn, caseIn, decode}
 use Rattle.casefile.specs.Lookup.{unitOf, groupOf}
 use Rattle.casefile.specs.Refusal.{refusal}
 use Rattle.casefile.proofs.RunLaws.{runs-together}
@@ -240,24 +241,24 @@ leader-eqb c i j n =
 
 -- ---- an accepted case
 
-pub accepted-runs : (f k : List ℕ) (n : ℕ) → Bytes f → refusal f k n ≡ 0 → RunsTogether (eventsIn (sectionOf f 3))
+pub accepted-runs : (f k : List ℕ) (n : ℕ) → Bytes f → refusal f k n ≡ 0 → RunsTogether (eventsIn (formatIn f) (sectionOf f 3))
 unfolding decode caseIn
 accepted-runs f k n b h i j m l q p t =
-    let s = run-fields (eventsIn (sectionOf f 3)) i m t in
+    let s = run-fields (eventsIn (formatIn f) (sectionOf f 3)) i m t in
     let r = runs-together f k n b h i j m l q p (sym (s .day)) (sym (s .kind)) (sym (s .market)) in
-    fields-run (eventsIn (sectionOf f 3)) i j (record { kind = sym (r .1); day = sym (r .0); market = sym (r .2) })
+    fields-run (eventsIn (formatIn f) (sectionOf f 3)) i j (record { kind = sym (r .1); day = sym (r .0); market = sym (r .2) })
 
 -- ---- the sections that a figure does not read
 
-module _ (u r r′ p p′ e : List ℕ) where
-  pub unit-sections : (i : ℕ) → unitOf (caseIn u r p e) i ≡ unitOf (caseIn u r′ p′ e) i
+module _ (format : Format) (u r r′ p p′ e : List ℕ) where
+  pub unit-sections : (i : ℕ) → unitOf (caseIn format u r p e) i ≡ unitOf (caseIn format u r′ p′ e) i
   unfolding unitOf caseIn
   unit-sections i = refl
 
-  pub group-sections : (i : ℕ) → groupOf (caseIn u r p e) i ≡ groupOf (caseIn u r′ p′ e) i
+  pub group-sections : (i : ℕ) → groupOf (caseIn format u r p e) i ≡ groupOf (caseIn format u r′ p′ e) i
   unfolding groupOf unitOf caseIn
   group-sections i = refl
 
-  pub leader-sections : (i : ℕ) → leaderOf (caseIn u r p e) i ≡ leaderOf (caseIn u r′ p′ e) i
+  pub leader-sections : (i : ℕ) → leaderOf (caseIn format u r p e) i ≡ leaderOf (caseIn format u r′ p′ e) i
   unfolding leaderOf together groupOf unitOf caseIn
   leader-sections i = refl

@@ -1,5 +1,5 @@
 -- What a stage reads in the tables of the stages before it is the figure of the case.
-use Prim.Native.Nat.{ℕ, zero, suc, _+_, _-_, _/_, _≤_, _<_}
+use Prim.Native.Nat.{ℕ, zero, suc, _+_, _-_, _≤_, _<_}
 use mathlib.Core.Bool.{Bool, true, false, cond, _&&_}
 use mathlib.Core.List.{List}
 use mathlib.Core.Path.{_≡_, refl, sym, ap, ap₂, _∙_}
@@ -8,13 +8,12 @@ use native.Mathlib.Numerals.{add-one}
 use native.Mathlib.Omega.{arith}
 use borrow.Author.Tests.{ne-eqb}
 use lib.Dec.{eqb}
-use lib.ListN.{length, getD}
-use Rattle.binary.specs.Bytes.{byteAt}
+use lib.ListN.{getD}
+use Rattle.casefile.specs.declared.layout.Format.{Format}
 use Rattle.binary.specs.Lists.{firstFrom, Holds}
 use Rattle.binary.proofs.ListLaws.{from-next}
-use Rattle.casefile.specs.Layout.{eventWidth}
 use Rattle.casefile.specs.Case.{Events}
-use Rattle.casefile.specs.Decode.{recordAt, unitsIn, eventsIn, caseIn}
+use Rattle.casefile.specs.Decode.{unitsIn, eventsIn, caseIn}
 use Rattle.casefile.specs.Lookup.{unitOf, groupOf}
 use Rattle.casefile.specs.Refusal.{eventsListed}
 use Rattle.casefile.proofs.EventLaws.{events-place}
@@ -23,29 +22,25 @@ use Rattle.conduct.specs.StageParties.{sameRun, RunStart, leaderOf, same
 
 -- ---- places and groups
 
-units-group : (u r p e : List ℕ) (k : ℕ) → unitsIn u .group k ≡ caseIn u r p e .units .group k
+units-group : (format : Format) (u r p e : List ℕ) (k : ℕ) → unitsIn format u .group k ≡ caseIn format u r p e .units .group k
 unfolding caseIn
-units-group u r p e k = refl
+units-group format u r p e k = refl
 
-module _ (u r p e places : List ℕ) (i : ℕ) (l : i < length e / eventWidth) where
-  place-lt : eventsListed (unitsIn u) (eventsIn e) ≡ true → unitOf (caseIn u r p e) i < length u / 24
-  unfolding unitOf caseIn unitsIn eventsIn
-  place-lt h = events-place (unitsIn u) (eventsIn e) i h l
+module _ (format : Format) (u r p e places : List ℕ) (i : ℕ) (l : i < eventsIn format e .count) where
+  place-lt : eventsListed (unitsIn format u) (eventsIn format e) ≡ true → unitOf (caseIn format u r p e) i < unitsIn format u .count
+  unfolding unitOf caseIn
+  place-lt h = events-place (unitsIn format u) (eventsIn format e) i h l
 
-  pub place-in : eventsListed (unitsIn u) (eventsIn e) ≡ true → Holds (length e / eventWidth) places (unitOf (caseIn u r p e))
-      → getD places i 0 < length u / 24
+  pub place-in : eventsListed (unitsIn format u) (eventsIn format e) ≡ true → Holds (eventsIn format e .count) places (unitOf (caseIn format u r p e))
+      → getD places i 0 < unitsIn format u .count
   place-in h t = rw (t i l) (place-lt h)
 
-  pub group-in : (g : ℕ) → Holds (length e / eventWidth) places (unitOf (caseIn u r p e)) → g ≡ unitsIn u .group (getD places i 0)
-      → g ≡ groupOf (caseIn u r p e) i
+  pub group-in : (g : ℕ) → Holds (eventsIn format e .count) places (unitOf (caseIn format u r p e)) → g ≡ unitsIn format u .group (getD places i 0)
+      → g ≡ groupOf (caseIn format u r p e) i
   unfolding groupOf
-  group-in g t q = q ∙ ap (unitsIn u .group) (t i l) ∙ units-group u r p e (unitOf (caseIn u r p e) i)
+  group-in g t q = q ∙ ap (unitsIn format u .group) (t i l) ∙ units-group format u r p e (unitOf (caseIn format u r p e) i)
 
 -- ---- leaders
-
-pub kind-of : (e event : List ℕ) (i kind : ℕ) → event ≡ recordAt eventWidth e i → kind ≡ byteAt event 0 → eventsIn e .kind i ≡ kind
-unfolding eventsIn
-kind-of e event i kind ee ek = sym (ek ∙ ap (λ (r : List ℕ). byteAt r 0) ee)
 
 -- a search by two tests that agree on what it passes
 from-same : (k j : ℕ) (p q : ℕ → Bool) → ((m : ℕ) → j ≤ m → m < j + k → p m ≡ q m) → firstFrom k j p ≡ firstFrom k j q
@@ -75,8 +70,8 @@ unfolding leaderIn
 leader-bid e groups i k = rw k
 
 -- and the groups of the table are those of the case
-pub leader-in : (u r p e groups : List ℕ) (n i : ℕ) → Holds n groups (groupOf (caseIn u r p e)) → i < n
-    → leaderIn (eventsIn e) groups i ≡ leaderOf (caseIn u r p e) i
+pub leader-in : (format : Format) (u r p e groups : List ℕ) (n i : ℕ) → Holds n groups (groupOf (caseIn format u r p e)) → i < n
+    → leaderIn (eventsIn format e) groups i ≡ leaderOf (caseIn format u r p e) i
 unfolding leaderIn leaderOf sameGroup sameRun together caseIn
-leader-in u r p e groups n i t l =
-    ap (λ (x : ℕ). cond (eqb (eventsIn e .kind i) 4) i x) (from-same i 0 _ _ (λ j a b. rw (t j (omega arith), t i l)))
+leader-in format u r p e groups n i t l =
+    ap (λ (x : ℕ). cond (eqb (eventsIn format e .kind i) 4) i x) (from-same i 0 _ _ (λ j a b. rw (t j (omega arith), t i l)))

@@ -1,5 +1,5 @@
 -- Rows of sums: what a turn of the adding loops leaves, and that the sums of a leader are those of each event of its party.
-use Prim.Native.Nat.{ℕ, zero, suc, _+_, _-_, _*_, _≤_, _<_, zero-le}
+use Prim.Native.Nat.{ℕ, zero, suc, _+_, _-_, _*_, _^_, _≤_, _<_, zero-le}
 use mathlib.Core.Bool.{Bool, true, false, cond, _&&_}
 use mathlib.Core.List.{List, []}
 use mathlib.Core.Path.{_≡_, refl, sym, ap, _∙_}
@@ -10,19 +10,20 @@ use borrow.Author.Tests.{eqb-true, eqb-false, eq-eqb, ne-eqb, ltb-true, ltb-fals
 use lib.Dec.{ltb, eqb}
 use lib.ListN.{length, getD, set, replicate, getD-replicate, List·getD-eq-default, length-replicate}
 use lib.Seq.{getD-set-same, getD-set-other}
+use Rattle.casefile.specs.declared.layout.Format.{Format}
 use Rattle.binary.specs.Bounded.{sumTo, countTo, bitOf}
+use Rattle.binary.specs.Bytes.{u32At}
 use Rattle.binary.specs.Lists.{Bytes}
 use Rattle.binary.proofs.Implies.{same-test}
 use Rattle.binary.proofs.BoundedLaws.{sum-none, sum-more, sum-same, any-count}
-use Rattle.binary.proofs.ByteLaws.{value-drop}
-use Rattle.casefile.specs.Layout.{eventWidth}
+use Rattle.casefile.specs.Layout.{cellWidth}
 use Rattle.casefile.specs.Case.{Case}
-use Rattle.casefile.specs.Decode.{recordAt, eventsIn, amountsIn, caseIn}
+use Rattle.casefile.specs.Decode.{eventsIn, amountsIn, caseIn, cellsFrom, cellsIn}
 use Rattle.casefile.specs.Lookup.{groupOf}
 use Rattle.casefile.specs.StageRead.{cellOf}
-use Rattle.casefile.proofs.RecordLaws.{record-value-lt}
+use Rattle.casefile.proofs.RecordLaws.{value-lt, cells-bytes}
 use Rattle.conduct.specs.Flags.{together, sumTogether, groupSum, groupCapability, fuelFlag}
-use Rattle.conduct.specs.StageFlags.{cellsIn, Added, counted, partyFigure, ledSum, PartyWithin, HasRow, capabilityShare, capabilityOf}
+use Rattle.conduct.specs.StageFlags.{Added, counted, partyFigure, ledSum, PartyWithin, HasRow, capabilityShare, capabilityOf}
 use Rattle.conduct.proofs.PartyLaws.{together-fields}
 
 -- ---- choices and sums
@@ -55,18 +56,22 @@ sum-beyond m (suc n) f l h =
 
 -- ---- the cells of an event
 
-pub cell-amount : (s : List ℕ) (i h : ℕ) → cellOf (cellsIn s i) h .a ≡ amountsIn s i h
-unfolding cellOf cellsIn amountsIn
-cell-amount s i h = value-drop 4 24 (recordAt eventWidth s i) (12 * h)
+pub cell-amount : (format : Format) (s : List ℕ) (i h : ℕ) → cellOf (cellsFrom format s i) h .a ≡ amountsIn format s i h
+unfolding cellOf amountsIn cellsIn
+cell-amount format s i h = refl
 
-amount-lt : (s : List ℕ) (i h : ℕ) → Bytes s → h < 24 → amountsIn s i h ≤ 4294967295
+amount-lt : (format : Format) (s : List ℕ) (i h : ℕ) → Bytes s → amountsIn format s i h ≤ 4294967295
 unfolding amountsIn
-amount-lt s i h b l = let q = record-value-lt 4 eventWidth s i (24 + 12 * h) b (omega arith) in omega arith
+amount-lt format s i h b = let q : u32At (cellsIn format s i) (cellWidth * h) < 256 ^ 4 = value-lt 4 (cellsIn format s i) (cellWidth * h) (cells-bytes format s i b) in omega arith
 
 -- ---- a loop that adds to a row
 
 pub added-none : (l : List ℕ) (f : ℕ → ℕ) → Added 0 l l f
 added-none l f = record { each = λ k. rw (le-ltb k 0 zero-le) (sym (add-zero _)) }
+
+-- the same figures
+pub added-same : (m : ℕ) (old new : List ℕ) (f g : ℕ → ℕ) → ((k : ℕ) → f k ≡ g k) → Added m old new f → Added m old new g
+added-same m old new f g h a = record { each = λ k. a .each k ∙ ap (λ (x : ℕ). getD old k 0 + cond (ltb k m) x 0) (h k) }
 
 -- what is not yet added to is as it was
 pub row-kept : (m : ℕ) (old new : List ℕ) (f : ℕ → ℕ) → Added m old new f → getD new m 0 ≡ getD old m 0
@@ -136,19 +141,20 @@ zeros-at n k = pick (ltb k n) refl
 
 -- ---- the sums of a party
 
-pub figure-is : (e cells : List ℕ) (j h kind p x : ℕ) → kind ≡ eventsIn e .kind j → p ≡ eventsIn e .P j → cells ≡ cellsIn e j
-    → x ≡ cond (eqb kind 3) (cond (bitOf p h) 1 0) (cellOf cells h .a) → x ≡ partyFigure (caseIn [] [] [] e) j h
-unfolding partyFigure caseIn
-figure-is e cells j h kind p x ek ep ec ex = ex ∙ rw (ek, ep, ec, cell-amount)
+pub figures-added : (format : Format) (e : List ℕ) (j : ℕ) (b : Bool) (old new : List ℕ)
+    → Added 24 old new (counted b (λ h. cond (eqb (eventsIn format e .kind j) 3) (cond (bitOf (eventsIn format e .P j) h) 1 0) (cellOf (cellsFrom format e j) h .a)))
+    → Added 24 old new (counted b (partyFigure (caseIn format [] [] [] e) j))
+unfolding counted partyFigure caseIn
+figures-added format e j b old new a = added-same 24 old new _ _ (λ h. rw (cell-amount format e j h)) a
 
-pub figure-le : (u r p e : List ℕ) (j h : ℕ) → Bytes e → h < 24 → partyFigure (caseIn u r p e) j h ≤ 4294967295
+pub figure-le : (format : Format) (u r p e : List ℕ) (j h : ℕ) → Bytes e → partyFigure (caseIn format u r p e) j h ≤ 4294967295
 unfolding partyFigure caseIn
-figure-le u r p e j h b l = pick (eqb (eventsIn e .kind j) 3) (bitOf (eventsIn e .P j) h)
+figure-le format u r p e j h b = pick (eqb (eventsIn format e .kind j) 3) (bitOf (eventsIn format e .P j) h)
   where
-    pick : (s t : Bool) → cond s (cond t 1 0) (amountsIn e j h) ≤ 4294967295
+    pick : (s t : Bool) → cond s (cond t 1 0) (amountsIn format e j h) ≤ 4294967295
     pick true true = omega arith
     pick true false = omega arith
-    pick false t = amount-lt e j h b l
+    pick false t = amount-lt format e j h b
 
 -- ---- the sums of the party that event i leads
 

@@ -9,15 +9,15 @@ use native.Mathlib.Omega.{arith}
 use borrow.Author.Tests.{eqb-true, eq-eqb, ne-eqb, ltb-true, ltb-false, leb-true, leb-false, le-leb, lt-ltb}
 use lib.Dec.{ltb, leb, eqb}
 use lib.ListN.{length, getD, replicate}
+use Rattle.casefile.specs.declared.layout.Format.{Format}
 use Rattle.binary.specs.Bounded.{sumTo}
 use Rattle.binary.specs.Lists.{Holds}
 use Rattle.binary.proofs.Implies.{and-l, and-r, same-test}
 use Rattle.binary.proofs.BoundedLaws.{sum-none, sum-more, sum-same, sum-bound}
 use Rattle.binary.proofs.WordLaws.{positive-lt}
 use Rattle.tariff.specs.ConductTests.{increase}
-use Rattle.casefile.specs.Layout.{eventWidth}
 use Rattle.casefile.specs.Case.{Events, Case}
-use Rattle.casefile.specs.Decode.{sectionOf, eventsIn, amountsIn, caseIn, decode}
+use Rattle.casefile.specs.Decode.{formatIn, sectionOf, eventsIn, amountsIn, caseIn, decode, cellsFrom}
 use Rattle.casefile.specs.Refusal.{eventKey, refusal}
 use Rattle.casefile.specs.StageLookup.{Rising}
 use Rattle.casefile.specs.StageRead.{cellOf}
@@ -25,9 +25,9 @@ use Rattle.casefile.specs.declared.cells.Cell.{Cell}
 use Rattle.casefile.proofs.AcceptedLaws.{event-ranges, events-rise}
 use Rattle.conduct.specs.Flags.{timeBid}
 use Rattle.conduct.specs.StageMasks.{highestSum, SmallRow}
-use Rattle.conduct.specs.StageFlags.{cellsIn, counted, Added, HasRow, timeTotalIn, totalRead}
+use Rattle.conduct.specs.StageFlags.{counted, Added, HasRow, timeTotalIn, totalRead}
 use Rattle.conduct.specs.StageTime.{BidsInOrder, componentBid, countedIncrease, componentIncrease, cell, HasIncreases, SmallTable, sameTotals, totalBefore}
-use Rattle.conduct.proofs.SumLaws.{sum-beyond, cond-le, and-both, cell-amount, uncounted, zeros-at}
+use Rattle.conduct.proofs.SumLaws.{sum-beyond, cond-le, and-both, cell-amount, added-same, uncounted, zeros-at}
 
 -- ---- sums
 
@@ -38,7 +38,7 @@ sum-three (suc n) f g h = let e = sum-three n f g h in omega arith
 
 -- ---- an accepted case has its bids in order
 
-pub bids-in-order : (f k : List ℕ) (n : ℕ) → refusal f k n ≡ 0 → BidsInOrder (eventsIn (sectionOf f 3))
+pub bids-in-order : (f k : List ℕ) (n : ℕ) → refusal f k n ≡ 0 → BidsInOrder (eventsIn (formatIn f) (sectionOf f 3))
 unfolding decode caseIn
 bids-in-order f k n h = record { bid = λ i l p. pick i l p (ltb (decode f .events .kind i) 4) refl; rise = events-rise f k n h }
   where
@@ -102,16 +102,16 @@ near e i j r l m a b = (
   apart e i j r m (let k = a .kind in let t = a .least in let u = b .kind in let v = b .most in omega arith),
 )
 
-module _ (e : List ℕ) (i component : ℕ) (o : BidsInOrder (eventsIn e)) (l : i < length e / eventWidth)
-    (own : timeBid (caseIn [] [] [] e) i i ≡ true) where
+module _ (format : Format) (e : List ℕ) (i component : ℕ) (o : BidsInOrder (eventsIn format e)) (l : i < eventsIn format e .count)
+    (own : timeBid (caseIn format [] [] [] e) i i ≡ true) where
   -- no bid on the component is further off
-  pub far : (j : ℕ) → j < length e / eventWidth → ((i ≤ j + 2) × (j ≤ i + 2) → ⊥) → componentBid (caseIn [] [] [] e) i component j ≡ false
+  pub far : (j : ℕ) → j < eventsIn format e .count → ((i ≤ j + 2) × (j ≤ i + 2) → ⊥) → componentBid (caseIn format [] [] [] e) i component j ≡ false
   unfolding componentBid caseIn eventsIn
-  far j m n = pick (timeBid (caseIn [] [] [] e) i j) refl
+  far j m n = pick (timeBid (caseIn format [] [] [] e) i j) refl
     where
-      pick : (b : Bool) → timeBid (caseIn [] [] [] e) i j ≡ b → (b && eqb (caseIn [] [] [] e .events .component j) component) ≡ false
+      pick : (b : Bool) → timeBid (caseIn format [] [] [] e) i j ≡ b → (b && eqb (caseIn format [] [] [] e .events .component j) component) ≡ false
       pick true t =
-          absurd (n (near (eventsIn e) i j (o .rise) l m (time-fields (caseIn [] [] [] e) i i own) (time-fields (caseIn [] [] [] e) i j t)))
+          absurd (n (near (eventsIn format e) i j (o .rise) l m (time-fields (caseIn format [] [] [] e) i i own) (time-fields (caseIn format [] [] [] e) i j t)))
       pick false t = refl
 
 -- ---- the increases of a component
@@ -128,39 +128,45 @@ pub counted-none : (a : ℕ → ℕ → ℕ) (level j : ℕ) (l : List ℕ) (b :
 unfolding countedIncrease counted
 counted-none a level j l b e = uncounted l (λ h. increase level (a j h)) b e
 
-pub counted-is : (e cells : List ℕ) (level j h x d : ℕ) (b : Bool) (cell : Cell) → b ≡ true → cells ≡ cellsIn e j → cell ≡ cellOf cells h
-    → x ≡ increase level (cell .a) → d ≡ x → d ≡ countedIncrease (amountsIn e) level j b h
+pub counted-is : (cells : List ℕ) (level j h x d : ℕ) (b : Bool) (cell : Cell) → b ≡ true → cell ≡ cellOf cells h → x ≡ increase level (cell .a) → d ≡ x
+    → d ≡ countedIncrease (λ (_ y : ℕ). cellOf cells y .a) level j b h
 unfolding countedIncrease
-counted-is e cells level j h x d b cell t ec el ex ed = rw (ed, ex, el, ec, t, cell-amount)
+counted-is cells level j h x d b cell t el ex ed = rw (ed, ex, el, t)
 
-module _ (e levels : List ℕ) (i component : ℕ) where
-  pub increases-none : (start k : ℕ) → ((j : ℕ) → j < start → componentBid (caseIn [] [] [] e) i component j ≡ false)
-      → Holds 24 (replicate k 0) (componentIncrease e levels i component start)
+pub increases-added : (format : Format) (e : List ℕ) (level j : ℕ) (b : Bool) (old new : List ℕ)
+    → Added 24 old new (countedIncrease (λ (_ y : ℕ). cellOf (cellsFrom format e j) y .a) level j b)
+    → Added 24 old new (countedIncrease (amountsIn format e) level j b)
+unfolding countedIncrease
+increases-added format e level j b old new a = added-same 24 old new _ _ (λ h. rw (cell-amount format e j h)) a
+
+module _ (format : Format) (e levels : List ℕ) (i component : ℕ) where
+  pub increases-none : (start k : ℕ) → ((j : ℕ) → j < start → componentBid (caseIn format [] [] [] e) i component j ≡ false)
+      → Holds 24 (replicate k 0) (componentIncrease format e levels i component start)
   unfolding componentIncrease countedIncrease
   increases-none start k f h l = zeros-at k h ∙ sum-none _ ∙ sym (sum-beyond 0 start _ zero-le (λ j a b. rw (f j b)))
 
-  pub increases-more : (old new : List ℕ) (m : ℕ) (b : Bool) → Holds 24 old (componentIncrease e levels i component m)
-      → b ≡ componentBid (caseIn [] [] [] e) i component m → Added 24 old new (countedIncrease (amountsIn e) (getD levels m 0) m b)
-      → Holds 24 new (componentIncrease e levels i component (m + 1))
+  pub increases-more : (old new : List ℕ) (m : ℕ) (b : Bool) → Holds 24 old (componentIncrease format e levels i component m)
+      → b ≡ componentBid (caseIn format [] [] [] e) i component m → Added 24 old new (countedIncrease (amountsIn format e) (getD levels m 0) m b)
+      → Holds 24 new (componentIncrease format e levels i component (m + 1))
   unfolding componentIncrease
   increases-more old new m b s q d h l =
       (rw (lt-ltb h 24 l, q) at (d .each h))
-      ∙ ap (λ (x : ℕ). x + countedIncrease (amountsIn e) (getD levels m 0) m (componentBid (caseIn [] [] [] e) i component m) h) (s h l)
+      ∙ ap (λ (x : ℕ). x + countedIncrease (amountsIn format e) (getD levels m 0) m (componentBid (caseIn format [] [] [] e) i component m) h) (s h l)
       ∙ sym (sum-more m _)
 
-  pub increases-all : (row : List ℕ) (m n : ℕ) → m ≤ n → ((j : ℕ) → m ≤ j → j < n → componentBid (caseIn [] [] [] e) i component j ≡ false)
-      → Holds 24 row (componentIncrease e levels i component m) → Holds 24 row (componentIncrease e levels i component n)
+  pub increases-all : (row : List ℕ) (m n : ℕ) → m ≤ n → ((j : ℕ) → m ≤ j → j < n → componentBid (caseIn format [] [] [] e) i component j ≡ false)
+      → Holds 24 row (componentIncrease format e levels i component m) → Holds 24 row (componentIncrease format e levels i component n)
   unfolding componentIncrease countedIncrease
   increases-all row m n q f s h l = s h l ∙ sym (sum-beyond m n _ q (λ j a b. rw (f j a b)))
 
-  increases-le : (m h : ℕ) → m ≤ 200 → componentIncrease e levels i component m h ≤ highestSum
+  increases-le : (m h : ℕ) → m ≤ 200 → componentIncrease format e levels i component m h ≤ highestSum
   unfolding componentIncrease
   increases-le m h l =
-      let q = sum-bound m (λ j. countedIncrease (amountsIn e) (getD levels j 0) j (componentBid (caseIn [] [] [] e) i component j) h) 4294967295
-      (λ j lj. counted-le (amountsIn e) (getD levels j 0) j h (componentBid (caseIn [] [] [] e) i component j)) in
+      let q = sum-bound m (λ j. countedIncrease (amountsIn format e) (getD levels j 0) j (componentBid (caseIn format [] [] [] e) i component j) h) 4294967295
+      (λ j lj. counted-le (amountsIn format e) (getD levels j 0) j h (componentBid (caseIn format [] [] [] e) i component j)) in
       omega arith
 
-  pub small-increases : (row : List ℕ) (m : ℕ) → m ≤ 200 → Holds 24 row (componentIncrease e levels i component m) → SmallRow row
+  pub small-increases : (row : List ℕ) (m : ℕ) → m ≤ 200 → Holds 24 row (componentIncrease format e levels i component m) → SmallRow row
   small-increases row m l s h q = rw (s h q) (increases-le m h l)
 
 -- ---- the table
@@ -176,9 +182,9 @@ three figure x y z hx hy hz = record { each = go }
     go (suc (suc zero)) h l q = hz h q
     go (suc (suc (suc k))) h l q = absurd (let n : ⊥ = omega arith in n)
 
-pub small-table : (e levels : List ℕ) (i n : ℕ) (t : List (List ℕ)) → n ≤ 200
-    → HasIncreases (λ k. componentIncrease e levels i (4 + k) n) t → SmallTable t
-small-table e levels i n t l s k lk h lh = rw (s .each k h lk lh) (increases-le e levels i (4 + k) n h l)
+pub small-table : (format : Format) (e levels : List ℕ) (i n : ℕ) (t : List (List ℕ)) → n ≤ 200
+    → HasIncreases (λ k. componentIncrease format e levels i (4 + k) n) t → SmallTable t
+small-table format e levels i n t l s k lk h lh = rw (s .each k h lk lh) (increases-le format e levels i (4 + k) n h l)
 
 -- ---- the three components added
 
@@ -197,28 +203,28 @@ split true component x h =
     rw e (sym (split-at (component - 4) x (omega arith)))
 split false component x h = refl
 
-module _ (e : List ℕ) where
-  case-sum : (f : (ℕ → ℕ → ℕ) → ℕ → ℕ) → sumTo (length e / eventWidth) (f (amountsIn e))
-      ≡ sumTo (caseIn [] [] [] e .events .count) (f (caseIn [] [] [] e .a))
+module _ (format : Format) (e : List ℕ) where
+  case-sum : (f : (ℕ → ℕ → ℕ) → ℕ → ℕ) → sumTo (eventsIn format e .count) (f (amountsIn format e))
+      ≡ sumTo (caseIn format [] [] [] e .events .count) (f (caseIn format [] [] [] e .a))
   unfolding caseIn eventsIn
   case-sum f = refl
 
   time-total : (levels : List ℕ) (i h : ℕ)
-      → componentIncrease e levels i 4 (length e / eventWidth) h + componentIncrease e levels i 5 (length e / eventWidth) h
-      + componentIncrease e levels i 6 (length e / eventWidth) h ≡ timeTotalIn (caseIn [] [] [] e) levels i h
+      → componentIncrease format e levels i 4 (eventsIn format e .count) h + componentIncrease format e levels i 5 (eventsIn format e .count) h
+      + componentIncrease format e levels i 6 (eventsIn format e .count) h ≡ timeTotalIn (caseIn format [] [] [] e) levels i h
   unfolding componentIncrease countedIncrease componentBid timeTotalIn
   time-total levels i h =
-      sym (sum-three (length e / eventWidth) (share 4) (share 5) (share 6))
-      ∙ sum-same (length e / eventWidth) _ _
+      sym (sum-three (eventsIn format e .count) (share 4) (share 5) (share 6))
+      ∙ sum-same (eventsIn format e .count) _ _
       (λ j l.
-      split (timeBid (caseIn [] [] [] e) i j) (caseIn [] [] [] e .events .component j) (increase (getD levels j 0) (amountsIn e j h))
-      (λ t. let f = time-fields (caseIn [] [] [] e) i j t in (f .least, f .most)))
-      ∙ case-sum (λ a j. cond (timeBid (caseIn [] [] [] e) i j) (increase (getD levels j 0) (a j h)) 0)
+      split (timeBid (caseIn format [] [] [] e) i j) (caseIn format [] [] [] e .events .component j) (increase (getD levels j 0) (amountsIn format e j h))
+      (λ t. let f = time-fields (caseIn format [] [] [] e) i j t in (f .least, f .most)))
+      ∙ case-sum (λ a j. cond (timeBid (caseIn format [] [] [] e) i j) (increase (getD levels j 0) (a j h)) 0)
     where
       share : ℕ → ℕ → ℕ
       share k j =
-          cond (timeBid (caseIn [] [] [] e) i j && eqb (caseIn [] [] [] e .events .component j) k)
-          (increase (getD levels j 0) (amountsIn e j h)) 0
+          cond (timeBid (caseIn format [] [] [] e) i j && eqb (caseIn format [] [] [] e .events .component j) k)
+          (increase (getD levels j 0) (amountsIn format e j h)) 0
 
 -- ---- what the test of a bid reads
 
@@ -258,40 +264,40 @@ reads c i o l =
       eq-eqb (c .events .market i) (c .events .market i) refl,
     ) t)
 
-module _ (e levels : List ℕ) (i : ℕ) where
-  pub totals-of : (row : List ℕ) (t : List (List ℕ)) → timeBid (caseIn [] [] [] e) i i ≡ true
-      → HasIncreases (λ k. componentIncrease e levels i (4 + k) (length e / eventWidth)) t
-      → HasRow (λ h. cell t 0 h + cell t 1 h + cell t 2 h) row → HasRow (totalRead (caseIn [] [] [] e) levels i) row
+module _ (format : Format) (e levels : List ℕ) (i : ℕ) where
+  pub totals-of : (row : List ℕ) (t : List (List ℕ)) → timeBid (caseIn format [] [] [] e) i i ≡ true
+      → HasIncreases (λ k. componentIncrease format e levels i (4 + k) (eventsIn format e .count)) t
+      → HasRow (λ h. cell t 0 h + cell t 1 h + cell t 2 h) row → HasRow (totalRead (caseIn format [] [] [] e) levels i) row
   totals-of row t own ht hr =
       record {
         each = λ h l.
             hr .each h l
             ∙ ap₂ (λ (x y : ℕ). x + y) (ap₂ (λ (x y : ℕ). x + y) (ht .each 0 h (omega arith) l) (ht .each 1 h (omega arith) l))
             (ht .each 2 h (omega arith) l)
-            ∙ time-total e levels i h
-            ∙ sym (total-read (caseIn [] [] [] e) levels i i h own);
+            ∙ time-total format e levels i h
+            ∙ sym (total-read (caseIn format [] [] [] e) levels i i h own);
       }
 
-  pub totals-none : BidsInOrder (eventsIn e) → i < length e / eventWidth → timeBid (caseIn [] [] [] e) i i ≡ false
-      → HasRow (totalRead (caseIn [] [] [] e) levels i) (replicate 24 0)
+  pub totals-none : BidsInOrder (eventsIn format e) → i < eventsIn format e .count → timeBid (caseIn format [] [] [] e) i i ≡ false
+      → HasRow (totalRead (caseIn format [] [] [] e) levels i) (replicate 24 0)
   unfolding totalRead caseIn eventsIn
   totals-none o l own =
       record {
         each = λ h m.
             zeros-at 24 h
-            ∙ ap (λ (b : Bool). cond b (timeTotalIn (caseIn [] [] [] e) levels i h) 0)
-            (sym own ∙ reads (caseIn [] [] [] e) i o l);
+            ∙ ap (λ (b : Bool). cond b (timeTotalIn (caseIn format [] [] [] e) levels i h) 0)
+            (sym own ∙ reads (caseIn format [] [] [] e) i o l);
       }
 
   -- no total is above 2 ^ 40
-  pub small-totals : (row : List ℕ) → length e / eventWidth ≤ 200 → HasRow (totalRead (caseIn [] [] [] e) levels i) row → SmallRow row
+  pub small-totals : (row : List ℕ) → eventsIn format e .count ≤ 200 → HasRow (totalRead (caseIn format [] [] [] e) levels i) row → SmallRow row
   unfolding totalRead timeTotalIn caseIn eventsIn
   small-totals row q r h l =
       let s =
-      sum-bound (caseIn [] [] [] e .events .count)
-      (λ j. cond (timeBid (caseIn [] [] [] e) i j) (increase (getD levels j 0) (caseIn [] [] [] e .a j h)) 0) 4294967295
-      (λ j m. cond-le (timeBid (caseIn [] [] [] e) i j) _ _ (increase-le (getD levels j 0) (caseIn [] [] [] e .a j h))) in
-      rw (r .each h l) (cond-le (leb 4 (caseIn [] [] [] e .events .component i) && leb (caseIn [] [] [] e .events .component i) 6) _ _ (omega arith))
+      sum-bound (caseIn format [] [] [] e .events .count)
+      (λ j. cond (timeBid (caseIn format [] [] [] e) i j) (increase (getD levels j 0) (caseIn format [] [] [] e .a j h)) 0) 4294967295
+      (λ j m. cond-le (timeBid (caseIn format [] [] [] e) i j) _ _ (increase-le (getD levels j 0) (caseIn format [] [] [] e .a j h))) in
+      rw (r .each h l) (cond-le (leb 4 (caseIn format [] [] [] e .events .component i) && leb (caseIn format [] [] [] e .events .component i) 6) _ _ (omega arith))
 
 -- ---- carried from event to event
 

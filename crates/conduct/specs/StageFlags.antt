@@ -1,16 +1,17 @@
 -- What a stage reads in the tables of the stages before it, and adds to its own. The laws say that these are the figures of the case.
-use Prim.Native.Nat.{ℕ, _+_, _/_, _≤_, _<_}
+use Prim.Native.Nat.{ℕ, _+_, _≤_, _<_}
 use mathlib.Core.Bool.{Bool, true, false, cond, _&&_}
 use mathlib.Core.List.{List, []}
 use mathlib.Core.Path.{_≡_}
 use lib.Dec.{ltb, leb, eqb}
-use lib.ListN.{length, getD, drop}
+use lib.ListN.{length, getD}
 use Rattle.binary.specs.Bounded.{sumTo, maskTo, bitOf}
 use Rattle.binary.specs.Lists.{Holds}
 use Rattle.tariff.specs.ConductTests.{increase, bidTest}
-use Rattle.casefile.specs.Layout.{eventWidth, cellsOffset, mostHours, mostEvents, longestFile}
+use Rattle.casefile.specs.declared.layout.Format.{Format}
+use Rattle.casefile.specs.Layout.{mostHours, mostEvents, longestFile}
 use Rattle.casefile.specs.Case.{Units, Events, Case}
-use Rattle.casefile.specs.Decode.{recordAt, unitsIn, eventsIn, caseIn}
+use Rattle.casefile.specs.Decode.{cellsFrom, unitsIn, eventsIn, caseIn}
 use Rattle.casefile.specs.Lookup.{unitOf}
 use Rattle.casefile.specs.Refusal.{eventsListed}
 use Rattle.conduct.specs.Flags.{tight, sumTogether, timeBid, groupCapability, withheldFlag, dispatchFlag, fuelFlag}
@@ -18,10 +19,6 @@ use Rattle.conduct.specs.StageParties.{leaderOf, RunEnd}
 use Rattle.conduct.specs.StageMasks.{testOf, tightHours, failsAt}
 
 -- ---- rows of sums
-
--- the part of event i where its cells begin
-unfoldable pub cellsIn : List ℕ → ℕ → List ℕ
-cellsIn s i = drop cellsOffset (recordAt eventWidth s i)
 
 -- no element is within 2 ^ 32 of the end of 64 bits
 abbrev pub Small : List ℕ → Type 0
@@ -93,20 +90,20 @@ unfoldable pub flagMaskIn : Case → (levels : List ℕ) → ℕ → ℕ
 flagMaskIn c levels i = maskTo (c .events .hours i) (flaggedIn c levels i)
 
 -- the flagged hours of event i from what is at hand: its unit's place, its reference level, G and the sums that its test reads
-unfoldable pub maskIn : (units events : List ℕ) → (place level G : ℕ) → (sums : List ℕ) → ℕ → ℕ
-maskIn units events place level G sums i =
+unfoldable pub maskIn : Format → (units events : List ℕ) → (place level G : ℕ) → (sums : List ℕ) → ℕ → ℕ
+maskIn format units events place level G sums i =
     maskTo mostHours
-    (failsAt (testOf (unitsIn units) (eventsIn events) place level G i) (tightHours (unitsIn units) (eventsIn events) place i) (cellsIn events i) sums)
+    (failsAt (testOf (unitsIn format units) (eventsIn format events) place level G i) (tightHours (unitsIn format units) (eventsIn format events) place i) (cellsFrom format events i) sums)
 
 -- ---- what the flags are found from
 
 -- the place of each event's unit and the leader of its party
-pub record Led (units events places leaders : List ℕ) : Type 0 where
-  pub few : length events / eventWidth ≤ mostEvents
+pub record Led (format : Format) (units events places leaders : List ℕ) : Type 0 where
+  pub few : eventsIn format events .count ≤ mostEvents
   pub short : length units ≤ longestFile
-  pub listed : eventsListed (unitsIn units) (eventsIn events) ≡ true
-  pub placed : Holds (length events / eventWidth) places (unitOf (caseIn units [] [] events))
-  pub led : Holds (length events / eventWidth) leaders (leaderOf (caseIn units [] [] events))
+  pub listed : eventsListed (unitsIn format units) (eventsIn format events) ≡ true
+  pub placed : Holds (eventsIn format events .count) places (unitOf (caseIn format units [] [] events))
+  pub led : Holds (eventsIn format events .count) leaders (leaderOf (caseIn format units [] [] events))
 
 -- the run of event i ends there, where that is not passed
 abbrev pub EndCarried : Events → (i end : ℕ) → Type 0
@@ -115,15 +112,27 @@ EndCarried e i end = i < end → RunEnd e i end
 -- ---- the masks that are found
 
 -- the flagged hours of event j of a party: a fuel event has the first's
-unfoldable pub memberMask : (units events : List ℕ) → (place first G : ℕ) → (sums : List ℕ) → ℕ → ℕ
-memberMask units events place first G sums j = cond (eqb (eventsIn events .kind j) 3) first (maskIn units events place 0 G sums j)
+unfoldable pub memberMask : Format → (units events : List ℕ) → (place first G : ℕ) → (sums : List ℕ) → ℕ → ℕ
+memberMask format units events place first G sums j = cond (eqb (eventsIn format events .kind j) 3) first (maskIn format units events place 0 G sums j)
+
+-- the flagged hours of event i where it is a bid, from the totals that it reads; else none
+unfoldable pub bidMask : Format → (units events : List ℕ) → (place level : ℕ) → (totals : List ℕ) → ℕ → ℕ
+bidMask format units events place level totals i =
+    cond (eqb (eventsIn format events .kind i) 4) (maskIn format units events place level 0 totals i) 0
 
 -- the members of event i's party before m have their flagged hours, and the other events what they had
-pub record PartyFlagged (units events leaders : List ℕ) (i m : ℕ) (old new : List ℕ) : Type 0 where
-  pub members : (k : ℕ) → k < m → getD leaders k 0 ≡ i → getD new k 0 ≡ flagMaskIn (caseIn units [] [] events) [] k
+pub record PartyFlagged (format : Format) (units events leaders : List ℕ) (i m : ℕ) (old new : List ℕ) : Type 0 where
+  pub members : (k : ℕ) → k < m → getD leaders k 0 ≡ i → getD new k 0 ≡ flagMaskIn (caseIn format units [] [] events) [] k
+  pub others : (k : ℕ) → (getD leaders k 0 ≡ i → ⊥) → getD new k 0 ≡ getD old k 0
+
+-- the events that event i leads have their flagged hours, a bid those given, and the other events what they had
+pub record LeaderFlagged (format : Format) (units events leaders : List ℕ) (bid i : ℕ) (old new : List ℕ) : Type 0 where
+  pub bids : getD leaders i 0 ≡ i → eventsIn format events .kind i ≡ 4 → getD new i 0 ≡ bid
+  pub members : (k : ℕ) → k < eventsIn format events .count → (eventsIn format events .kind i ≡ 4 → ⊥) → getD leaders k 0 ≡ i
+      → getD new k 0 ≡ flagMaskIn (caseIn format units [] [] events) [] k
   pub others : (k : ℕ) → (getD leaders k 0 ≡ i → ⊥) → getD new k 0 ≡ getD old k 0
 
 -- the events whose leader is before m have their flagged hours
-pub record Flagged (units events leaders levels : List ℕ) (m : ℕ) (masks : List ℕ) : Type 0 where
-  pub each : (k : ℕ) → k < length events / eventWidth → getD leaders k 0 < m
-      → getD masks k 0 ≡ flagMaskIn (caseIn units [] [] events) levels k
+pub record Flagged (format : Format) (units events leaders levels : List ℕ) (m : ℕ) (masks : List ℕ) : Type 0 where
+  pub each : (k : ℕ) → k < eventsIn format events .count → getD leaders k 0 < m
+      → getD masks k 0 ≡ flagMaskIn (caseIn format units [] [] events) levels k

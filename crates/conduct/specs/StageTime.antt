@@ -7,6 +7,7 @@ use lib.Dec.{ltb, eqb}
 use lib.ListN.{getD}
 use Rattle.binary.specs.Bounded.{sumTo}
 use Rattle.tariff.specs.ConductTests.{increase}
+use Rattle.casefile.specs.declared.layout.Format.{Format}
 use Rattle.casefile.specs.Layout.{mostHours}
 use Rattle.casefile.specs.Case.{Events, Case}
 use Rattle.casefile.specs.Decode.{amountsIn, caseIn}
@@ -30,9 +31,9 @@ unfoldable pub countedIncrease : (a : ℕ → ℕ → ℕ) → (level j : ℕ) �
 countedIncrease a level j counts h = cond counts (increase level (a j h)) 0
 
 -- the increases on this component, of event i's unit, day and market, among the first m events, added
-unfoldable pub componentIncrease : (events levels : List ℕ) → (i component m h : ℕ) → ℕ
-componentIncrease e levels i component m h =
-    sumTo m (λ j. countedIncrease (amountsIn e) (getD levels j 0) j (componentBid (caseIn [] [] [] e) i component j) h)
+unfoldable pub componentIncrease : Format → (events levels : List ℕ) → (i component m h : ℕ) → ℕ
+componentIncrease format e levels i component m h =
+    sumTo m (λ j. countedIncrease (amountsIn format e) (getD levels j 0) j (componentBid (caseIn format [] [] [] e) i component j) h)
 
 -- a table of three time components by twenty-four hours
 abbrev pub cell : List (List ℕ) → (k h : ℕ) → ℕ

@@ -1,19 +1,18 @@
 // The hours of an event that fail its conduct test: one loop for every kind.
 ghost use mathlib.Core.Path.{_≡_};
-ghost use Prim.Native.Nat.{_*_, _/_, _≤_, _<_};
+ghost use Prim.Native.Nat.{_*_, _≤_, _<_};
 ghost use lib.ListN.{length};
 ghost use Rattle.binary.specs.Bounded.{maskTo};
-ghost use Rattle.casefile.specs.Layout.{cellWidth, mostHours, eventWidth, unitWidth};
+ghost use Rattle.casefile.specs.Layout.{cellWidth, mostHours};
 ghost use Rattle.casefile.specs.Decode.{unitsIn, eventsIn};
 ghost use Rattle.conduct.specs.StageMasks.{bidOf, testOf, tightHours, failsIn, failsAt, highestSum, SmallRow};
-use binary::bytes::load_u8;
-use binary::bytes::load_u16;
-use binary::bytes::load_u32;
 use binary::masks::bit_of;
 use binary::numbers::choose_u32;
 use casefile::cells::cell_at;
+use casefile::events::event_at;
 use casefile::layout;
-use casefile::records::record_at;
+use casefile::layout::Format;
+use casefile::units::unit_at;
 use tariff::conduct_tests::bid_test;
 use tariff::conduct_tests::dispatch_test;
 use tariff::conduct_tests::withheld_test;
@@ -74,7 +73,7 @@ pub fn failing_hours(
     cells: &[u8],
     sums: &[u64; layout::HOURS],
 ) -> u32
-    requires { ⌜ length (now cells) ≡ cellWidth * mostHours ⌝ }
+    requires { ⌜ cellWidth * mostHours ≤ length (now cells) ⌝ }
     requires { ⌜ SmallRow (now sums) ⌝ }
     ensures { λ r. ⌜ r ≡ maskTo mostHours (failsAt test tight (now (cells .entry)) (now (sums .entry))) ⌝ }
 {
@@ -93,28 +92,35 @@ pub fn failing_hours(
 }
 
 // The tight hours of event i: P where its unit's area is 1.
-pub fn tight_hours(units: &[u8], events: &[u8], place: usize, i: usize) -> u32
-    requires { ⌜ (i < length (now events) / eventWidth) × (place < length (now units) / unitWidth) ⌝ }
-    ensures { λ r. ⌜ r ≡ tightHours (unitsIn (now (units .entry))) (eventsIn (now (events .entry))) place i ⌝ }
+pub fn tight_hours(format: Format, units: &[u8], events: &[u8], place: usize, i: usize) -> u32
+    requires { ⌜ (i < eventsIn format (now events) .count) × (place < unitsIn format (now units) .count) ⌝ }
+    ensures { λ r. ⌜ r ≡ tightHours (unitsIn format (now (units .entry))) (eventsIn format (now (events .entry))) place i ⌝ }
 {
-    let event = record_at(events, i, layout::EVENT_WIDTH);
-    let p = load_u32(event, 12);
-    let unit = record_at(units, place, layout::UNIT_WIDTH);
-    let area = load_u8(unit, 4);
+    let event = event_at(format, events, i);
+    let p = event.p;
+    let unit = unit_at(format, units, place);
+    let area = unit.area;
     choose_u32(area == 1, p, 0)
 }
 
 // What the test of bid i reads, with a reference level.
-pub fn bid_of(units: &[u8], events: &[u8], place: usize, level: u32, i: usize) -> Bid
-    requires { ⌜ (i < length (now events) / eventWidth) × (place < length (now units) / unitWidth) ⌝ }
-    ensures { λ r. ⌜ r ≡ bidOf (unitsIn (now (units .entry))) (eventsIn (now (events .entry))) place level i ⌝ }
+pub fn bid_of(
+    format: Format,
+    units: &[u8],
+    events: &[u8],
+    place: usize,
+    level: u32,
+    i: usize,
+) -> Bid
+    requires { ⌜ (i < eventsIn format (now events) .count) × (place < unitsIn format (now units) .count) ⌝ }
+    ensures { λ r. ⌜ r ≡ bidOf (unitsIn format (now (units .entry))) (eventsIn format (now (events .entry))) place level i ⌝ }
 {
-    let event = record_at(events, i, layout::EVENT_WIDTH);
-    let component = load_u8(event, 6);
-    let market = load_u8(event, 1);
-    let unit = record_at(units, place, layout::UNIT_WIDTH);
-    let average_price = load_u32(unit, 16);
-    let constrained_hours = load_u16(unit, 20);
+    let event = event_at(format, events, i);
+    let component = event.component;
+    let market = event.market;
+    let unit = unit_at(format, units, place);
+    let average_price = unit.average_price;
+    let constrained_hours = unit.constrained_hours;
     Bid {
         component,
         reference: level,
@@ -126,6 +132,7 @@ pub fn bid_of(units: &[u8], events: &[u8], place: usize, level: u32, i: usize) -
 
 // The test of event i, by its kind; g is the listed capability of its group where the kind is 1.
 pub fn test_of(
+    format: Format,
     units: &[u8],
     events: &[u8],
     place: usize,
@@ -133,16 +140,17 @@ pub fn test_of(
     g: u64,
     i: usize,
 ) -> ConductTest
-    requires { ⌜ (i < length (now events) / eventWidth) × (place < length (now units) / unitWidth) ⌝ }
-    ensures { λ r. ⌜ r ≡ testOf (unitsIn (now (units .entry))) (eventsIn (now (events .entry))) place level g i ⌝ }
+    requires { ⌜ (i < eventsIn format (now events) .count) × (place < unitsIn format (now units) .count) ⌝ }
+    ensures { λ r. ⌜ r ≡ testOf (unitsIn format (now (units .entry))) (eventsIn format (now (events .entry))) place level g i ⌝ }
 {
-    let kind = load_u8(record_at(events, i, layout::EVENT_WIDTH), 0);
+    let event = event_at(format, events, i);
+    let kind = event.kind;
     if kind == 4 {
-        return ConductTest::Bid(bid_of(units, events, place, level, i));
+        return ConductTest::Bid(bid_of(format, units, events, place, level, i));
     }
-    let unit = record_at(units, place, layout::UNIT_WIDTH);
-    let capability = load_u32(unit, 8);
-    let rate = load_u32(unit, 12);
+    let unit = unit_at(format, units, place);
+    let capability = unit.capability;
+    let rate = unit.rate;
     if kind == 1 {
         return ConductTest::Withheld(Withheld {
             capability,

@@ -7,6 +7,7 @@ use borrow.Author.Tests.{eqb-true, ne-eqb, not-false}
 use lib.Bits.{bitAnd}
 use lib.Dec.{eqb}
 use lib.ListN.{replicate}
+use Rattle.casefile.specs.declared.layout.Format.{Format}
 use Rattle.binary.specs.Bounded.{maskTo, bitOf}
 use Rattle.binary.specs.Lists.{listTo}
 use Rattle.binary.proofs.Implies.{and-l}
@@ -14,8 +15,8 @@ use Rattle.binary.proofs.MaskLaws.{mask-same, bit-mask, bit-and}
 use Rattle.binary.proofs.ListLaws.{list-same}
 use Rattle.tariff.specs.DefaultBidRules.{lesser, defaultBid, inForce, restores, correctedBid}
 use Rattle.casefile.specs.Layout.{mostHours}
-use Rattle.casefile.specs.Decode.{unitsIn, eventsIn, amountsIn}
-use Rattle.conduct.specs.StageFlags.{cellsIn}
+use Rattle.casefile.specs.Decode.{unitsIn, eventsIn, amountsIn, cellsFrom}
+use Rattle.casefile.specs.StageRead.{cellOf}
 use Rattle.conduct.specs.StageMasks.{bidOf, tightHours, failsIn, failsAt}
 use Rattle.conduct.specs.declared.masks.ConductTest.the-variants as test
 use Rattle.conduct.proofs.MaskLaws.{tight-bit}
@@ -36,30 +37,39 @@ both true f x a = refl
 both false f x a = refl
 
 -- the bid's conduct test, with c and no time total
-pub tested-with : (u s : List ℕ) (place c i : ℕ)
-    → maskTo mostHours (failsAt (test.Bid (bidOf (unitsIn u) (eventsIn s) place c i)) (tightHours (unitsIn u) (eventsIn s) place i) (cellsIn s i) (replicate mostHours 0))
-    ≡ maskTo mostHours (failsWith u s place c i)
+pub tested-with : (format : Format) (u s : List ℕ) (place c i : ℕ)
+    → maskTo mostHours (failsAt (test.Bid (bidOf (unitsIn format u) (eventsIn format s) place c i)) (tightHours (unitsIn format u) (eventsIn format s) place i) (cellsFrom format s i) (replicate mostHours 0))
+    ≡ maskTo mostHours (failsWith format u s place c i)
 unfolding failsAt failsIn bidOf tightHours failsWith
-tested-with u s place c i = mask-same mostHours _ _ (λ h l. rw (cell-amount, zeros-at mostHours h, tight-bit))
+tested-with format u s place c i = mask-same mostHours _ _ (λ h l. rw (cell-amount, zeros-at mostHours h, tight-bit))
 
-module _ (u s : List ℕ) (place r c mitigated i : ℕ) where
-  pub bids-none : eqb (eventsIn s .kind i) 4 ≡ false → replicate mostHours 0 ≡ listTo mostHours (bidBy u s place r c mitigated i)
+-- the bid of hour h, held to a level in the hours of a mask, by its event's component and cells
+unfoldable pub heldIn : (component : ℕ) (cells : List ℕ) (level held h : ℕ) → ℕ
+heldIn component cells level held h = inForce component (cellOf cells h .a) level (bitOf held h)
+
+pub held-in : (format : Format) (s : List ℕ) (i level held : ℕ)
+    → listTo mostHours (heldIn (eventsIn format s .component i) (cellsFrom format s i) level held) ≡ listTo mostHours (heldBid format s i level held)
+unfolding heldIn heldBid
+held-in format s i level held = list-same mostHours _ _ (λ h l. rw cell-amount)
+
+module _ (format : Format) (u s : List ℕ) (place r c mitigated i : ℕ) where
+  pub bids-none : eqb (eventsIn format s .kind i) 4 ≡ false → replicate mostHours 0 ≡ listTo mostHours (bidBy format u s place r c mitigated i)
   unfolding bidBy listTo
   bids-none n =
-      let none : listTo mostHours (λ h. 0) ≡ listTo mostHours (bidBy u s place r c mitigated i) = list-same mostHours (λ h. 0) (bidBy u s place r c mitigated i) (λ h l. rw n) in
+      let none : listTo mostHours (λ h. 0) ≡ listTo mostHours (bidBy format u s place r c mitigated i) = list-same mostHours (λ h. 0) (bidBy format u s place r c mitigated i) (λ h l. rw n) in
       none
 
   -- every mitigated hour is held to r
-  pub held-own : eqb (eventsIn s .kind i) 4 ≡ true → (restores (eventsIn s .component i) r c && not (eqb mitigated 0)) ≡ false
-      → listTo mostHours (heldBid s i r mitigated) ≡ listTo mostHours (bidBy u s place r c mitigated i)
+  pub held-own : eqb (eventsIn format s .kind i) 4 ≡ true → (restores (eventsIn format s .component i) r c && not (eqb mitigated 0)) ≡ false
+      → listTo mostHours (heldBid format s i r mitigated) ≡ listTo mostHours (bidBy format u s place r c mitigated i)
   unfolding heldBid inForce bidBy correctedBid
   held-own k e =
       list-same mostHours _ _
-      (λ h l. rw k (go (restores (eventsIn s .component i) r c) (amountsIn s i h) h (failsWith u s place c i h) e))
+      (λ h l. rw k (go (restores (eventsIn format s .component i) r c) (amountsIn format s i h) h (failsWith format u s place c i h) e))
     where
       go : (b : Bool) (a h : ℕ) (fails : Bool) → (b && not (eqb mitigated 0)) ≡ false
-          → cond (bitOf mitigated h) (defaultBid (eventsIn s .component i) a r) a
-          ≡ cond (bitOf mitigated h) (cond b (cond fails (lesser a c) a) (defaultBid (eventsIn s .component i) a r)) a
+          → cond (bitOf mitigated h) (defaultBid (eventsIn format s .component i) a r) a
+          ≡ cond (bitOf mitigated h) (cond b (cond fails (lesser a c) a) (defaultBid (eventsIn format s .component i) a r)) a
       go false a h fails e = refl
       go true a h fails e =
           let z : mitigated ≡ 0 = eqb-true _ _ (not-false _ e) in
@@ -67,13 +77,13 @@ module _ (u s : List ℕ) (place r c mitigated i : ℕ) where
           rw n
 
   -- the mitigated hours that fail with c are held to it
-  pub held-correct : (failing : ℕ) → eqb (eventsIn s .kind i) 4 ≡ true
-      → (restores (eventsIn s .component i) r c && not (eqb mitigated 0)) ≡ true → failing ≡ maskTo mostHours (failsWith u s place c i)
-      → listTo mostHours (heldBid s i c (bitAnd mitigated failing)) ≡ listTo mostHours (bidBy u s place r c mitigated i)
+  pub held-correct : (failing : ℕ) → eqb (eventsIn format s .kind i) 4 ≡ true
+      → (restores (eventsIn format s .component i) r c && not (eqb mitigated 0)) ≡ true → failing ≡ maskTo mostHours (failsWith format u s place c i)
+      → listTo mostHours (heldBid format s i c (bitAnd mitigated failing)) ≡ listTo mostHours (bidBy format u s place r c mitigated i)
   unfolding heldBid inForce defaultBid bidBy correctedBid
   held-correct failing k e f =
       list-same mostHours _ _
       (λ h l.
-      let t : restores (eventsIn s .component i) r c ≡ true = and-l _ (not (eqb mitigated 0)) e in
-      let n : eqb (eventsIn s .component i) 8 ≡ false = not-eighth _ _ _ t in
-      rw (bit-and mitigated failing h, f, bit-mask mostHours h (failsWith u s place c i) l, k, t, n) (both (bitOf mitigated h) _ _ _))
+      let t : restores (eventsIn format s .component i) r c ≡ true = and-l _ (not (eqb mitigated 0)) e in
+      let n : eqb (eventsIn format s .component i) 8 ≡ false = not-eighth _ _ _ t in
+      rw (bit-and mitigated failing h, f, bit-mask mostHours h (failsWith format u s place c i) l, k, t, n) (both (bitOf mitigated h) _ _ _))

@@ -1,26 +1,24 @@
 -- The figures of one event, from what earlier stages found, are those of the case.
 use Prim.Native.Nat.{ℕ, zero, suc, _^_, _<_}
 use mathlib.Core.Bool.{Bool, true, false, cond, _&&_, _||_}
-use mathlib.Core.List.{List, []}
+use mathlib.Core.List.{List}
 use mathlib.Core.Path.{_≡_, refl, sym, ap, _∙_}
-use native.Mathlib.Nat.{add-assoc, lt-of-le-of-lt}
+use native.Mathlib.Nat.{lt-of-le-of-lt}
 use native.Mathlib.Omega.{arith}
 use lib.Bits.{bitAnd, and-le-l}
 use lib.Dec.{leb, eqb}
-use lib.ListN.{drop}
 use borrow.Author.Tests.{leb-false, ne-eqb}
-use Rattle.binary.specs.Bounded.{sumTo, lastTo, maskTo, bitOf}
-use Rattle.binary.specs.Bytes.{valueAt}
+use Rattle.casefile.specs.declared.layout.Format.{Format}
+use Rattle.binary.specs.Bounded.{sumTo, maskTo, bitOf}
 use Rattle.binary.specs.Lists.{listTo}
 use Rattle.binary.proofs.Implies.{T→true, cond-same, and-left, or-l, or-r}
 use Rattle.binary.proofs.BoundedLaws.{sum-same}
 use Rattle.binary.proofs.MaskLaws.{mask-same, mask-lt, mask-bits, bit-mask, bit-and}
-use Rattle.binary.proofs.ByteLaws.{value-drop}
 use Rattle.binary.proofs.ListLaws.{list-same}
 use Rattle.tariff.specs.DefaultBidRules.{spanned, spanMask, restores, correctedBid, correctedInForce}
-use Rattle.casefile.specs.Layout.{eventWidth, cellsOffset, mostHours}
+use Rattle.casefile.specs.Layout.{mostHours}
 use Rattle.casefile.specs.Case.{References, Case}
-use Rattle.casefile.specs.Decode.{recordAt, referencesIn, eventsIn, amountsIn, caseIn}
+use Rattle.casefile.specs.Decode.{referencesIn, eventsIn, amountsIn, caseIn, cellsFrom, cellsIn}
 use Rattle.casefile.specs.Lookup.{unitOf, levelOf, referenceOf, bidLevel, readsCorrect}
 use Rattle.casefile.specs.StageLookup.{readsLevel, correctLevel}
 use Rattle.casefile.specs.StageRead.{cellOf}
@@ -61,8 +59,11 @@ module _ (c : Case) (i : ℕ) (e : readsLevel (c .events) i ≡ false) (k k′ :
       none true (suc n) q = ne-eqb (suc n) 0 (λ z. omega arith)
 
 -- with no references every level is 0
-level-none : (unit component : ℕ) → 0 ≡ levelOf (referencesIn []) unit component
-unfolding levelOf referencesIn lastTo recordAt valueAt
+noReferences : References
+noReferences = record { count = 0; unit = λ i. 0; component = λ i. 0; value = λ i. 0 }
+
+level-none : (unit component : ℕ) → 0 ≡ levelOf noReferences unit component
+unfolding levelOf noReferences
 level-none unit component = refl
 
 -- a figure by c that goes by no c where c is not read is found by c where it is read and 0 elsewhere
@@ -75,7 +76,7 @@ by-read c correct i by figure is unread = go (readsLevel (c .events) i) refl
     go : (b : Bool) → readsLevel (c .events) i ≡ b
         → by (cond b (levelOf correct (c .events .unit i) (c .events .component i)) 0) ≡ figure correct
     go true e = is correct
-    go false e = ap by (level-none (c .events .unit i) (c .events .component i)) ∙ is (referencesIn []) ∙ unread e (referencesIn []) correct
+    go false e = ap by (level-none (c .events .unit i) (c .events .component i)) ∙ is noReferences ∙ unread e noReferences correct
 
 -- ---- the figures of event i of a case
 
@@ -104,55 +105,55 @@ mitigated-flags c i = go (eqb (c .events .kind i) 4) (eqb (c .events .component 
     go true false = sym (mask-bits n hits small) ∙ mask-same n (bitOf hits) (hit c i) bits
     go false s = sym (mask-nothing n)
 
-module _ (u r p s : List ℕ) (i : ℕ) where
-  mitigated-bit : (h : ℕ) → h < mostHours → bitOf (mitigatedMask (caseIn u r p s) i) h ≡ mitigated (caseIn u r p s) i h
+module _ (format : Format) (u r p s : List ℕ) (i : ℕ) where
+  mitigated-bit : (h : ℕ) → h < mostHours → bitOf (mitigatedMask (caseIn format u r p s) i) h ≡ mitigated (caseIn format u r p s) i h
   unfolding mitigatedMask caseIn eventsIn
-  mitigated-bit h l = bit-mask mostHours h (mitigated (caseIn u r p s) i) l
+  mitigated-bit h l = bit-mask mostHours h (mitigated (caseIn format u r p s) i) l
 
-  pub mitigated-by : (flags : ℕ) → flags ≡ flagMask (caseIn u r p s) i → mitigatedBy (eventsIn s) i flags ≡ mitigatedMask (caseIn u r p s) i
+  pub mitigated-by : (flags : ℕ) → flags ≡ flagMask (caseIn format u r p s) i → mitigatedBy (eventsIn format s) i flags ≡ mitigatedMask (caseIn format u r p s) i
   unfolding caseIn
-  mitigated-by flags e = rw e (mitigated-flags (caseIn u r p s) i)
+  mitigated-by flags e = rw e (mitigated-flags (caseIn format u r p s) i)
 
   bid-is : (k : References) (h : ℕ) → h < mostHours
-      → bidBy u s (unitOf (caseIn u r p s) i) (bidLevel (referencesIn r) (eventsIn s) i) (correctOf (caseIn u r p s) k i) (mitigatedMask (caseIn u r p s) i) i h
-      ≡ bidInForce (caseIn u r p s) k i h
+      → bidBy format u s (unitOf (caseIn format u r p s) i) (bidLevel (referencesIn format r) (eventsIn format s) i) (correctOf (caseIn format u r p s) k i) (mitigatedMask (caseIn format u r p s) i) i h
+      ≡ bidInForce (caseIn format u r p s) k i h
   unfolding bidBy failsWith bidInForce correctedInForce tight referenceOf bidLevel caseIn
-  bid-is k h l = cond-same (eqb (eventsIn s .kind i) 4) (λ t. rw (T→true (eqb (eventsIn s .kind i) 4) t, mitigated-bit h l)) (λ t. refl)
+  bid-is k h l = cond-same (eqb (eventsIn format s .kind i) 4) (λ t. rw (T→true (eqb (eventsIn format s .kind i) 4) t, mitigated-bit h l)) (λ t. refl)
 
   tenths-are : (k : References)
-      → sumTo mostHours (tenthsAt (drop cellsOffset (recordAt eventWidth s i)) (correctOf (caseIn u r p s) k i) (mitigatedMask (caseIn u r p s) i))
-      ≡ makeUpTenths (caseIn u r p s) k i
-  unfolding makeUpTenths tenthsAt cellOf caseIn eventsIn amountsIn
-  tenths-are k = sum-same mostHours _ _ (λ h l. rw (mitigated-bit h l) (simp (value-drop, add-assoc)))
+      → sumTo mostHours (tenthsAt (cellsFrom format s i) (correctOf (caseIn format u r p s) k i) (mitigatedMask (caseIn format u r p s) i))
+      ≡ makeUpTenths (caseIn format u r p s) k i
+  unfolding makeUpTenths tenthsAt cellOf caseIn eventsIn amountsIn cellsIn
+  tenths-are k = sum-same mostHours _ _ (λ h l. rw (mitigated-bit h l))
 
   make-up-is : (k : References)
-      → makeUpBy s i (bidLevel (referencesIn r) (eventsIn s) i) (correctOf (caseIn u r p s) k i) (mitigatedMask (caseIn u r p s) i)
-      ≡ makeUpOf (caseIn u r p s) k i
+      → makeUpBy format s i (bidLevel (referencesIn format r) (eventsIn format s) i) (correctOf (caseIn format u r p s) k i) (mitigatedMask (caseIn format u r p s) i)
+      ≡ makeUpOf (caseIn format u r p s) k i
   unfolding makeUpBy makeUpOf referenceOf bidLevel caseIn
   make-up-is k =
-      cond-same (eqb (eventsIn s .kind i) 4 && eqb (eventsIn s .component i) 0)
-      (λ t. rw (T→true (eqb (eventsIn s .kind i) 4) (and-left (eqb (eventsIn s .kind i) 4) (eqb (eventsIn s .component i) 0) t), tenths-are k))
+      cond-same (eqb (eventsIn format s .kind i) 4 && eqb (eventsIn format s .component i) 0)
+      (λ t. rw (T→true (eqb (eventsIn format s .kind i) 4) (and-left (eqb (eventsIn format s .kind i) 4) (eqb (eventsIn format s .component i) 0) t), tenths-are k))
       (λ t. refl)
 
   module _ (correct : References) where
     -- the bids in force of event i, from its unit's place, r, c and its mitigated mask
-    pub bids-by : (place level k mask : ℕ) → place ≡ unitOf (caseIn u r p s) i → level ≡ bidLevel (referencesIn r) (eventsIn s) i
-        → k ≡ correctLevel correct (eventsIn s) i → mask ≡ mitigatedMask (caseIn u r p s) i
-        → listTo mostHours (bidBy u s place level k mask i) ≡ listTo mostHours (bidInForce (caseIn u r p s) correct i)
+    pub bids-by : (place level k mask : ℕ) → place ≡ unitOf (caseIn format u r p s) i → level ≡ bidLevel (referencesIn format r) (eventsIn format s) i
+        → k ≡ correctLevel correct (eventsIn format s) i → mask ≡ mitigatedMask (caseIn format u r p s) i
+        → listTo mostHours (bidBy format u s place level k mask i) ≡ listTo mostHours (bidInForce (caseIn format u r p s) correct i)
     unfolding caseIn
     bids-by place level k mask eplace elevel ek emask =
         list-same mostHours _ _
         (λ h l.
         rw (eplace, elevel, ek, emask)
-        (by-read (caseIn u r p s) correct i (λ x. bidBy u s (unitOf (caseIn u r p s) i) (bidLevel (referencesIn r) (eventsIn s) i) x (mitigatedMask (caseIn u r p s) i) i h)
-        (λ x. bidInForce (caseIn u r p s) x i h) (λ x. bid-is x h l)
-        (λ e x y. bid-unread (caseIn u r p s) i e x y h)))
+        (by-read (caseIn format u r p s) correct i (λ x. bidBy format u s (unitOf (caseIn format u r p s) i) (bidLevel (referencesIn format r) (eventsIn format s) i) x (mitigatedMask (caseIn format u r p s) i) i h)
+        (λ x. bidInForce (caseIn format u r p s) x i h) (λ x. bid-is x h l)
+        (λ e x y. bid-unread (caseIn format u r p s) i e x y h)))
 
     -- its make-up, from r, c and its mitigated mask
-    pub make-up-by : (level k mask : ℕ) → level ≡ bidLevel (referencesIn r) (eventsIn s) i → k ≡ correctLevel correct (eventsIn s) i
-        → mask ≡ mitigatedMask (caseIn u r p s) i → makeUpBy s i level k mask ≡ makeUpOf (caseIn u r p s) correct i
+    pub make-up-by : (level k mask : ℕ) → level ≡ bidLevel (referencesIn format r) (eventsIn format s) i → k ≡ correctLevel correct (eventsIn format s) i
+        → mask ≡ mitigatedMask (caseIn format u r p s) i → makeUpBy format s i level k mask ≡ makeUpOf (caseIn format u r p s) correct i
     unfolding caseIn
     make-up-by level k mask elevel ek emask =
         rw (elevel, ek, emask)
-        (by-read (caseIn u r p s) correct i (λ x. makeUpBy s i (bidLevel (referencesIn r) (eventsIn s) i) x (mitigatedMask (caseIn u r p s) i))
-        (λ x. makeUpOf (caseIn u r p s) x i) make-up-is (λ e x y. make-up-unread (caseIn u r p s) i e x y))
+        (by-read (caseIn format u r p s) correct i (λ x. makeUpBy format s i (bidLevel (referencesIn format r) (eventsIn format s) i) x (mitigatedMask (caseIn format u r p s) i))
+        (λ x. makeUpOf (caseIn format u r p s) x i) make-up-is (λ e x y. make-up-unread (caseIn format u r p s) i e x y))

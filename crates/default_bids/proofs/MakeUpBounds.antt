@@ -1,23 +1,21 @@
 -- Bounds of the make-ups of a case whose events are fine.
-use Prim.Native.Nat.{ℕ, _+_, _/_, _≤_, _<_, zero-le}
+use Prim.Native.Nat.{ℕ, _+_, _≤_, _<_, zero-le}
 use mathlib.Core.Bool.{true, _&&_}
 use mathlib.Core.List.{List}
 use mathlib.Core.Path.{_≡_}
-use native.Mathlib.Nat.{add-assoc}
 use native.Mathlib.Omega.{arith}
 use lib.Dec.{eqb}
-use lib.ListN.{length, drop}
 use borrow.Author.Tests.{eqb-true}
+use Rattle.casefile.specs.declared.layout.Format.{Format}
 use Rattle.binary.specs.Bounded.{sumTo, bitOf}
 use Rattle.binary.proofs.BoundedLaws.{product-bound, sum-bound}
-use Rattle.binary.proofs.ByteLaws.{value-drop}
 use Rattle.binary.proofs.Implies.{T→true, and-left, cond-bound}
 use Rattle.binary.proofs.WordLaws.{positive-lt, negative-le}
 use Rattle.tariff.specs.DefaultBidRules.{lesser, excess, hourMakeUp, makeUp}
 use Rattle.tariff.specs.SanctionRules.{cents}
 use Rattle.tariff.specs.Ranges.{highestMegawatts}
-use Rattle.casefile.specs.Layout.{eventWidth, cellsOffset, mostHours}
-use Rattle.casefile.specs.Decode.{recordAt, eventsIn}
+use Rattle.casefile.specs.Layout.{mostHours}
+use Rattle.casefile.specs.Decode.{eventsIn, cellsFrom, cellsIn}
 use Rattle.casefile.specs.Refusal.{eventsFine}
 use Rattle.casefile.specs.StageRead.{cellOf}
 use Rattle.casefile.proofs.SectionLaws.{cell-ranges}
@@ -36,20 +34,18 @@ make-up-bound : (r k tenths : ℕ) → makeUp r k tenths ≤ tenths + 1
 unfolding makeUp cents
 make-up-bound r k tenths = cond-bound (eqb k r) (λ t. zero-le) (λ t. omega arith)
 
-pub megawatts-fine : (s : List ℕ) (i : ℕ) → eventsFine s ≡ true → i < length s / eventWidth → eqb (eventsIn s .kind i) 4 ≡ true
-    → MegawattsFine (drop cellsOffset (recordAt eventWidth s i))
-unfolding cellOf eventsIn
-megawatts-fine s i f l k h b =
-    let m : eventsIn s .m i h ≤ highestMegawatts = cell-ranges s f i h l b .bid (eqb-true _ 4 k) in
-    simp (value-drop, ← add-assoc) m
+pub megawatts-fine : (format : Format) (s : List ℕ) (i : ℕ) → eventsFine format s ≡ true → i < eventsIn format s .count → eqb (eventsIn format s .kind i) 4 ≡ true
+    → MegawattsFine (cellsFrom format s i)
+unfolding cellOf eventsIn cellsIn
+megawatts-fine format s i f l k h b = cell-ranges format s f i h l b .bid (eqb-true _ 4 k)
 
-pub make-up-most : (s : List ℕ) (i r k mask : ℕ) → eventsFine s ≡ true → i < length s / eventWidth → makeUpBy s i r k mask ≤ highestMakeUp
+pub make-up-most : (format : Format) (s : List ℕ) (i r k mask : ℕ) → eventsFine format s ≡ true → i < eventsIn format s .count → makeUpBy format s i r k mask ≤ highestMakeUp
 unfolding makeUpBy
-make-up-most s i r k mask f l =
-    cond-bound (eqb (eventsIn s .kind i) 4 && eqb (eventsIn s .component i) 0)
+make-up-most format s i r k mask f l =
+    cond-bound (eqb (eventsIn format s .kind i) 4 && eqb (eventsIn format s .component i) 0)
     (λ t.
-    let m = megawatts-fine s i f l (T→true _ (and-left (eqb (eventsIn s .kind i) 4) (eqb (eventsIn s .component i) 0) t)) in
-    let tenths = tenthsAt (drop cellsOffset (recordAt eventWidth s i)) k mask in
+    let m = megawatts-fine format s i f l (T→true _ (and-left (eqb (eventsIn format s .kind i) 4) (eqb (eventsIn format s .component i) 0) t)) in
+    let tenths = tenthsAt (cellsFrom format s i) k mask in
     let b = sum-bound mostHours tenths highestTenths (λ h b. tenths-bound _ k mask h (m h b)) in
     omega (arith, make-up-bound r k (sumTo mostHours tenths)))
     (λ t. zero-le)

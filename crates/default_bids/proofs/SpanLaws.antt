@@ -9,7 +9,6 @@ use Rattle.binary.specs.Bounded.{firstTo, maskTo, bitOf}
 use Rattle.binary.proofs.BoundedLaws.{first-same, last-same}
 use Rattle.binary.proofs.MaskLaws.{mask-same, bit-past}
 use Rattle.tariff.specs.DefaultBidRules.{between, spanned, spanMask}
-use Rattle.casefile.specs.Layout.{mostHours}
 use Rattle.casefile.specs.Case.{Case}
 use Rattle.default_bids.specs.Mitigation.{hit, mitigated, mitigatedMask}
 
@@ -45,8 +44,8 @@ unfolding spanMask spanned between
 span-nothing n R = mask-same n _ (λ h. false) (λ h l. rw (first-nothing n, lt-leb n h l)) ∙ mask-nothing n
 
 -- a span is worked out where an hour is hit
-pub span-hits : (s : Bool) (hits R : ℕ) → (s && not (eqb hits 0)) ≡ false → cond s (spanMask mostHours (bitOf hits) R) hits ≡ hits
-span-hits false hits R e = refl
-span-hits true hits R e =
+pub span-hits : (n : ℕ) (s : Bool) (hits R : ℕ) → (s && not (eqb hits 0)) ≡ false → cond s (spanMask n (bitOf hits) R) hits ≡ hits
+span-hits n false hits R e = refl
+span-hits n true hits R e =
     let z : hits ≡ 0 = eqb-true hits 0 (not-false _ e) in
-    rw z (span-same mostHours (bitOf 0) (λ h. false) R (λ h l. no-bit h) ∙ span-nothing mostHours R)
+    rw z (span-same n (bitOf 0) (λ h. false) R (λ h l. no-bit h) ∙ span-nothing n R)

@@ -5,14 +5,14 @@ use mathlib.Core.Bool.{Bool, cond, _&&_}
 use mathlib.Core.List.{List}
 use lib.Bits.{bitAnd}
 use lib.Dec.{eqb}
-use lib.ListN.{drop}
 use Rattle.binary.specs.Bounded.{sumTo, bitOf}
 use Rattle.tariff.specs.ConductTests.{bidTest}
 use Rattle.tariff.specs.DefaultBidRules.{spanMask, inForce, correctedBid, hourMakeUp, makeUp}
 use Rattle.tariff.specs.Ranges.{highestMegawatts}
-use Rattle.casefile.specs.Layout.{eventWidth, cellsOffset, mostHours}
+use Rattle.casefile.specs.declared.layout.Format.{Format}
+use Rattle.casefile.specs.Layout.{mostHours}
 use Rattle.casefile.specs.Case.{Events}
-use Rattle.casefile.specs.Decode.{recordAt, unitsIn, eventsIn, amountsIn}
+use Rattle.casefile.specs.Decode.{cellsFrom, unitsIn, eventsIn, amountsIn}
 use Rattle.casefile.specs.StageRead.{cellOf}
 
 -- ---- mitigated hours
@@ -27,19 +27,19 @@ mitigatedBy e i flags =
 -- ---- bids in force
 
 -- the bid of hour h, held to a level in the hours of a mask
-unfoldable pub heldBid : (events : List ℕ) → (i level held h : ℕ) → ℕ
-heldBid s i level held h = inForce (eventsIn s .component i) (amountsIn s i h) level (bitOf held h)
+unfoldable pub heldBid : Format → (events : List ℕ) → (i level held h : ℕ) → ℕ
+heldBid format s i level held h = inForce (eventsIn format s .component i) (amountsIn format s i h) level (bitOf held h)
 
 -- hour h fails the conduct test with c
-unfoldable pub failsWith : (units events : List ℕ) → (place c i h : ℕ) → Bool
-failsWith u s place c i h =
-    bidTest (eventsIn s .component i) c (amountsIn s i h) (eventsIn s .market i)
-    (eqb (unitsIn u .area place) 1 && bitOf (eventsIn s .P i) h) (unitsIn u .averagePrice place) (unitsIn u .constrainedHours place) 0
+unfoldable pub failsWith : Format → (units events : List ℕ) → (place c i h : ℕ) → Bool
+failsWith format u s place c i h =
+    bidTest (eventsIn format s .component i) c (amountsIn format s i h) (eventsIn format s .market i)
+    (eqb (unitsIn format u .area place) 1 && bitOf (eventsIn format s .P i) h) (unitsIn format u .averagePrice place) (unitsIn format u .constrainedHours place) 0
 
-unfoldable pub bidBy : (units events : List ℕ) → (place r c mitigated i h : ℕ) → ℕ
-bidBy u s place r c mitigated i h =
-    cond (eqb (eventsIn s .kind i) 4)
-    (cond (bitOf mitigated h) (correctedBid (eventsIn s .component i) (amountsIn s i h) r c (failsWith u s place c i h)) (amountsIn s i h))
+unfoldable pub bidBy : Format → (units events : List ℕ) → (place r c mitigated i h : ℕ) → ℕ
+bidBy format u s place r c mitigated i h =
+    cond (eqb (eventsIn format s .kind i) 4)
+    (cond (bitOf mitigated h) (correctedBid (eventsIn format s .component i) (amountsIn format s i h) r c (failsWith format u s place c i h)) (amountsIn format s i h))
     0
 
 -- ---- make-up
@@ -53,10 +53,10 @@ unfoldable pub tenthsAt : (cells : List ℕ) (c mitigated : ℕ) → ℕ → ℕ
 tenthsAt cells c mitigated h =
     cond (bitOf mitigated h) (hourMakeUp (cellOf cells h .a) (cellOf cells h .b) (cellOf cells h .m) c) 0
 
-unfoldable pub makeUpBy : (events : List ℕ) → (i r c mitigated : ℕ) → ℕ
-makeUpBy s i r c mitigated =
-    cond (eqb (eventsIn s .kind i) 4 && eqb (eventsIn s .component i) 0)
-    (makeUp r c (sumTo mostHours (tenthsAt (drop cellsOffset (recordAt eventWidth s i)) c mitigated))) 0
+unfoldable pub makeUpBy : Format → (events : List ℕ) → (i r c mitigated : ℕ) → ℕ
+makeUpBy format s i r c mitigated =
+    cond (eqb (eventsIn format s .kind i) 4 && eqb (eventsIn format s .component i) 0)
+    (makeUp r c (sumTo mostHours (tenthsAt (cellsFrom format s i) c mitigated))) 0
 
 -- one word of 32 bits exceeds another by at most this
 abbrev pub highestExcess : ℕ

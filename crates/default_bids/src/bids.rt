@@ -1,32 +1,32 @@
 // Bids in force.
 ghost use mathlib.Core.Path.{_≡_};
-ghost use Prim.Native.Nat.{_/_, _<_};
-ghost use lib.ListN.{length};
+ghost use Prim.Native.Nat.{_<_};
 ghost use Rattle.binary.specs.Bounded.{maskTo};
 ghost use Rattle.binary.specs.Lists.{listTo};
-ghost use Rattle.casefile.specs.Layout.{mostHours, eventWidth, unitWidth};
+ghost use Rattle.casefile.specs.Decode.{eventsIn, unitsIn};
+ghost use Rattle.casefile.specs.Layout.{mostHours};
 ghost use Rattle.default_bids.specs.StageFigures.{heldBid, failsWith, bidBy};
-use binary::bytes::load_u8;
 use binary::masks::bit_of;
 use casefile::cells::cell_at;
+use casefile::events::event_at;
+use casefile::events::event_cells;
 use casefile::layout;
-use casefile::records::record_at;
+use casefile::layout::Format;
 use conduct::masks::ConductTest;
 use conduct::masks::bid_of;
 use conduct::masks::failing_hours;
 use conduct::masks::tight_hours;
-use conduct::sums::cells_of;
 use tariff::default_bid_rules::in_force;
 use tariff::default_bid_rules::restores;
 
 // The bids of event i, held to a level in the hours of a mask.
-fn held_bids(events: &[u8], i: usize, level: u32, held: u32) -> [u32; layout::HOURS]
-    requires { ⌜ i < length (now events) / eventWidth ⌝ }
-    ensures { λ r. ⌜ r ≡ listTo mostHours (heldBid (now (events .entry)) i level held) ⌝ }
+fn held_bids(format: Format, events: &[u8], i: usize, level: u32, held: u32) -> [u32; layout::HOURS]
+    requires { ⌜ i < eventsIn format (now events) .count ⌝ }
+    ensures { λ r. ⌜ r ≡ listTo mostHours (heldBid format (now (events .entry)) i level held) ⌝ }
 {
-    let event = record_at(events, i, layout::EVENT_WIDTH);
-    let component = load_u8(event, 6);
-    let cells = cells_of(events, i);
+    let event = event_at(format, events, i);
+    let component = event.component;
+    let cells = event_cells(format, events, i);
     let mut bids = [0u32; layout::HOURS];
     let mut h = 0;
     while h < layout::HOURS {
@@ -39,18 +39,31 @@ fn held_bids(events: &[u8], i: usize, level: u32, held: u32) -> [u32; layout::HO
 }
 
 // The hours of a bid, event i, that fail the conduct test with the correct reference.
-fn failing_with(units: &[u8], events: &[u8], place: usize, correct: u32, i: usize) -> u32
-    requires { ⌜ (i < length (now events) / eventWidth) × (place < length (now units) / unitWidth) ⌝ }
-    ensures { λ r. ⌜ r ≡ maskTo mostHours (failsWith (now (units .entry)) (now (events .entry)) place correct i) ⌝ }
+fn failing_with(
+    format: Format,
+    units: &[u8],
+    events: &[u8],
+    place: usize,
+    correct: u32,
+    i: usize,
+) -> u32
+    requires { ⌜ (i < eventsIn format (now events) .count) × (place < unitsIn format (now units) .count) ⌝ }
+    ensures { λ r. ⌜ r ≡ maskTo mostHours (failsWith format (now (units .entry)) (now (events .entry)) place correct i) ⌝ }
 {
-    let bid = bid_of(units, events, place, correct, i);
-    let tight = tight_hours(units, events, place, i);
+    let bid = bid_of(format, units, events, place, correct, i);
+    let tight = tight_hours(format, units, events, place, i);
     let totals = [0u64; layout::HOURS];
-    failing_hours(ConductTest::Bid(bid), tight, cells_of(events, i), &totals)
+    failing_hours(
+        ConductTest::Bid(bid),
+        tight,
+        event_cells(format, events, i),
+        &totals,
+    )
 }
 
 // The bids in force of event i, where it is a bid: held to c in the mitigated hours that fail with it where c restores, else to r in all.
 pub fn bids_in_force(
+    format: Format,
     units: &[u8],
     events: &[u8],
     place: usize,
@@ -59,19 +72,19 @@ pub fn bids_in_force(
     mitigated: u32,
     i: usize,
 ) -> [u32; layout::HOURS]
-    requires { ⌜ (i < length (now events) / eventWidth) × (place < length (now units) / unitWidth) ⌝ }
-    ensures { λ r. ⌜ r ≡ listTo mostHours (bidBy (now (units .entry)) (now (events .entry)) place level correct mitigated i) ⌝ }
+    requires { ⌜ (i < eventsIn format (now events) .count) × (place < unitsIn format (now units) .count) ⌝ }
+    ensures { λ r. ⌜ r ≡ listTo mostHours (bidBy format (now (units .entry)) (now (events .entry)) place level correct mitigated i) ⌝ }
 {
-    let event = record_at(events, i, layout::EVENT_WIDTH);
-    let kind = load_u8(event, 0);
+    let event = event_at(format, events, i);
+    let kind = event.kind;
     if kind != 4 {
         return [0u32; layout::HOURS];
     }
-    let component = load_u8(event, 6);
+    let component = event.component;
     let restored = restores(component, level, correct);
     if restored & (mitigated != 0) {
-        let failing = failing_with(units, events, place, correct, i);
-        return held_bids(events, i, correct, mitigated & failing);
+        let failing = failing_with(format, units, events, place, correct, i);
+        return held_bids(format, events, i, correct, mitigated & failing);
     }
-    held_bids(events, i, level, mitigated)
+    held_bids(format, events, i, level, mitigated)
 }

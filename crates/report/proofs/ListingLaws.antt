@@ -1,5 +1,5 @@
 -- From the call's answer to the listing's text.
-use Prim.Native.Nat.{ℕ, _+_, _*_, _/_, _≤_, _<_}
+use Prim.Native.Nat.{ℕ, _*_, _≤_, _<_}
 use mathlib.Core.Bool.{Bool, true, false, cond}
 use mathlib.Core.List.{List, [], _++_}
 use mathlib.Core.Path.{_≡_, refl, sym, _∙_}
@@ -8,8 +8,10 @@ use borrow.Author.Tests.{eqb-true, eq-eqb, lt-ltb, le-ltb}
 use lib.Dec.{ltb, eqb}
 use lib.ListN.{length, take}
 use lib.Seq.{length-take-le}
-use Rattle.casefile.specs.Layout.{eventWidth, rowWidth, mostEvents}
-use Rattle.casefile.specs.Decode.{sectionOf, decode, caseIn, eventsIn}
+use Rattle.casefile.specs.declared.layout.Format.{Format}
+use Rattle.casefile.specs.Layout.{rowWidth, mostEvents}
+use Rattle.casefile.specs.Case.{Events}
+use Rattle.casefile.specs.Decode.{formatIn, sectionOf, decode, caseIn, eventsIn}
 use Rattle.casefile.specs.Refusal.{refusal}
 use Rattle.casefile.proofs.AcceptedLaws as case
 use Rattle.settlement.specs.declared.settle.Settlement.the-variants as settlement
@@ -19,13 +21,14 @@ use Rattle.report.specs.Listing.{longestListing, refusalText, totalText,
 use Rattle.report.specs.StagePut.{Put}
 
 -- a refusal has a number that is not 0, and a settlement its values
-refused-text : (a : SettlementAnswer) (k : ℕ) (events rows : List ℕ) → settlement.Refused k ≡ settlementOf a → textOf a events rows ≡ refusalText k
+refused-text : (a : SettlementAnswer) (k : ℕ) (format : Format) (events : Events) (rows : List ℕ) → settlement.Refused k ≡ settlementOf a
+    → textOf a format events rows ≡ refusalText k
 unfolding settlementOf textOf
-refused-text a k events rows e = go (eqb (a .number) 0) e
+refused-text a k format events rows e = go (eqb (a .number) 0) e
   where
     go : (b : Bool)
         → settlement.Refused k ≡ cond b (settlement.Settled (a .rowCount) (a .penalties) (a .makeUps)) (settlement.Refused (a .number))
-        → cond b (linesTo (a .rowCount) events rows ++ totalText (a .penalties) (a .makeUps)) (refusalText (a .number)) ≡ refusalText k
+        → cond b (linesTo format (a .rowCount) events rows ++ totalText (a .penalties) (a .makeUps)) (refusalText (a .number)) ≡ refusalText k
     go true q = let z : _≡_ {A = ℕ} 0 1 = cc in absurd (omega arith)
     go false q = let z : a .number ≡ k = cc in rw z refl
 
@@ -57,8 +60,8 @@ answer-number f k n = go (eqb (refusal f k n) 0) refl
     go true t = sym (eqb-true (refusal f k n) 0 t)
     go false t = refl
 
-answer-rows : (f k : List ℕ) (n : ℕ) → refusal f k n ≡ 0 → answerOf f k n .rowCount ≡ length (sectionOf f 3) / eventWidth
-unfolding answerOf accepted decode caseIn eventsIn
+answer-rows : (f k : List ℕ) (n : ℕ) → refusal f k n ≡ 0 → answerOf f k n .rowCount ≡ decode f .events .count
+unfolding answerOf accepted
 answer-rows f k n h = rw (eq-eqb _ _ h) refl
 
 module _ (f rows : List ℕ) (n p m : ℕ) (e : settlement.Settled n p m ≡ settlementOf (answerOf f [] (length rows))) where
@@ -68,19 +71,21 @@ module _ (f rows : List ℕ) (n p m : ℕ) (e : settlement.Settled n p m ≡ set
   pub fine : refusal f [] (length rows) ≡ 0
   fine = sym (answer-number f [] (length rows)) ∙ values .number
 
-  pub count : n ≡ length (sectionOf f 3) / eventWidth
-  count = sym (values .rows) ∙ answer-rows f [] (length rows) fine
+  all-rows : n ≡ decode f .events .count
+  all-rows = sym (values .rows) ∙ answer-rows f [] (length rows) fine
+
+  pub count : (format : Format) (events : List ℕ) → format ≡ formatIn f → events ≡ sectionOf f 3 → n ≡ eventsIn format events .count
+  unfolding decode caseIn
+  count format events ef ee = rw (ef, ee) all-rows
 
   pub few : n ≤ mostEvents
-  unfolding decode caseIn eventsIn
-  few = omega (arith, count, case.events-count f [] (length rows) fine)
+  few = omega (arith, all-rows, case.events-count f [] (length rows) fine)
 
-  pub rows-long : rowWidth * n ≤ length rows
-  unfolding decode caseIn eventsIn
-  rows-long = omega (arith, count, case.rows-long f [] (length rows) fine)
+  pub rows-long : rowWidth (formatIn f) * n ≤ length rows
+  rows-long = omega (arith, all-rows, case.rows-long f [] (length rows) fine)
 
-  settled-text : listingOf f rows ≡ linesTo n (sectionOf f 3) (rowsAfter f [] rows) ++ totalText p m
-  unfolding listingOf textOf
+  settled-text : listingOf f rows ≡ linesTo (formatIn f) n (eventsIn (formatIn f) (sectionOf f 3)) (rowsAfter f [] rows) ++ totalText p m
+  unfolding listingOf textOf decode caseIn
   settled-text = rw (values .number, values .rows, values .penalties, values .make-ups) refl
 
 -- what was put is what the call promises, where out is long enough
@@ -95,13 +100,14 @@ module _ (f rows out : List ℕ) (long : longestListing ≤ length out) where
   pub listed-refusal : (k r : ℕ) (new : List ℕ) → settlement.Refused k ≡ settlementOf (answerOf f [] (length rows))
       → Put out 0 (refusalText k) new r → (r ≡ listedLength f rows out) × (new ≡ listedOut f rows out)
   unfolding listingOf
-  listed-refusal k r new e q = listed (refusalText k) new r (refused-text (answerOf f [] (length rows)) k _ _ e) q
+  listed-refusal k r new e q = listed (refusalText k) new r (refused-text (answerOf f [] (length rows)) k _ _ _ e) q
 
-  pub listed-settlement : (n p m r : ℕ) (events after new : List ℕ) → settlement.Settled n p m ≡ settlementOf (answerOf f [] (length rows))
-      → events ≡ sectionOf f 3 → after ≡ rowsAfter f [] rows → Put out 0 (linesTo n events after ++ totalText p m) new r
+  pub listed-settlement : (n p m r : ℕ) (format : Format) (events after new : List ℕ) → settlement.Settled n p m ≡ settlementOf (answerOf f [] (length rows))
+      → format ≡ formatIn f → events ≡ sectionOf f 3 → after ≡ rowsAfter f [] rows
+      → Put out 0 (linesTo format n (eventsIn format events) after ++ totalText p m) new r
       → (r ≡ listedLength f rows out) × (new ≡ listedOut f rows out)
-  listed-settlement n p m r events after new e s t q =
-      listed (linesTo n events after ++ totalText p m) new r (settled-text f rows n p m e ∙ rw (s, t) refl) q
+  listed-settlement n p m r format events after new e ef ee t q =
+      listed (linesTo format n (eventsIn format events) after ++ totalText p m) new r (settled-text f rows n p m e ∙ rw (ef, ee, t) refl) q
 
   pub listed-rows : (after : List ℕ) → after ≡ rowsAfter f [] rows → after ≡ listedRows f rows out
   unfolding listedRows

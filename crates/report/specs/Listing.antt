@@ -5,7 +5,9 @@ use mathlib.Core.List.{List, [], _∷_, _++_}
 use lib.Dec.{ltb, eqb}
 use lib.ListN.{length}
 use lib.Seq.{sets}
-use Rattle.casefile.specs.Decode.{sectionOf}
+use Rattle.casefile.specs.declared.layout.Format.{Format}
+use Rattle.casefile.specs.Case.{Events}
+use Rattle.casefile.specs.Decode.{formatIn, decode}
 use Rattle.settlement.specs.Settled.{SettlementAnswer, answerOf, rowsAfter}
 use Rattle.report.specs.Decimal.{field}
 use Rattle.report.specs.Line.{space, lineFeed, linesTo}
@@ -24,13 +26,13 @@ unfoldable pub totalText : (penalties makeUps : ℕ) → List ℕ
 totalText p m = totalWord ++ field p space ++ field m lineFeed
 
 -- the text of an answer, with the events and the rows as they then stand
-unfoldable pub textOf : SettlementAnswer → (events rows : List ℕ) → List ℕ
-textOf a events rows =
-    cond (eqb (a .number) 0) (linesTo (a .rowCount) events rows ++ totalText (a .penalties) (a .makeUps)) (refusalText (a .number))
+unfoldable pub textOf : SettlementAnswer → Format → Events → (rows : List ℕ) → List ℕ
+textOf a format e rows =
+    cond (eqb (a .number) 0) (linesTo format (a .rowCount) e rows ++ totalText (a .penalties) (a .makeUps)) (refusalText (a .number))
 
 -- the listing of a file, correction empty, settled into this rows buffer
 unfoldable pub listingOf : (file rows : List ℕ) → List ℕ
-listingOf f rows = textOf (answerOf f [] (length rows)) (sectionOf f 3) (rowsAfter f [] rows)
+listingOf f rows = textOf (answerOf f [] (length rows)) (formatIn f) (decode f .events) (rowsAfter f [] rows)
 
 -- the bytes that every listing has room in
 abbrev pub longestListing : ℕ

@@ -3,14 +3,17 @@ ghost use mathlib.Core.List.{_++_};
 ghost use mathlib.Core.Path.{_≡_};
 ghost use Prim.Native.Nat.{_+_, _*_, _≤_};
 ghost use lib.ListN.{length, take};
-ghost use Rattle.casefile.specs.Layout.{eventWidth, mostEvents, rowWidth};
+ghost use Rattle.casefile.specs.Layout.{mostEvents, rowWidth};
+ghost use Rattle.casefile.specs.Decode.{eventsIn};
 ghost use Rattle.report.specs.StagePut.{Put};
 ghost use Rattle.report.specs.Line.{linesTo};
 ghost use Rattle.report.specs.Listing.{refusalText, totalText, listedLength, listedOut, listedRows};
 use crate::lines::put_lines;
 use crate::text::put_bytes;
 use crate::text::put_field;
+use casefile::header::format_of;
 use casefile::header::section;
+use casefile::layout::Format;
 use settlement::settle::Settlement;
 use settlement::settle::settle;
 
@@ -33,6 +36,7 @@ fn put_totals(out: &mut [u8], at: usize, penalties: u64, make_ups: u64) -> usize
 
 // The lines of the events, then the totals.
 fn put_settlement(
+    format: Format,
     events: &[u8],
     rows: &[u8],
     n: usize,
@@ -40,10 +44,10 @@ fn put_settlement(
     make_ups: u64,
     out: &mut [u8],
 ) -> usize
-    requires { ⌜ (eventWidth * n ≤ length (now events)) × (rowWidth * n ≤ length (now rows)) × (n ≤ mostEvents) × (42048 ≤ length (now out)) ⌝ }
-    ensures { λ r. ⌜ Put (now (out .entry)) 0 (linesTo n (now (events .entry)) (now (rows .entry)) ++ totalText penalties «make_ups») (now (out .exit)) r × (r ≤ 42048) ⌝ }
+    requires { ⌜ (n ≤ eventsIn format (now events) .count) × (rowWidth format * n ≤ length (now rows)) × (n ≤ mostEvents) × (42048 ≤ length (now out)) ⌝ }
+    ensures { λ r. ⌜ Put (now (out .entry)) 0 (linesTo format n (eventsIn format (now (events .entry))) (now (rows .entry)) ++ totalText penalties «make_ups») (now (out .exit)) r × (r ≤ 42048) ⌝ }
 {
-    let at = put_lines(events, rows, n, out);
+    let at = put_lines(format, events, rows, n, out);
     put_totals(out, at, penalties, make_ups)
 }
 
@@ -64,6 +68,14 @@ pub fn listing(file: &[u8], rows: &mut [u8], out: &mut [u8]) -> usize
             rows: n,
             penalties,
             make_ups,
-        } => put_settlement(section(file, 3), rows, n, penalties, make_ups, out),
+        } => put_settlement(
+            format_of(file),
+            section(file, 3),
+            rows,
+            n,
+            penalties,
+            make_ups,
+            out,
+        ),
     }
 }

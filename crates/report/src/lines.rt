@@ -2,27 +2,30 @@
 ghost use mathlib.Core.Path.{_≡_};
 ghost use Prim.Native.Nat.{_+_, _*_, _≤_};
 ghost use lib.ListN.{length};
-ghost use Rattle.casefile.specs.Layout.{eventWidth, rowWidth};
-ghost use Rattle.report.specs.StagePut.{Put};
-ghost use Rattle.report.specs.Line.{eventFields, rowFields, linesTo};
+ghost use Rattle.casefile.specs.Layout.{rowWidth, mostHours};
+ghost use Rattle.casefile.specs.Decode.{eventsIn};
+ghost use Rattle.report.specs.StagePut.{Put, eventText};
+ghost use Rattle.report.specs.Line.{rowFields, linesTo};
 use crate::text::put_field;
 use binary::bytes::load_u8;
-use binary::bytes::load_u16;
 use binary::bytes::load_u32;
 use binary::bytes::load_u64;
+use casefile::events::Event;
+use casefile::events::event_at;
 use casefile::layout;
+use casefile::layout::Format;
 use casefile::records::record_at;
 
 // Day, kind, unit, market, component, each with a space after it.
-fn put_event(event: &[u8], out: &mut [u8], at: usize) -> usize
-    requires { ⌜ (length (now event) ≡ eventWidth) × (at + 105 ≤ length (now out)) ⌝ }
-    ensures { λ r. ⌜ Put (now (out .entry)) at (eventFields (now (event .entry))) (now (out .exit)) r × (r ≤ at + 105) ⌝ }
+fn put_event(event: Event, out: &mut [u8], at: usize) -> usize
+    requires { ⌜ at + 105 ≤ length (now out) ⌝ }
+    ensures { λ r. ⌜ Put (now (out .entry)) at (eventText event) (now (out .exit)) r × (r ≤ at + 105) ⌝ }
 {
-    let day = load_u32(event, 8);
-    let kind = load_u8(event, 0);
-    let unit = load_u16(event, 2);
-    let market = load_u8(event, 1);
-    let component = load_u8(event, 6);
+    let day = event.day;
+    let kind = event.kind;
+    let unit = event.unit;
+    let market = event.market;
+    let component = event.component;
     let at = put_field(out, at, day as u64, b' ');
     let at = put_field(out, at, kind as u64, b' ');
     let at = put_field(out, at, unit as u64, b' ');
@@ -32,7 +35,7 @@ fn put_event(event: &[u8], out: &mut [u8], at: usize) -> usize
 
 // Flags, mitigated, multiplier, penalty, make-up, with a line feed at the end.
 fn put_row(row: &[u8], out: &mut [u8], at: usize) -> usize
-    requires { ⌜ (length (now row) ≡ rowWidth) × (at + 105 ≤ length (now out)) ⌝ }
+    requires { ⌜ (length (now row) ≡ 32 + 4 * mostHours) × (at + 105 ≤ length (now out)) ⌝ }
     ensures { λ r. ⌜ Put (now (out .entry)) at (rowFields (now (row .entry))) (now (out .exit)) r × (r ≤ at + 105) ⌝ }
 {
     let flags = load_u32(row, 0);
@@ -48,14 +51,14 @@ fn put_row(row: &[u8], out: &mut [u8], at: usize) -> usize
 }
 
 // The lines of the first n events, from the start of out.
-pub fn put_lines(events: &[u8], rows: &[u8], n: usize, out: &mut [u8]) -> usize
-    requires { ⌜ (eventWidth * n ≤ length (now events)) × (rowWidth * n ≤ length (now rows)) × (210 * n ≤ length (now out)) ⌝ }
-    ensures { λ r. ⌜ Put (now (out .entry)) 0 (linesTo n (now (events .entry)) (now (rows .entry))) (now (out .exit)) r × (r ≤ 210 * n) ⌝ }
+pub fn put_lines(format: Format, events: &[u8], rows: &[u8], n: usize, out: &mut [u8]) -> usize
+    requires { ⌜ (n ≤ eventsIn format (now events) .count) × (rowWidth format * n ≤ length (now rows)) × (210 * n ≤ length (now out)) ⌝ }
+    ensures { λ r. ⌜ Put (now (out .entry)) 0 (linesTo format n (eventsIn format (now (events .entry))) (now (rows .entry))) (now (out .exit)) r × (r ≤ 210 * n) ⌝ }
 {
     let mut at = 0;
     let mut i = 0;
     while i < n {
-        let event = record_at(events, i, layout::EVENT_WIDTH);
+        let event = event_at(format, events, i);
         let row = record_at(rows, i, layout::ROW_WIDTH);
         let next = put_event(event, out, at);
         at = put_row(row, out, next);

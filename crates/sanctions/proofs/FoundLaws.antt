@@ -1,9 +1,9 @@
 -- What the code finds in bytes and tables is what the definitions say of the case.
-use Prim.Native.Nat.{ℕ, _+_, _*_, _/_, _≤_, _<_}
+use Prim.Native.Nat.{ℕ, _+_, _*_, _≤_, _<_}
 use mathlib.Core.Bool.{Bool, true, false, cond, _&&_, _||_}
 use mathlib.Core.List.{List}
 use mathlib.Core.Path.{_≡_, refl, sym, ap, ap₂, _∙_}
-use native.Mathlib.Nat.{zero-mul, add-assoc}
+use native.Mathlib.Nat.{zero-mul}
 use native.Mathlib.Omega.{arith}
 use lib.Dec.{eqb}
 use lib.ListN.{length, getD, set}
@@ -12,19 +12,18 @@ use Rattle.binary.specs.Bounded.{sumTo, countTo, bitOf}
 use Rattle.binary.specs.Lists.{Holds}
 use Rattle.binary.specs.Word.{positivePart, negativePart}
 use Rattle.binary.proofs.Implies.{and-l, and-r}
-use Rattle.binary.proofs.ByteLaws.{value-drop}
 use Rattle.binary.proofs.BoundedLaws.{sum-more, sum-same, sum-bound, count-same, any-same}
 use Rattle.binary.proofs.MaskLaws.{bit-mask, mask-any}
 use Rattle.tariff.specs.SanctionRules.{cents, ladder, withheldPenalty}
-use Rattle.casefile.specs.Layout.{eventWidth, pastWidth, mostHours, mostEvents}
+use Rattle.casefile.specs.declared.layout.Format.{Format}
+use Rattle.casefile.specs.Layout.{mostHours, mostEvents}
 use Rattle.casefile.specs.Case.{Case}
-use Rattle.casefile.specs.Decode.{pastIn, eventsIn, caseIn}
+use Rattle.casefile.specs.Decode.{pastIn, eventsIn, caseIn, cellsFrom, cellsIn}
 use Rattle.casefile.specs.Lookup.{groupOf}
 use Rattle.casefile.specs.StageRead.{cellOf}
 use Rattle.casefile.proofs.CheckedLaws.{holds-more}
 use Rattle.conduct.specs.Flags.{sumTogether, fuelFlag, flagged, flagMask}
 use Rattle.conduct.specs.StageParties.{RunsTogether, leaderOf}
-use Rattle.conduct.specs.StageFlags.{cellsIn}
 use Rattle.sanctions.specs.Penalties.{flaggedWithImpact, isInstance, countsHere, countsPast, instances, N3, N2, withheldMultiplier, withheldAmount, withheldPenaltyOf, dispatchMultiplier, dispatchRevenue, dispatchPenaltyOf, energyPart, gain, loss, tccChange, lowestUnit, pastFuel, fuelMultiplierAfter, fuelPenaltyUnder, fuelMultiplier, fuelPenaltyOf, multiplier, penalty, countsFuelHere}
 use Rattle.sanctions.specs.StageFound.{Accepted, FoundMasks, Sound, highestPenalty}
 use Rattle.sanctions.specs.StageTables.{hourEnergy, hourRevenue, withImpact, instanceAt, instanceOf, rowCounts, entryOf, entryCounts, instancesHere, instancesPast, instancesAt, noSanction, instanceRow, withheldRow, dispatchRow, energyIn, ledBy, energyAt, tccAt, partyDay, fuelRowCounts, fuelEntryCounts, multiplierAt, partyPenalty, fuelRow, rowAt, sanctionOf}
@@ -38,9 +37,9 @@ use Rattle.sanctions.proofs.PriorLaws.{prior-rows}
 use Rattle.sanctions.proofs.AcceptedLaws.{bare-component, ranges}
 
 -- b of event i and hour h, read in the part where its cells begin
-cell-price : (e : List ℕ) (i h : ℕ) → cellOf (cellsIn e i) h .b ≡ eventsIn e .b i h
+cell-price : (format : Format) (e : List ℕ) (i h : ℕ) → cellOf (cellsFrom format e i) h .b ≡ eventsIn format e .b i h
 unfolding cellOf cellsIn eventsIn
-cell-price e i h = simp (value-drop, add-assoc)
+cell-price format e i h = refl
 
 no-multiplier : (x : ℕ) → withheldPenalty 0 x ≡ 0
 unfolding withheldPenalty cents
@@ -72,42 +71,42 @@ pub record SanctionTurn (c : Case) (i total : ℕ) (s : Sanction) (penalties : L
   pub summed : total + s .penalty ≡ sumTo (i + 1) (penalty c)
   pub fits : total + s .penalty ≤ mostEvents * highestPenalty
 
-module _ (u r p e groups leaders masks : List ℕ) (acc : Accepted u p e) (found : FoundMasks (caseIn u r p e) (length e / eventWidth) groups leaders masks) where
+module _ (format : Format) (u r p e groups leaders masks : List ℕ) (acc : Accepted format u p e) (found : FoundMasks (caseIn format u r p e) (eventsIn format e .count) groups leaders masks) where
   abbrev c : Case
-  c = caseIn u r p e
+  c = caseIn format u r p e
 
   abbrev n : ℕ
-  n = length e / eventWidth
+  n = eventsIn format e .count
 
   mask-bit : (i h : ℕ) → i < n → h < mostHours → bitOf (getD masks i 0) h ≡ flagged c i h
   unfolding flagMask caseIn eventsIn
   mask-bit i h l m = rw (found .mask-held i l) (bit-mask mostHours h (flagged c i) m)
 
-  impact-mask : (i : ℕ) → i < n → withImpact e masks i ≡ flaggedWithImpact c i
+  impact-mask : (i : ℕ) → i < n → withImpact format e masks i ≡ flaggedWithImpact c i
   unfolding withImpact flaggedWithImpact flagMask caseIn eventsIn
   impact-mask i l = rw (found .mask-held i l, mask-any mostHours (flagged c i))
 
   -- ---- Withheld
 
-  instance-mask : (i : ℕ) → i < n → instanceAt e masks i ≡ isInstance c i
+  instance-mask : (i : ℕ) → i < n → instanceAt format e masks i ≡ isInstance c i
   unfolding instanceAt isInstance caseIn
   instance-mask i l = rw (impact-mask i l)
 
   rows-here : (i k : ℕ) → i < n
-      → countTo i (rowCounts e groups masks (getD groups i 0) (eventsIn e .market i) (eventsIn e .period i) k) ≡ countTo i (countsHere c k i)
+      → countTo i (rowCounts format e groups masks (getD groups i 0) (eventsIn format e .market i) (eventsIn format e .period i) k) ≡ countTo i (countsHere c k i)
   unfolding rowCounts instanceOf countsHere caseIn
   rows-here i k l =
       count-same i _ _ (λ j m. rw (instance-mask j (omega arith), found .group-held j (omega arith), found .group-held i l))
 
   entries : (i k : ℕ) → i < n
-      → countTo (length p / pastWidth) (entryCounts p (getD groups i 0) (eventsIn e .market i) (eventsIn e .period i) k)
-      ≡ countTo (length p / pastWidth) (λ j. countsPast c k i (pastIn p .entry j))
+      → countTo (pastIn p .count) (entryCounts p (getD groups i 0) (eventsIn format e .market i) (eventsIn format e .period i) k)
+      ≡ countTo (pastIn p .count) (λ j. countsPast c k i (pastIn p .entry j))
   unfolding entryCounts entryOf countsPast caseIn
-  entries i k l = count-same (length p / pastWidth) _ _ (λ j m. rw (found .group-held i l))
+  entries i k l = count-same (pastIn p .count) _ _ (λ j m. rw (found .group-held i l))
 
   -- N3 and N2 of the case
-  pub instances-are : (i : ℕ) → i < n → instancesAt p e groups masks i ≡ record { n3 = N3 c i; n2 = N2 c i }
-  unfolding instancesAt instancesHere instancesPast instances N3 N2 caseIn pastIn
+  pub instances-are : (i : ℕ) → i < n → instancesAt format p e groups masks i ≡ record { n3 = N3 c i; n2 = N2 c i }
+  unfolding instancesAt instancesHere instancesPast instances N3 N2 caseIn
   instances-are i l =
       rw (instance-mask i l, rows-here i 2 l, rows-here i 1 l, entries i 2 l, entries i 1 l) (go (isInstance c i) _ _)
     where
@@ -115,15 +114,15 @@ module _ (u r p e groups leaders masks : List ℕ) (acc : Accepted u p e) (found
       go true x y = refl
       go false x y = refl
 
-  amount-is : (i : ℕ) → i < n → sumTo mostHours (hourEnergy (positivePart 32) (cellsIn e i) (getD masks i 0)) ≡ withheldAmount c i
+  amount-is : (i : ℕ) → i < n → sumTo mostHours (hourEnergy (positivePart 32) (cellsFrom format e i) (getD masks i 0)) ≡ withheldAmount c i
   unfolding hourEnergy withheldAmount caseIn eventsIn
-  amount-is i l = sum-same mostHours _ _ (λ h m. rw (mask-bit i h l m, cell-amount e i h, cell-price e i h))
+  amount-is i l = sum-same mostHours _ _ (λ h m. rw (mask-bit i h l m, cell-amount format e i h, cell-price format e i h))
 
   some : (k i : ℕ) → instances c k i ≡ 0 → ⊥
   unfolding instances
   some k i z = omega arith
 
-  withheld-is : (i : ℕ) → i < n → withheldRow p e groups masks i ≡ row (withheldMultiplier c i) (N3 c i) (N2 c i) (withheldPenaltyOf c i)
+  withheld-is : (i : ℕ) → i < n → withheldRow format p e groups masks i ≡ row (withheldMultiplier c i) (N3 c i) (N2 c i) (withheldPenaltyOf c i)
   unfolding withheldRow instanceRow noSanction withheldMultiplier N3 N2 withheldPenaltyOf
   withheld-is i l =
       rw (instances-are i l, amount-is i l) (go (isInstance c i) (instances c 2 i) (instances c 1 i) (withheldAmount c i) (some 2 i))
@@ -135,17 +134,17 @@ module _ (u r p e groups leaders masks : List ℕ) (acc : Accepted u p e) (found
       go true x y z ne = rw (ne-eqb x 0 ne)
       go false x y z ne = ap (row 0 0 0) (sym (no-multiplier z))
 
-  no-instance : (i : ℕ) → eqb (eventsIn e .kind i) 1 ≡ false → (N3 c i ≡ 0) × (N2 c i ≡ 0)
+  no-instance : (i : ℕ) → eqb (eventsIn format e .kind i) 1 ≡ false → (N3 c i ≡ 0) × (N2 c i ≡ 0)
   unfolding N3 N2 isInstance caseIn
   no-instance i k = (rw k, rw k)
 
   -- ---- Dispatch
 
-  revenue-is : (i : ℕ) → i < n → sumTo mostHours (hourRevenue (cellsIn e i) (getD masks i 0)) ≡ dispatchRevenue c i
+  revenue-is : (i : ℕ) → i < n → sumTo mostHours (hourRevenue (cellsFrom format e i) (getD masks i 0)) ≡ dispatchRevenue c i
   unfolding hourRevenue dispatchRevenue caseIn eventsIn
-  revenue-is i l = sum-same mostHours _ _ (λ h m. rw (mask-bit i h l m, cell-price e i h))
+  revenue-is i l = sum-same mostHours _ _ (λ h m. rw (mask-bit i h l m, cell-price format e i h))
 
-  dispatch-is : (i : ℕ) → i < n → dispatchRow e masks i ≡ row (dispatchMultiplier c i) 0 0 (dispatchPenaltyOf c i)
+  dispatch-is : (i : ℕ) → i < n → dispatchRow format e masks i ≡ row (dispatchMultiplier c i) 0 0 (dispatchPenaltyOf c i)
   unfolding dispatchRow noSanction dispatchMultiplier dispatchPenaltyOf
   dispatch-is i l = rw (impact-mask i l, revenue-is i l) (go (flaggedWithImpact c i) _)
     where
@@ -155,89 +154,89 @@ module _ (u r p e groups leaders masks : List ℕ) (acc : Accepted u p e) (found
 
   -- ---- Fuel
 
-  union-bit : (i h : ℕ) → i < n → h < mostHours → eventsIn e .kind i ≡ 3 → bitOf (getD masks i 0) h ≡ fuelFlag c i h
+  union-bit : (i h : ℕ) → i < n → h < mostHours → eventsIn format e .kind i ≡ 3 → bitOf (getD masks i 0) h ≡ fuelFlag c i h
   unfolding flagged caseIn
   union-bit i h l m k = mask-bit i h l m ∙ rw k
 
-  led : (i : ℕ) (f g : ℕ → ℕ) → i < n → eventsIn e .kind i ≡ 3 → leaderOf c i ≡ i → ((j : ℕ) → f j ≡ g j) → sumTo n (ledBy leaders i f) ≡ sumTogether c i g
-  unfolding ledBy sumTogether caseIn eventsIn
+  led : (i : ℕ) (f g : ℕ → ℕ) → i < n → eventsIn format e .kind i ≡ 3 → leaderOf c i ≡ i → ((j : ℕ) → f j ≡ g j) → sumTo n (ledBy leaders i f) ≡ sumTogether c i g
+  unfolding ledBy sumTogether caseIn
   led i f g l k lead same = sum-same n _ _ (λ j m. rw (found .leader-held j m, leads c i j k lead, same j))
 
-  energy-is : (part : ℕ → ℕ) (i j : ℕ) → i < n → eventsIn e .kind i ≡ 3
-      → energyAt part e (getD masks i 0) j ≡ energyPart part c i j
+  energy-is : (part : ℕ → ℕ) (i j : ℕ) → i < n → eventsIn format e .kind i ≡ 3
+      → energyAt format part e (getD masks i 0) j ≡ energyPart part c i j
   unfolding energyIn hourEnergy energyPart caseIn eventsIn
   energy-is part i j l k =
-      ap (λ (x : ℕ). 10 * part (eventsIn e .Q j) + x) (sum-same mostHours _ _ (λ h m. rw (union-bit i h l m k, cell-amount e j h, cell-price e j h)))
+      ap (λ (x : ℕ). 10 * part (eventsIn format e .Q j) + x) (sum-same mostHours _ _ (λ h m. rw (union-bit i h l m k, cell-amount format e j h, cell-price format e j h)))
 
   multiplier-is : (penalties : List ℕ) (i : ℕ) → i < n → Holds i penalties (penalty c)
-      → multiplierAt p e groups penalties i ≡ fuelMultiplier c i
-  unfolding multiplierAt fuelMultiplier fuelRowCounts fuelEntryCounts countsFuelHere pastFuel caseIn pastIn
+      → multiplierAt format p e groups penalties i ≡ fuelMultiplier c i
+  unfolding multiplierAt fuelMultiplier fuelRowCounts fuelEntryCounts countsFuelHere pastFuel caseIn
   multiplier-is penalties i l held =
-      rw (found .group-held i l, prior-rows c i (eventsIn e .day i) (groupOf c i))
-      (ap (λ (b : Bool). fuelMultiplierAfter (b || pastFuel c (eventsIn e .day i) (groupOf c i)))
+      rw (found .group-held i l, prior-rows c i (eventsIn format e .day i) (groupOf c i))
+      (ap (λ (b : Bool). fuelMultiplierAfter (b || pastFuel c (eventsIn format e .day i) (groupOf c i)))
       (any-same i _ _ (λ j m. rw (held j m, found .group-held j (omega arith)))))
 
-  fuel-is : (penalties : List ℕ) (i : ℕ) → i < n → Holds i penalties (penalty c) → eventsIn e .kind i ≡ 3 → leaderOf c i ≡ i
-      → fuelRow p e groups leaders masks penalties i ≡ row (fuelMultiplier c i) 0 0 (fuelPenaltyOf c i)
+  fuel-is : (penalties : List ℕ) (i : ℕ) → i < n → Holds i penalties (penalty c) → eventsIn format e .kind i ≡ 3 → leaderOf c i ≡ i
+      → fuelRow format p e groups leaders masks penalties i ≡ row (fuelMultiplier c i) 0 0 (fuelPenaltyOf c i)
   unfolding fuelRow partyPenalty partyDay fuelPenaltyOf fuelPenaltyUnder gain loss tccChange caseIn
   fuel-is penalties i l held k lead =
       rw (
         multiplier-is penalties i l held,
         led i _ (energyPart (positivePart 32) c i) l k lead (λ j. energy-is (positivePart 32) i j l k),
         led i _ (energyPart (negativePart 32) c i) l k lead (λ j. energy-is (negativePart 32) i j l k),
-        led i (tccAt (positivePart 32) e) (λ j. positivePart 32 (c .events .R j)) l k lead (λ j. refl),
-        led i (tccAt (negativePart 32) e) (λ j. negativePart 32 (c .events .R j)) l k lead (λ j. refl),
+        led i (tccAt format (positivePart 32) e) (λ j. positivePart 32 (c .events .R j)) l k lead (λ j. refl),
+        led i (tccAt format (negativePart 32) e) (λ j. negativePart 32 (c .events .R j)) l k lead (λ j. refl),
       )
 
   -- the lowest unit's row is the leader's
   stands-is : (i : ℕ) → i < n
-      → (eqb (eventsIn e .kind i) 3 && eqb (getD leaders i 0) i) ≡ (eqb (eventsIn e .kind i) 3 && lowestUnit c i)
-  unfolding caseIn eventsIn
-  stands-is i l = go (eqb (eventsIn e .kind i) 3) refl
+      → (eqb (eventsIn format e .kind i) 3 && eqb (getD leaders i 0) i) ≡ (eqb (eventsIn format e .kind i) 3 && lowestUnit c i)
+  unfolding caseIn
+  stands-is i l = go (eqb (eventsIn format e .kind i) 3) refl
     where
-      go : (b : Bool) → eqb (eventsIn e .kind i) 3 ≡ b → (b && eqb (getD leaders i 0) i) ≡ (b && lowestUnit c i)
+      go : (b : Bool) → eqb (eventsIn format e .kind i) 3 ≡ b → (b && eqb (getD leaders i 0) i) ≡ (b && lowestUnit c i)
       go true k =
           rw (found .leader-held i l)
-          (sym (lowest-leader c (acc .order-fine) (λ j m q. bare-component u p e acc j m q) i l (eqb-true _ 3 k)))
+          (sym (lowest-leader c (acc .order-fine) (λ j m q. bare-component format u p e acc j m q) i l (eqb-true _ 3 k)))
       go false k = refl
 
   -- ---- every kind
 
   -- the row that the code finds, where the penalties of the rows before it stand in the table
   pub row-is : (penalties : List ℕ) (i : ℕ) → i < n → Holds i penalties (penalty c)
-      → rowAt p e groups leaders masks penalties i ≡ sanctionOf c i
+      → rowAt format p e groups leaders masks penalties i ≡ sanctionOf c i
   unfolding rowAt noSanction multiplier penalty caseIn
   row-is penalties i l held =
       rw (← stands-is i l)
-      (pick (eqb (eventsIn e .kind i) 1) (eqb (eventsIn e .kind i) 2) (eqb (eventsIn e .kind i) 3 && eqb (getD leaders i 0) i) _ _ _ _ _ _ _ _ _ _ _
+      (pick (eqb (eventsIn format e .kind i) 1) (eqb (eventsIn format e .kind i) 2) (eqb (eventsIn format e .kind i) 3 && eqb (getD leaders i 0) i) _ _ _ _ _ _ _ _ _ _ _
       (withheld-is i l)
       (λ t. no-instance i t)
       (dispatch-is i l)
       (λ t.
-      let x : eqb (eventsIn e .kind i) 3 ≡ true = and-l (eqb (eventsIn e .kind i) 3) (eqb (getD leaders i 0) i) t in
-      let y : eqb (getD leaders i 0) i ≡ true = and-r (eqb (eventsIn e .kind i) 3) (eqb (getD leaders i 0) i) t in
+      let x : eqb (eventsIn format e .kind i) 3 ≡ true = and-l (eqb (eventsIn format e .kind i) 3) (eqb (getD leaders i 0) i) t in
+      let y : eqb (getD leaders i 0) i ≡ true = and-r (eqb (eventsIn format e .kind i) 3) (eqb (getD leaders i 0) i) t in
       fuel-is penalties i l held (eqb-true _ 3 x) (sym (found .leader-held i l) ∙ eqb-true _ i y)))
 
-  pub sound : RunsTogether (eventsIn e) → Sound e leaders
+  pub sound : RunsTogether (eventsIn format e) → Sound format e leaders
   unfolding caseIn eventsIn
   sound together =
       record {
-        withheld = λ j l k h m. rw (cell-amount e j h) (ranges u p e acc r .withheld j h l m k .0);
-        fuel = λ j l k h m. rw (cell-amount e j h) (ranges u p e acc r .fuel j h l m k .0);
+        withheld = λ j l k h m. rw (cell-amount format e j h) (ranges format u p e acc r .withheld j h l m k .0);
+        fuel = λ j l k h m. rw (cell-amount format e j h) (ranges format u p e acc r .fuel j h l m k .0);
         runs = together;
         led = λ j l.
             let s = together-fields c j _ (leader-together c j) in
             rw (found .leader-held j l)
-            (fields-run (eventsIn e) (leaderOf c j) j (record { kind = sym (s .kind); day = sym (s .day); market = sym (s .market) }));
+            (fields-run (eventsIn format e) (leaderOf c j) j (record { kind = sym (s .kind); day = sym (s .day); market = sym (s .market) }));
         before = λ j l. rw (found .leader-held j l) (leader-le c j);
       }
 
   pub penalty-small : (i : ℕ) → i < n → penalty c i ≤ highestPenalty
-  unfolding caseIn eventsIn
-  penalty-small i l = penalty-bound c (ranges u p e acc r) i l
+  unfolding caseIn
+  penalty-small i l = penalty-bound c (ranges format u p e acc r) i l
 
   -- one turn of the loop over the events
-  pub sanction-turn : (s : Sanction) (penalties : List ℕ) (i total : ℕ) → s ≡ rowAt p e groups leaders masks penalties i → i < n
+  pub sanction-turn : (s : Sanction) (penalties : List ℕ) (i total : ℕ) → s ≡ rowAt format p e groups leaders masks penalties i → i < n
       → i < length penalties → Holds i penalties (penalty c) → total ≡ sumTo i (penalty c) → SanctionTurn c i total s penalties
   sanction-turn s penalties i total q l b held t =
       let row : s ≡ sanctionOf c i = q ∙ row-is penalties i l held in

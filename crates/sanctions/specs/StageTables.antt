@@ -1,18 +1,18 @@
 -- The figures of a row as the code finds them: in the bytes of past and events, in the tables that earlier stages have
 -- filled (groups, leaders, masks), and in the penalties of the rows before it.
-use Prim.Native.Nat.{ℕ, _+_, _-_, _*_, _/_}
+use Prim.Native.Nat.{ℕ, _+_, _-_, _*_}
 use mathlib.Core.Bool.{Bool, cond, _&&_, _||_}
 use mathlib.Core.List.{List}
 use lib.Dec.{ltb, eqb}
-use lib.ListN.{length, getD}
+use lib.ListN.{getD}
 use Rattle.binary.specs.Bounded.{sumTo, countTo, anyTo, bitOf}
 use Rattle.binary.specs.Word.{positivePart, negativePart}
 use Rattle.tariff.specs.SanctionRules.{periodCounts, ladder, withheldPenalty, dispatchPenalty, fuelDayCounts, fuelPenalty}
-use Rattle.casefile.specs.Layout.{eventWidth, pastWidth, mostHours}
+use Rattle.casefile.specs.declared.layout.Format.{Format}
+use Rattle.casefile.specs.Layout.{mostHours}
 use Rattle.casefile.specs.Case.{Case}
-use Rattle.casefile.specs.Decode.{pastIn, eventsIn}
+use Rattle.casefile.specs.Decode.{cellsFrom, pastIn, eventsIn}
 use Rattle.casefile.specs.StageRead.{cellOf}
-use Rattle.conduct.specs.StageFlags.{cellsIn}
 use Rattle.sanctions.specs.Penalties.{countsFuel, fuelMultiplierAfter, multiplier, N3, N2, penalty}
 use Rattle.sanctions.specs.declared.instances.Instances.{Instances}
 use Rattle.sanctions.specs.declared.fuel.Energy.{Energy}
@@ -32,22 +32,22 @@ hourRevenue cells mask h = cond (bitOf mask h) (cellOf cells h .b) 0
 -- ---- Withheld
 
 -- impact 1 and a flagged hour
-unfoldable pub withImpact : (events masks : List ℕ) (i : ℕ) → Bool
-withImpact events masks i = eqb (eventsIn events .impact i) 1 && ltb 0 (getD masks i 0)
+unfoldable pub withImpact : Format → (events masks : List ℕ) (i : ℕ) → Bool
+withImpact format events masks i = eqb (eventsIn format events .impact i) 1 && ltb 0 (getD masks i 0)
 
 -- event j is an instance
-unfoldable pub instanceAt : (events masks : List ℕ) (j : ℕ) → Bool
-instanceAt events masks j = eqb (eventsIn events .kind j) 1 && withImpact events masks j
+unfoldable pub instanceAt : Format → (events masks : List ℕ) (j : ℕ) → Bool
+instanceAt format events masks j = eqb (eventsIn format events .kind j) 1 && withImpact format events masks j
 
 -- and of this group and market
-unfoldable pub instanceOf : (events groups masks : List ℕ) (group market j : ℕ) → Bool
-instanceOf events groups masks group market j =
-    instanceAt events masks j && eqb (getD groups j 0) group && eqb (eventsIn events .market j) market
+unfoldable pub instanceOf : Format → (events groups masks : List ℕ) (group market j : ℕ) → Bool
+instanceOf format events groups masks group market j =
+    instanceAt format events masks j && eqb (getD groups j 0) group && eqb (eventsIn format events .market j) market
 
 -- and its period is the own one or one of the k before
-unfoldable pub rowCounts : (events groups masks : List ℕ) (group market period k j : ℕ) → Bool
-rowCounts events groups masks group market period k j =
-    instanceOf events groups masks group market j && periodCounts k period (eventsIn events .period j)
+unfoldable pub rowCounts : Format → (events groups masks : List ℕ) (group market period k j : ℕ) → Bool
+rowCounts format events groups masks group market period k j =
+    instanceOf format events groups masks group market j && periodCounts k period (eventsIn format events .period j)
 
 -- past entry j is of kind 1, and of this group and market
 unfoldable pub entryOf : (past : List ℕ) (group market j : ℕ) → Bool
@@ -59,27 +59,27 @@ entryCounts past group market period k j =
     entryOf past group market j && periodCounts k period (pastIn past .entry j .period)
 
 -- the instances on the first i rows
-unfoldable pub instancesHere : (events groups masks : List ℕ) (group market period i : ℕ) → Instances
-instancesHere events groups masks group market period i =
+unfoldable pub instancesHere : Format → (events groups masks : List ℕ) (group market period i : ℕ) → Instances
+instancesHere format events groups masks group market period i =
     record {
-      n3 = countTo i (rowCounts events groups masks group market period 2);
-      n2 = countTo i (rowCounts events groups masks group market period 1);
+      n3 = countTo i (rowCounts format events groups masks group market period 2);
+      n2 = countTo i (rowCounts format events groups masks group market period 1);
     }
 
 -- the past entries
 unfoldable pub instancesPast : (past : List ℕ) (group market period : ℕ) → Instances
 instancesPast past group market period =
     record {
-      n3 = countTo (length past / pastWidth) (entryCounts past group market period 2);
-      n2 = countTo (length past / pastWidth) (entryCounts past group market period 1);
+      n3 = countTo (pastIn past .count) (entryCounts past group market period 2);
+      n2 = countTo (pastIn past .count) (entryCounts past group market period 1);
     }
 
 -- N3 and N2 of row i: 1 plus both where it is an instance, else 0
-unfoldable pub instancesAt : (past events groups masks : List ℕ) (i : ℕ) → Instances
-instancesAt past events groups masks i =
-    cond (instanceAt events masks i)
-    (onePlus (instancesHere events groups masks (getD groups i 0) (eventsIn events .market i) (eventsIn events .period i) i)
-    (instancesPast past (getD groups i 0) (eventsIn events .market i) (eventsIn events .period i)))
+unfoldable pub instancesAt : Format → (past events groups masks : List ℕ) (i : ℕ) → Instances
+instancesAt format past events groups masks i =
+    cond (instanceAt format events masks i)
+    (onePlus (instancesHere format events groups masks (getD groups i 0) (eventsIn format events .market i) (eventsIn format events .period i) i)
+    (instancesPast past (getD groups i 0) (eventsIn format events .market i) (eventsIn format events .period i)))
     (record { n3 = 0; n2 = 0 })
   where
     onePlus : Instances → Instances → Instances
@@ -99,21 +99,21 @@ instanceRow x amount =
       penalty = withheldPenalty (ladder (x .n3) (x .n2)) amount;
     })
 
-unfoldable pub withheldRow : (past events groups masks : List ℕ) (i : ℕ) → Sanction
-withheldRow past events groups masks i =
-    instanceRow (instancesAt past events groups masks i)
-    (sumTo mostHours (hourEnergy (positivePart 32) (cellsIn events i) (getD masks i 0)))
+unfoldable pub withheldRow : Format → (past events groups masks : List ℕ) (i : ℕ) → Sanction
+withheldRow format past events groups masks i =
+    instanceRow (instancesAt format past events groups masks i)
+    (sumTo mostHours (hourEnergy (positivePart 32) (cellsFrom format events i) (getD masks i 0)))
 
 -- ---- Dispatch
 
-unfoldable pub dispatchRow : (events masks : List ℕ) (i : ℕ) → Sanction
-dispatchRow events masks i =
-    cond (withImpact events masks i)
+unfoldable pub dispatchRow : Format → (events masks : List ℕ) (i : ℕ) → Sanction
+dispatchRow format events masks i =
+    cond (withImpact format events masks i)
     (record {
       multiplier = 3;
       n3 = 0;
       n2 = 0;
-      penalty = dispatchPenalty (sumTo mostHours (hourRevenue (cellsIn events i) (getD masks i 0)));
+      penalty = dispatchPenalty (sumTo mostHours (hourRevenue (cellsFrom format events i) (getD masks i 0)));
     })
     noSanction
 
@@ -131,68 +131,68 @@ unfoldable pub ledBy : (leaders : List ℕ) (i : ℕ) (figure : ℕ → ℕ) (j 
 ledBy leaders i figure j = cond (eqb (getD leaders j 0) i) (figure j) 0
 
 -- the figures of event j that its party-day sums
-abbrev pub energyAt : (part : ℕ → ℕ) (events : List ℕ) (mask j : ℕ) → ℕ
-energyAt part events mask j = energyIn part (eventsIn events .Q j) (cellsIn events j) mask
+abbrev pub energyAt : Format → (part : ℕ → ℕ) (events : List ℕ) (mask j : ℕ) → ℕ
+energyAt format part events mask j = energyIn part (eventsIn format events .Q j) (cellsFrom format events j) mask
 
-abbrev pub tccAt : (part : ℕ → ℕ) (events : List ℕ) (j : ℕ) → ℕ
-tccAt part events j = part (eventsIn events .R j)
+abbrev pub tccAt : Format → (part : ℕ → ℕ) (events : List ℕ) (j : ℕ) → ℕ
+tccAt format part events j = part (eventsIn format events .R j)
 
-unfoldable pub partyShare : (events leaders : List ℕ) (mask i j : ℕ) → PartyDay
-partyShare events leaders mask i j =
+unfoldable pub partyShare : Format → (events leaders : List ℕ) (mask i j : ℕ) → PartyDay
+partyShare format events leaders mask i j =
     record {
-      gain = ledBy leaders i (energyAt (positivePart 32) events mask) j;
-      loss = ledBy leaders i (energyAt (negativePart 32) events mask) j;
-      rise = ledBy leaders i (tccAt (positivePart 32) events) j;
-      fall = ledBy leaders i (tccAt (negativePart 32) events) j;
+      gain = ledBy leaders i (energyAt format (positivePart 32) events mask) j;
+      loss = ledBy leaders i (energyAt format (negativePart 32) events mask) j;
+      rise = ledBy leaders i (tccAt format (positivePart 32) events) j;
+      fall = ledBy leaders i (tccAt format (negativePart 32) events) j;
     }
 
 -- the sums over the first n events
-unfoldable pub partyDay : (events leaders : List ℕ) (mask i n : ℕ) → PartyDay
-partyDay events leaders mask i n =
+unfoldable pub partyDay : Format → (events leaders : List ℕ) (mask i n : ℕ) → PartyDay
+partyDay format events leaders mask i n =
     record {
-      gain = sumTo n (ledBy leaders i (energyAt (positivePart 32) events mask));
-      loss = sumTo n (ledBy leaders i (energyAt (negativePart 32) events mask));
-      rise = sumTo n (ledBy leaders i (tccAt (positivePart 32) events));
-      fall = sumTo n (ledBy leaders i (tccAt (negativePart 32) events));
+      gain = sumTo n (ledBy leaders i (energyAt format (positivePart 32) events mask));
+      loss = sumTo n (ledBy leaders i (energyAt format (negativePart 32) events mask));
+      rise = sumTo n (ledBy leaders i (tccAt format (positivePart 32) events));
+      fall = sumTo n (ledBy leaders i (tccAt format (negativePart 32) events));
     }
 
 -- row j has a fuel penalty above 0 of this group, 1 to 183 days before
-unfoldable pub fuelRowCounts : (events groups penalties : List ℕ) (day group j : ℕ) → Bool
-fuelRowCounts events groups penalties day group j =
-    ltb 0 (getD penalties j 0) && eqb (eventsIn events .kind j) 3 && eqb (getD groups j 0) group
-    && fuelDayCounts day (eventsIn events .day j)
+unfoldable pub fuelRowCounts : Format → (events groups penalties : List ℕ) (day group j : ℕ) → Bool
+fuelRowCounts format events groups penalties day group j =
+    ltb 0 (getD penalties j 0) && eqb (eventsIn format events .kind j) 3 && eqb (getD groups j 0) group
+    && fuelDayCounts day (eventsIn format events .day j)
 
 unfoldable pub fuelEntryCounts : (past : List ℕ) (day group j : ℕ) → Bool
 fuelEntryCounts past day group j = countsFuel day group (pastIn past .entry j)
 
-unfoldable pub multiplierAt : (past events groups penalties : List ℕ) (i : ℕ) → ℕ
-multiplierAt past events groups penalties i =
+unfoldable pub multiplierAt : Format → (past events groups penalties : List ℕ) (i : ℕ) → ℕ
+multiplierAt format past events groups penalties i =
     fuelMultiplierAfter
-    (anyTo i (fuelRowCounts events groups penalties (eventsIn events .day i) (getD groups i 0))
-    || anyTo (length past / pastWidth) (fuelEntryCounts past (eventsIn events .day i) (getD groups i 0)))
+    (anyTo i (fuelRowCounts format events groups penalties (eventsIn format events .day i) (getD groups i 0))
+    || anyTo (pastIn past .count) (fuelEntryCounts past (eventsIn format events .day i) (getD groups i 0)))
 
 -- the penalty of a party-day under M
 unfoldable pub partyPenalty : (M : ℕ) → PartyDay → ℕ
 partyPenalty M d = fuelPenalty M (d .gain) (d .loss) (d .rise - d .fall)
 
-unfoldable pub fuelRow : (past events groups leaders masks penalties : List ℕ) (i : ℕ) → Sanction
-fuelRow past events groups leaders masks penalties i =
+unfoldable pub fuelRow : Format → (past events groups leaders masks penalties : List ℕ) (i : ℕ) → Sanction
+fuelRow format past events groups leaders masks penalties i =
     record {
-      multiplier = multiplierAt past events groups penalties i;
+      multiplier = multiplierAt format past events groups penalties i;
       n3 = 0;
       n2 = 0;
       penalty =
-          partyPenalty (multiplierAt past events groups penalties i)
-          (partyDay events leaders (getD masks i 0) i (length events / eventWidth));
+          partyPenalty (multiplierAt format past events groups penalties i)
+          (partyDay format events leaders (getD masks i 0) i (eventsIn format events .count));
     }
 
 -- ---- every kind
 
-unfoldable pub rowAt : (past events groups leaders masks penalties : List ℕ) (i : ℕ) → Sanction
-rowAt past events groups leaders masks penalties i =
-    cond (eqb (eventsIn events .kind i) 1) (withheldRow past events groups masks i)
-    (cond (eqb (eventsIn events .kind i) 2) (dispatchRow events masks i)
-    (cond (eqb (eventsIn events .kind i) 3 && eqb (getD leaders i 0) i) (fuelRow past events groups leaders masks penalties i)
+unfoldable pub rowAt : Format → (past events groups leaders masks penalties : List ℕ) (i : ℕ) → Sanction
+rowAt format past events groups leaders masks penalties i =
+    cond (eqb (eventsIn format events .kind i) 1) (withheldRow format past events groups masks i)
+    (cond (eqb (eventsIn format events .kind i) 2) (dispatchRow format events masks i)
+    (cond (eqb (eventsIn format events .kind i) 3 && eqb (getD leaders i 0) i) (fuelRow format past events groups leaders masks penalties i)
     noSanction))
 
 -- what the definitions say of row i

@@ -1,22 +1,24 @@
 // The sanction of a dispatch failure (tariff 23.4.3.3.2).
 ghost use mathlib.Core.Path.{_≡_};
-ghost use Prim.Native.Nat.{_*_, _/_, _≤_, _<_};
+ghost use Prim.Native.Nat.{_*_, _≤_, _<_};
 ghost use lib.ListN.{length};
 ghost use Rattle.binary.specs.Bounded.{sumTo};
-ghost use Rattle.casefile.specs.Layout.{mostHours, cellWidth, eventWidth, mostEvents};
+ghost use Rattle.casefile.specs.Decode.{eventsIn};
+ghost use Rattle.casefile.specs.Layout.{mostHours, cellWidth, mostEvents};
 ghost use Rattle.sanctions.specs.StageTables.{hourRevenue, dispatchRow};
 use crate::instances::with_impact;
 use crate::sanction::Sanction;
 use binary::masks::bit_of;
 use binary::numbers::choose_u32;
 use casefile::cells::cell_at;
+use casefile::events::event_cells;
 use casefile::layout;
-use conduct::sums::cells_of;
+use casefile::layout::Format;
 use tariff::sanction_rules::dispatch_penalty;
 
 // The added revenue, where the mask has the hour.
 fn hour_revenue(cells: &[u8], mask: u32, h: usize) -> u32
-    requires { ⌜ (h < mostHours) × (length (now cells) ≡ cellWidth * mostHours) ⌝ }
+    requires { ⌜ (h < mostHours) × (cellWidth * mostHours ≤ length (now cells)) ⌝ }
     ensures { λ r. ⌜ r ≡ hourRevenue (now (cells .entry)) mask h ⌝ }
 {
     let cell = cell_at(cells, h);
@@ -27,7 +29,7 @@ fn hour_revenue(cells: &[u8], mask: u32, h: usize) -> u32
 
 // The sum over flagged hours.
 fn revenue(cells: &[u8], mask: u32) -> u64
-    requires { ⌜ length (now cells) ≡ cellWidth * mostHours ⌝ }
+    requires { ⌜ cellWidth * mostHours ≤ length (now cells) ⌝ }
     ensures { λ r. ⌜ (r ≡ sumTo mostHours (hourRevenue (now (cells .entry)) mask)) × (r ≤ 1000000000000000000) ⌝ }
 {
     let mut sum: u64 = 0;
@@ -40,11 +42,16 @@ fn revenue(cells: &[u8], mask: u32) -> u64
 }
 
 // Multiplier 3 and the penalty, with impact 1 and a flag; else both 0.
-pub fn dispatch(events: &[u8], masks: &[u32; layout::MOST_EVENTS], i: usize) -> Sanction
-    requires { ⌜ (i < length (now events) / eventWidth) × (i < mostEvents) ⌝ }
-    ensures { λ r. ⌜ r ≡ dispatchRow (now (events .entry)) (now (masks .entry)) i ⌝ }
+pub fn dispatch(
+    format: Format,
+    events: &[u8],
+    masks: &[u32; layout::MOST_EVENTS],
+    i: usize,
+) -> Sanction
+    requires { ⌜ (i < eventsIn format (now events) .count) × (i < mostEvents) ⌝ }
+    ensures { λ r. ⌜ r ≡ dispatchRow format (now (events .entry)) (now (masks .entry)) i ⌝ }
 {
-    if !with_impact(events, masks, i) {
+    if !with_impact(format, events, masks, i) {
         return Sanction {
             multiplier: 0,
             n3: 0,
@@ -52,7 +59,7 @@ pub fn dispatch(events: &[u8], masks: &[u32; layout::MOST_EVENTS], i: usize) -> 
             penalty: 0,
         };
     }
-    let cells = cells_of(events, i);
+    let cells = event_cells(format, events, i);
     let penalty = dispatch_penalty(revenue(cells, masks[i]));
     Sanction {
         multiplier: 3,

@@ -1,18 +1,15 @@
 // The sanction of a party-day with inaccurate fuel data (tariff 23.4.3.3.3), found at its first event.
 ghost use mathlib.Core.Path.{_≡_};
-ghost use Prim.Native.Nat.{_*_, _/_, _≤_, _<_};
+ghost use Prim.Native.Nat.{_*_, _≤_, _<_};
 ghost use lib.ListN.{length};
 ghost use Rattle.binary.specs.Bounded.{anyTo};
 ghost use Rattle.binary.specs.Word.{positivePart, negativePart};
-ghost use Rattle.casefile.specs.Layout.{cellWidth, mostHours, eventWidth, mostEvents, pastWidth};
-ghost use Rattle.casefile.specs.Decode.{eventsIn};
+ghost use Rattle.casefile.specs.Layout.{cellWidth, mostHours, mostEvents};
+ghost use Rattle.casefile.specs.Decode.{eventsIn, pastIn};
 ghost use Rattle.sanctions.specs.Penalties.{fuelMultiplierAfter};
 ghost use Rattle.sanctions.specs.StageFound.{SmallAmounts, Sound};
 ghost use Rattle.sanctions.specs.StageTables.{hourEnergy, energyOf, partyShare, partyDay, fuelRowCounts, fuelEntryCounts, fuelRow};
 use crate::sanction::Sanction;
-use binary::bytes::load_u8;
-use binary::bytes::load_u16;
-use binary::bytes::load_u32;
 use binary::masks::bit_of;
 use binary::numbers::choose_u64;
 use binary::numbers::difference;
@@ -21,10 +18,13 @@ use binary::numbers::wide;
 use binary::words::negative_part;
 use binary::words::positive_part;
 use casefile::cells::cell_at;
+use casefile::events::event_at;
+use casefile::events::event_cells;
 use casefile::layout;
-use casefile::records::record_at;
+use casefile::layout::Format;
+use casefile::past::entry_at;
+use casefile::past::entry_count;
 use conduct::parties::run_end;
-use conduct::sums::cells_of;
 use tariff::sanction_rules::fuel_day_counts;
 use tariff::sanction_rules::fuel_penalty;
 
@@ -44,7 +44,7 @@ pub struct PartyDay {
 
 // a × b where the mask has the hour: its gain or its loss.
 fn hour_energy(cells: &[u8], mask: u32, h: usize) -> Energy
-    requires { ⌜ (h < mostHours) × (length (now cells) ≡ cellWidth * mostHours) ⌝ }
+    requires { ⌜ (h < mostHours) × (cellWidth * mostHours ≤ length (now cells)) ⌝ }
     ensures { λ r. ⌜ (r .gain ≡ hourEnergy (positivePart 32) (now (cells .entry)) mask h) × (r .loss ≡ hourEnergy (negativePart 32) (now (cells .entry)) mask h) ⌝ }
 {
     let cell = cell_at(cells, h);
@@ -58,7 +58,7 @@ fn hour_energy(cells: &[u8], mask: u32, h: usize) -> Energy
 
 // An event's part of E: 10 × Q, and a × b over the hours of the mask.
 fn event_energy(q: u32, cells: &[u8], mask: u32) -> Energy
-    requires { ⌜ (length (now cells) ≡ cellWidth * mostHours) × SmallAmounts (now cells) ⌝ }
+    requires { ⌜ (cellWidth * mostHours ≤ length (now cells)) × SmallAmounts (now cells) ⌝ }
     ensures { λ r. ⌜ r ≡ energyOf q (now (cells .entry)) mask ⌝ }
 {
     let mut gain = 10 * wide(positive_part(q));
@@ -75,14 +75,15 @@ fn event_energy(q: u32, cells: &[u8], mask: u32) -> Energy
 
 // What event j adds to the party-day that event i leads.
 fn party_share(
+    format: Format,
     events: &[u8],
     leaders: &[usize; layout::MOST_EVENTS],
     mask: u32,
     i: usize,
     j: usize,
 ) -> PartyDay
-    requires { ⌜ (j < length (now events) / eventWidth) × (j < mostEvents) × (eventsIn (now events) .kind i ≡ 3) × Sound (now events) (now leaders) ⌝ }
-    ensures { λ r. ⌜ r ≡ partyShare (now (events .entry)) (now (leaders .entry)) mask i j ⌝ }
+    requires { ⌜ (j < eventsIn format (now events) .count) × (j < mostEvents) × (eventsIn format (now events) .kind i ≡ 3) × Sound format (now events) (now leaders) ⌝ }
+    ensures { λ r. ⌜ r ≡ partyShare format (now (events .entry)) (now (leaders .entry)) mask i j ⌝ }
 {
     if leaders[j] != i {
         return PartyDay {
@@ -92,10 +93,10 @@ fn party_share(
             fall: 0,
         };
     }
-    let event = record_at(events, j, layout::EVENT_WIDTH);
-    let q = load_u32(event, 16);
-    let r = load_u32(event, 20);
-    let cells = cells_of(events, j);
+    let event = event_at(format, events, j);
+    let q = event.q;
+    let r = event.r;
+    let cells = event_cells(format, events, j);
     let e = event_energy(q, cells, mask);
     let rise = wide(positive_part(r));
     let fall = wide(negative_part(r));
@@ -108,18 +109,24 @@ fn party_share(
 }
 
 // The sums of the party-day that event i leads: no event before it is of that party-day, and none from its run's end on.
-fn party_day(events: &[u8], leaders: &[usize; layout::MOST_EVENTS], mask: u32, i: usize) -> PartyDay
-    requires { ⌜ (i < length (now events) / eventWidth) × (length (now events) / eventWidth ≤ mostEvents) × (eventsIn (now events) .kind i ≡ 3) × Sound (now events) (now leaders) ⌝ }
-    ensures { λ r. ⌜ r ≡ partyDay (now (events .entry)) (now (leaders .entry)) mask i (length (now (events .entry)) / eventWidth) ⌝ }
+fn party_day(
+    format: Format,
+    events: &[u8],
+    leaders: &[usize; layout::MOST_EVENTS],
+    mask: u32,
+    i: usize,
+) -> PartyDay
+    requires { ⌜ (i < eventsIn format (now events) .count) × (eventsIn format (now events) .count ≤ mostEvents) × (eventsIn format (now events) .kind i ≡ 3) × Sound format (now events) (now leaders) ⌝ }
+    ensures { λ r. ⌜ r ≡ partyDay format (now (events .entry)) (now (leaders .entry)) mask i (eventsIn format (now (events .entry)) .count) ⌝ }
 {
-    let end = run_end(events, i);
+    let end = run_end(format, events, i);
     let mut gain: u64 = 0;
     let mut loss: u64 = 0;
     let mut rise: u64 = 0;
     let mut fall: u64 = 0;
     let mut j = i;
     while j < end {
-        let share = party_share(events, leaders, mask, i, j);
+        let share = party_share(format, events, leaders, mask, i, j);
         gain += share.gain;
         loss += share.loss;
         rise += share.rise;
@@ -136,6 +143,7 @@ fn party_day(events: &[u8], leaders: &[usize; layout::MOST_EVENTS], mask: u32, i
 
 // Whether row j has a fuel penalty above 0 of a group, 1 to 183 days before a day.
 fn is_prior(
+    format: Format,
     events: &[u8],
     groups: &[u16; layout::MOST_EVENTS],
     penalties: &[u64; layout::MOST_EVENTS],
@@ -143,17 +151,18 @@ fn is_prior(
     group: u16,
     j: usize,
 ) -> bool
-    requires { ⌜ (j < length (now events) / eventWidth) × (j < mostEvents) ⌝ }
-    ensures { λ r. ⌜ r ≡ fuelRowCounts (now (events .entry)) (now (groups .entry)) (now (penalties .entry)) day group j ⌝ }
+    requires { ⌜ (j < eventsIn format (now events) .count) × (j < mostEvents) ⌝ }
+    ensures { λ r. ⌜ r ≡ fuelRowCounts format (now (events .entry)) (now (groups .entry)) (now (penalties .entry)) day group j ⌝ }
 {
-    let event = record_at(events, j, layout::EVENT_WIDTH);
-    let kind = load_u8(event, 0);
-    let near = fuel_day_counts(day, load_u32(event, 8));
+    let event = event_at(format, events, j);
+    let kind = event.kind;
+    let near = fuel_day_counts(day, event.day);
     (0 < penalties[j]) & (kind == 3) & (groups[j] == group) & near
 }
 
 // Whether one of the first i rows has such a penalty.
 fn prior_here(
+    format: Format,
     events: &[u8],
     groups: &[u16; layout::MOST_EVENTS],
     penalties: &[u64; layout::MOST_EVENTS],
@@ -161,13 +170,13 @@ fn prior_here(
     group: u16,
     i: usize,
 ) -> bool
-    requires { ⌜ (i ≤ length (now events) / eventWidth) × (i ≤ mostEvents) ⌝ }
-    ensures { λ r. ⌜ r ≡ anyTo i (fuelRowCounts (now (events .entry)) (now (groups .entry)) (now (penalties .entry)) day group) ⌝ }
+    requires { ⌜ (i ≤ eventsIn format (now events) .count) × (i ≤ mostEvents) ⌝ }
+    ensures { λ r. ⌜ r ≡ anyTo i (fuelRowCounts format (now (events .entry)) (now (groups .entry)) (now (penalties .entry)) day group) ⌝ }
 {
     let mut any = false;
     let mut j = 0;
     while j < i {
-        any = any | is_prior(events, groups, penalties, day, group, j);
+        any = any | is_prior(format, events, groups, penalties, day, group, j);
         j += 1;
     }
     any
@@ -175,20 +184,20 @@ fn prior_here(
 
 // Whether past entry j is of kind 3 and of a group, 1 to 183 days before a day.
 fn is_prior_entry(past: &[u8], day: u32, group: u16, j: usize) -> bool
-    requires { ⌜ j < length (now past) / pastWidth ⌝ }
+    requires { ⌜ j < pastIn (now past) .count ⌝ }
     ensures { λ r. ⌜ r ≡ fuelEntryCounts (now (past .entry)) day group j ⌝ }
 {
-    let entry = record_at(past, j, layout::PAST_WIDTH);
-    let its_group = load_u16(entry, 0);
-    let kind = load_u8(entry, 2);
-    let near = fuel_day_counts(day, load_u32(entry, 8));
+    let entry = entry_at(past, j);
+    let its_group = entry.group;
+    let kind = entry.kind;
+    let near = fuel_day_counts(day, entry.day);
     (kind == 3) & (its_group == group) & near
 }
 
 fn prior_past(past: &[u8], day: u32, group: u16) -> bool
-    ensures { λ r. ⌜ r ≡ anyTo (length (now (past .entry)) / pastWidth) (fuelEntryCounts (now (past .entry)) day group) ⌝ }
+    ensures { λ r. ⌜ r ≡ anyTo (pastIn (now (past .entry)) .count) (fuelEntryCounts (now (past .entry)) day group) ⌝ }
 {
-    let n = past.len() / layout::PAST_WIDTH;
+    let n = entry_count(past);
     let mut any = false;
     let mut j = 0;
     while j < n {
@@ -207,6 +216,7 @@ fn multiplier_after(prior: bool) -> u8
 
 // M and the penalty of the party-day that event i leads.
 pub fn fuel(
+    format: Format,
     past: &[u8],
     events: &[u8],
     groups: &[u16; layout::MOST_EVENTS],
@@ -215,16 +225,16 @@ pub fn fuel(
     penalties: &[u64; layout::MOST_EVENTS],
     i: usize,
 ) -> Sanction
-    requires { ⌜ (i < length (now events) / eventWidth) × (length (now events) / eventWidth ≤ mostEvents) × (eventsIn (now events) .kind i ≡ 3) × Sound (now events) (now leaders) ⌝ }
-    ensures { λ r. ⌜ r ≡ fuelRow (now (past .entry)) (now (events .entry)) (now (groups .entry)) (now (leaders .entry)) (now (masks .entry)) (now (penalties .entry)) i ⌝ }
+    requires { ⌜ (i < eventsIn format (now events) .count) × (eventsIn format (now events) .count ≤ mostEvents) × (eventsIn format (now events) .kind i ≡ 3) × Sound format (now events) (now leaders) ⌝ }
+    ensures { λ r. ⌜ r ≡ fuelRow format (now (past .entry)) (now (events .entry)) (now (groups .entry)) (now (leaders .entry)) (now (masks .entry)) (now (penalties .entry)) i ⌝ }
 {
-    let event = record_at(events, i, layout::EVENT_WIDTH);
-    let day = load_u32(event, 8);
+    let event = event_at(format, events, i);
+    let day = event.day;
     let group = groups[i];
-    let here = prior_here(events, groups, penalties, day, group, i);
+    let here = prior_here(format, events, groups, penalties, day, group, i);
     let outside = prior_past(past, day, group);
     let multiplier = multiplier_after(here | outside);
-    let sums = party_day(events, leaders, masks[i], i);
+    let sums = party_day(format, events, leaders, masks[i], i);
     let tcc = difference(sums.rise, sums.fall);
     let penalty = fuel_penalty(multiplier, sums.gain, sums.loss, tcc);
     Sanction {

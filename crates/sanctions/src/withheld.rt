@@ -1,11 +1,11 @@
 // The sanction of a withheld event (tariff 23.4.3.3.1).
 ghost use mathlib.Core.Path.{_≡_};
-ghost use Prim.Native.Nat.{_*_, _/_, _≤_, _<_};
+ghost use Prim.Native.Nat.{_*_, _≤_, _<_};
 ghost use lib.ListN.{length};
 ghost use Rattle.binary.specs.Bounded.{sumTo};
 ghost use Rattle.binary.specs.Word.{positivePart};
-ghost use Rattle.casefile.specs.Layout.{mostHours, cellWidth, eventWidth, pastWidth, mostPast, mostEvents};
-ghost use Rattle.conduct.specs.StageFlags.{cellsIn};
+ghost use Rattle.casefile.specs.Decode.{eventsIn, pastIn, cellsFrom};
+ghost use Rattle.casefile.specs.Layout.{mostHours, cellWidth, mostPast, mostEvents};
 ghost use Rattle.sanctions.specs.StageFound.{SmallAmounts};
 ghost use Rattle.sanctions.specs.StageTables.{hourEnergy, withheldRow};
 use crate::instances::instances_at;
@@ -15,14 +15,15 @@ use binary::numbers::choose_u64;
 use binary::numbers::product;
 use binary::words::positive_part;
 use casefile::cells::cell_at;
+use casefile::events::event_cells;
 use casefile::layout;
-use conduct::sums::cells_of;
+use casefile::layout::Format;
 use tariff::sanction_rules::ladder;
 use tariff::sanction_rules::withheld_penalty;
 
 // a × (b, or 0 if negative), where the mask has the hour.
 fn hour_amount(cells: &[u8], mask: u32, h: usize) -> u64
-    requires { ⌜ (h < mostHours) × (length (now cells) ≡ cellWidth * mostHours) ⌝ }
+    requires { ⌜ (h < mostHours) × (cellWidth * mostHours ≤ length (now cells)) ⌝ }
     ensures { λ r. ⌜ r ≡ hourEnergy (positivePart 32) (now (cells .entry)) mask h ⌝ }
 {
     let cell = cell_at(cells, h);
@@ -34,7 +35,7 @@ fn hour_amount(cells: &[u8], mask: u32, h: usize) -> u64
 
 // The sum over flagged hours.
 fn amount(cells: &[u8], mask: u32) -> u64
-    requires { ⌜ (length (now cells) ≡ cellWidth * mostHours) × SmallAmounts (now cells) ⌝ }
+    requires { ⌜ (cellWidth * mostHours ≤ length (now cells)) × SmallAmounts (now cells) ⌝ }
     ensures { λ r. ⌜ (r ≡ sumTo mostHours (hourEnergy (positivePart 32) (now (cells .entry)) mask)) × (r ≤ 10000000000000000) ⌝ }
 {
     let mut sum: u64 = 0;
@@ -48,16 +49,17 @@ fn amount(cells: &[u8], mask: u32) -> u64
 
 // The multiplier, N3, N2 and the penalty of an instance; all 0 where the event is none.
 pub fn withheld(
+    format: Format,
     past: &[u8],
     events: &[u8],
     groups: &[u16; layout::MOST_EVENTS],
     masks: &[u32; layout::MOST_EVENTS],
     i: usize,
 ) -> Sanction
-    requires { ⌜ (i < length (now events) / eventWidth) × (i < mostEvents) × (length (now past) / pastWidth ≤ mostPast) × SmallAmounts (cellsIn (now events) i) ⌝ }
-    ensures { λ r. ⌜ r ≡ withheldRow (now (past .entry)) (now (events .entry)) (now (groups .entry)) (now (masks .entry)) i ⌝ }
+    requires { ⌜ (i < eventsIn format (now events) .count) × (i < mostEvents) × (pastIn (now past) .count ≤ mostPast) × SmallAmounts (cellsFrom format (now events) i) ⌝ }
+    ensures { λ r. ⌜ r ≡ withheldRow format (now (past .entry)) (now (events .entry)) (now (groups .entry)) (now (masks .entry)) i ⌝ }
 {
-    let counts = instances_at(past, events, groups, masks, i);
+    let counts = instances_at(format, past, events, groups, masks, i);
     let n3 = counts.n3;
     let n2 = counts.n2;
     if n3 == 0 {
@@ -69,7 +71,7 @@ pub fn withheld(
         };
     }
     let multiplier = ladder(n3 as u32, n2 as u32);
-    let cells = cells_of(events, i);
+    let cells = event_cells(format, events, i);
     let penalty = withheld_penalty(multiplier, amount(cells, masks[i]));
     Sanction {
         multiplier,

@@ -1,5 +1,5 @@
 -- What the loop over the events finds is the row of the file.
-use Prim.Native.Nat.{ℕ, _+_, _*_, _/_, _≤_, _<_}
+use Prim.Native.Nat.{ℕ, _+_, _*_, _≤_, _<_}
 use mathlib.Core.Bool.{true}
 use mathlib.Core.List.{List, _++_}
 use mathlib.Core.Path.{_≡_, refl, ap, _∙_}
@@ -7,8 +7,9 @@ use lib.ListN.{length, getD, drop}
 use Rattle.binary.specs.Bounded.{sumTo}
 use Rattle.binary.specs.Lists.{listTo, joinTo, Bytes, Holds}
 use Rattle.binary.proofs.BoundedLaws.{sum-more}
-use Rattle.casefile.specs.Layout.{eventWidth, unitWidth, pastWidth, sectionCount, mostHours, mostEvents, mostPast, rowWidth}
-use Rattle.casefile.specs.Decode.{sectionOf, unitsIn, pastIn, eventsIn, caseIn, decode, HasSection}
+use Rattle.casefile.specs.declared.layout.Format.{Format}
+use Rattle.casefile.specs.Layout.{sectionCount, mostHours, mostEvents, mostPast, rowWidth}
+use Rattle.casefile.specs.Decode.{formatIn, sectionOf, unitsIn, pastIn, eventsIn, caseIn, decode, HasSection}
 use Rattle.casefile.specs.Lookup.{unitOf}
 use Rattle.casefile.specs.Refusal.{eventsFine}
 use Rattle.casefile.proofs.AcceptedLaws as case
@@ -27,9 +28,9 @@ use Rattle.settlement.specs.declared.rows.Row.{Row}
 use Rattle.settlement.specs.StageRow.{writtenRow, rowBy, tableRow}
 use Rattle.settlement.specs.StageRows.{FoundFlags, rowIn, rowsIn, totalsIn}
 
-pub count-is : (f e : List ℕ) → e ≡ sectionOf f 3 → length e / eventWidth ≡ decode f .events .count
-unfolding decode caseIn eventsIn
-count-is f e q = rw q
+pub count-is : (f : List ℕ) (format : Format) (e : List ℕ) → format ≡ formatIn f → e ≡ sectionOf f 3 → eventsIn format e .count ≡ decode f .events .count
+unfolding decode caseIn
+count-is f format e ef ee = rw (ef, ee)
 
 module _ (f : List ℕ) (acc : AcceptedFile f) where
   pub has-section : (k : ℕ) → k < sectionCount → HasSection f k
@@ -38,54 +39,55 @@ module _ (f : List ℕ) (acc : AcceptedFile f) where
   pub few : decode f .events .count ≤ mostEvents
   few = case.events-count f (acc .correction) (acc .rowsLength) (acc .accepted)
 
-  module _ (u p e : List ℕ) (eu : u ≡ sectionOf f 0) (ep : p ≡ sectionOf f 2) (ee : e ≡ sectionOf f 3) where
-    pub past-few : length p / pastWidth ≤ mostPast
-    unfolding decode caseIn pastIn
+  -- the format and the sections, as they are handed on
+  module _ (format : Format) (u p e : List ℕ) (ef : format ≡ formatIn f) (eu : u ≡ sectionOf f 0) (ep : p ≡ sectionOf f 2) (ee : e ≡ sectionOf f 3) where
+    pub past-few : pastIn p .count ≤ mostPast
+    unfolding decode caseIn
     past-few = rw ep (case.past-count f (acc .correction) (acc .rowsLength) (acc .accepted))
 
-    pub fine : eventsFine e ≡ true
-    fine = rw ee (case.events f (acc .correction) (acc .rowsLength) (acc .accepted) .events-fine)
+    pub fine : eventsFine format e ≡ true
+    fine = rw (ef, ee) (case.events f (acc .correction) (acc .rowsLength) (acc .accepted) .events-fine)
 
     module _ (places groups leaders masks : List ℕ) (found : FoundFlags f places groups leaders masks) where
-      pub sound : Bytes f → Sound e leaders
-      unfolding decode caseIn eventsIn
+      pub sound : Bytes f → Sound format e leaders
+      unfolding decode caseIn
       sound b =
-          rw ee
-          (sanctions-found.sound (sectionOf f 0) (sectionOf f 1) (sectionOf f 2) (sectionOf f 3) groups leaders masks
+          rw (ef, ee)
+          (sanctions-found.sound (formatIn f) (sectionOf f 0) (sectionOf f 1) (sectionOf f 2) (sectionOf f 3) groups leaders masks
           (sanctions.accepted f (acc .correction) (acc .rowsLength) (acc .accepted)) (found .found) (accepted-runs f (acc .correction) (acc .rowsLength) b (acc .accepted)))
 
       module _ (i : ℕ) (l : i < decode f .events .count) where
-        pub place-below : getD places i 0 < length u / unitWidth
-        unfolding unitOf decode caseIn unitsIn eventsIn
+        pub place-below : getD places i 0 < unitsIn format u .count
+        unfolding unitOf decode caseIn
         place-below =
-            rw (found .placed i l, eu)
-            (events-place (unitsIn (sectionOf f 0)) (eventsIn (sectionOf f 3)) i
+            rw (found .placed i l, ef, eu)
+            (events-place (unitsIn (formatIn f) (sectionOf f 0)) (eventsIn (formatIn f) (sectionOf f 3)) i
             (case.events f (acc .correction) (acc .rowsLength) (acc .accepted) .events-listed) l)
 
-        pub turn : (s : Sanction) (penalties : List ℕ) (total : ℕ) → s ≡ rowAt p e groups leaders masks penalties i → i < length penalties
+        pub turn : (s : Sanction) (penalties : List ℕ) (total : ℕ) → s ≡ rowAt format p e groups leaders masks penalties i → i < length penalties
             → Holds i penalties (penalty (decode f)) → total ≡ sumTo i (penalty (decode f)) → SanctionTurn (decode f) i total s penalties
-        unfolding decode caseIn eventsIn
+        unfolding decode caseIn
         turn s penalties total q b held t =
-            sanctions-found.sanction-turn (sectionOf f 0) (sectionOf f 1) (sectionOf f 2) (sectionOf f 3) groups leaders masks
-            (sanctions.accepted f (acc .correction) (acc .rowsLength) (acc .accepted)) (found .found) s penalties i total (q ∙ rw (ep, ee)) l b held t
+            sanctions-found.sanction-turn (formatIn f) (sectionOf f 0) (sectionOf f 1) (sectionOf f 2) (sectionOf f 3) groups leaders masks
+            (sanctions.accepted f (acc .correction) (acc .rowsLength) (acc .accepted)) (found .found) s penalties i total (q ∙ rw (ef, ep, ee)) l b held t
 
         pub row-is : (levels corrects penalties : List ℕ) (total : ℕ) (s : Sanction) (row : Row) → SanctionTurn (decode f) i total s penalties
-            → row ≡ tableRow u e places levels corrects masks s i → row ≡ rowIn f levels corrects i
+            → row ≡ tableRow format u e places levels corrects masks s i → row ≡ rowIn f levels corrects i
         unfolding rowIn tableRow
-        row-is levels corrects penalties total s row t er = er ∙ rw (eu, ee, t .row, found .placed i l, found .found .mask-held i l)
+        row-is levels corrects penalties total s row t er = er ∙ rw (ef, eu, ee, t .row, found .placed i l, found .found .mask-held i l)
 
 -- the row whose figures were found one after the other
-pub row-made : (u e : List ℕ) (place r c flags i : ℕ) (s : Sanction) (hours due : ℕ) (bids : List ℕ) → hours ≡ mitigatedBy (eventsIn e) i flags
-    → bids ≡ listTo mostHours (bidBy u e place r c hours i) → due ≡ makeUpBy e i r c hours
+pub row-made : (format : Format) (u e : List ℕ) (place r c flags i : ℕ) (s : Sanction) (hours due : ℕ) (bids : List ℕ) → hours ≡ mitigatedBy (eventsIn format e) i flags
+    → bids ≡ listTo mostHours (bidBy format u e place r c hours i) → due ≡ makeUpBy format e i r c hours
     → record { flags = flags; mitigated = hours; penalty = s .penalty; «make_up» = due; multiplier = s .multiplier; n3 = s .n3; n2 = s .n2; bids = bids }
-    ≡ rowBy u e place r c flags s i
+    ≡ rowBy format u e place r c flags s i
 unfolding rowBy
-row-made u e place r c flags i s hours due bids em eb ed = rw (eb, ed, em) refl
+row-made format u e place r c flags i s hours due bids em eb ed = rw (eb, ed, em) refl
 
-pub penalty-by : (u e places levels corrects masks : List ℕ) (i : ℕ) (s : Sanction) (row : Row) → row ≡ tableRow u e places levels corrects masks s i
+pub penalty-by : (format : Format) (u e places levels corrects masks : List ℕ) (i : ℕ) (s : Sanction) (row : Row) → row ≡ tableRow format u e places levels corrects masks s i
     → row .penalty ≡ s .penalty
 unfolding tableRow rowBy
-penalty-by u e places levels corrects masks i s row q = ap (λ (x : Row). x .penalty) q
+penalty-by format u e places levels corrects masks i s row q = ap (λ (x : Row). x .penalty) q
 
 module _ (f levels corrects : List ℕ) where
   -- the make-ups with one more
@@ -96,7 +98,7 @@ module _ (f levels corrects : List ℕ) where
   -- all rows
   pub rows-all : (rows₀ rows : List ℕ) (i total due : ℕ) → i ≡ decode f .events .count → total ≡ sumTo i (penalty (decode f))
       → due ≡ sumTo i (λ j. rowIn f levels corrects j .«make_up»)
-      → rows ≡ joinTo i (λ j. writtenRow (rowIn f levels corrects j)) ++ drop (rowWidth * i) rows₀
+      → rows ≡ joinTo i (λ j. writtenRow (rowIn f levels corrects j)) ++ drop (rowWidth (formatIn f) * i) rows₀
       → (record { penalties = total; «make_ups» = due } ≡ totalsIn f levels corrects) × (rows ≡ rowsIn f levels corrects rows₀)
   unfolding totalsIn totalPenalty rowsIn
   rows-all rows₀ rows i total due e t d r = (rw (t, d, e) refl, rw e at r)

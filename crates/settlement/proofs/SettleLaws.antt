@@ -10,8 +10,9 @@ use Rattle.binary.specs.Bytes.{bytesOf}
 use Rattle.binary.specs.Lists.{listTo}
 use Rattle.binary.proofs.BoundedLaws.{sum-same}
 use Rattle.binary.proofs.ListLaws.{list-at, join-same}
+use Rattle.casefile.specs.declared.layout.Format.{Format}
 use Rattle.casefile.specs.Layout.{mostHours, rowWidth}
-use Rattle.casefile.specs.Decode.{sectionOf, referencesIn, eventsIn, caseIn, decode}
+use Rattle.casefile.specs.Decode.{formatIn, sectionOf, referencesIn, eventsIn, caseIn, decode}
 use Rattle.casefile.specs.Lookup.{unitOf, bidLevel, correctReferences, correctIn}
 use Rattle.casefile.specs.StageLookup.{correctLevel}
 use Rattle.casefile.specs.Refusal.{refusal}
@@ -61,35 +62,35 @@ refused-rows f k rows number e ne = rw (← e, ne-eqb number 0 ne) refl
 
 -- ---- from the tables that the check filled to the case
 
-module _ (u r p k e : List ℕ) (i x y : ℕ) (level : x ≡ bidLevel (referencesIn r) (eventsIn e) i) (correct : y ≡ correctLevel (referencesIn k) (eventsIn e) i) where
-  mitigated-is : mitigatedBy (eventsIn e) i (flagMask (caseIn u r p e) i) ≡ mitigatedMask (caseIn u r p e) i
-  mitigated-is = mitigated-by u r p e i (flagMask (caseIn u r p e) i) refl
+module _ (format : Format) (u r p k e : List ℕ) (i x y : ℕ) (level : x ≡ bidLevel (referencesIn format r) (eventsIn format e) i) (correct : y ≡ correctLevel (referencesIn format k) (eventsIn format e) i) where
+  mitigated-is : mitigatedBy (eventsIn format e) i (flagMask (caseIn format u r p e) i) ≡ mitigatedMask (caseIn format u r p e) i
+  mitigated-is = mitigated-by format u r p e i (flagMask (caseIn format u r p e) i) refl
 
-  bids-are : wordsOf (listTo mostHours (bidBy u e (unitOf (caseIn u r p e) i) x y (mitigatedMask (caseIn u r p e) i) i)) ≡ bidBytes (caseIn u r p e) (referencesIn k) i
+  bids-are : wordsOf (listTo mostHours (bidBy format u e (unitOf (caseIn format u r p e) i) x y (mitigatedMask (caseIn format u r p e) i) i)) ≡ bidBytes (caseIn format u r p e) (referencesIn format k) i
   unfolding wordsOf wordOf bidBytes
   bids-are =
-      ap wordsOf (bids-by u r p e i (referencesIn k) _ x y _ refl level correct refl)
-      ∙ join-same mostHours _ _ (λ h l. ap (bytesOf 4) (list-at (bidInForce (caseIn u r p e) (referencesIn k) i) mostHours h 0 l))
+      ap wordsOf (bids-by format u r p e i (referencesIn format k) _ x y _ refl level correct refl)
+      ∙ join-same mostHours _ _ (λ h l. ap (bytesOf 4) (list-at (bidInForce (caseIn format u r p e) (referencesIn format k) i) mostHours h 0 l))
 
-  due-by : (s : Sanction) → rowBy u e (unitOf (caseIn u r p e) i) x y (flagMask (caseIn u r p e) i) s i .«make_up» ≡ makeUpOf (caseIn u r p e) (referencesIn k) i
+  due-by : (s : Sanction) → rowBy format u e (unitOf (caseIn format u r p e) i) x y (flagMask (caseIn format u r p e) i) s i .«make_up» ≡ makeUpOf (caseIn format u r p e) (referencesIn format k) i
   unfolding rowBy
-  due-by s = make-up-by u r p e i (referencesIn k) x y _ level correct mitigated-is
+  due-by s = make-up-by format u r p e i (referencesIn format k) x y _ level correct mitigated-is
 
-  row-by : writtenRow (rowBy u e (unitOf (caseIn u r p e) i) x y (flagMask (caseIn u r p e) i) (sanctionOf (caseIn u r p e) i) i)
-      ≡ rowOf (caseIn u r p e) (referencesIn k) i
+  row-by : writtenRow (rowBy format u e (unitOf (caseIn format u r p e) i) x y (flagMask (caseIn format u r p e) i) (sanctionOf (caseIn format u r p e) i) i)
+      ≡ rowOf (caseIn format u r p e) (referencesIn format k) i
   unfolding writtenRow rowBy rowOf
-  row-by = rw (mitigated-is, make-up-by u r p e i (referencesIn k) x y _ level correct refl, bids-are)
+  row-by = rw (mitigated-is, make-up-by format u r p e i (referencesIn format k) x y _ level correct refl, bids-are)
 
 module _ (f k places levels corrects : List ℕ) (h : HandedOn f k places levels corrects) where
   row-is : (i : ℕ) → i < decode f .events .count → writtenRow (rowIn f levels corrects i) ≡ rowOf (decode f) (correctIn f k) i
   unfolding rowIn decode caseIn correctIn
   row-is i l =
-      row-by (sectionOf f 0) (sectionOf f 1) (sectionOf f 2) (correctReferences k (sectionOf f 1)) (sectionOf f 3) i _ _ (h .levelled i l) (h .corrected i l)
+      row-by (formatIn f) (sectionOf f 0) (sectionOf f 1) (sectionOf f 2) (correctReferences k (sectionOf f 1)) (sectionOf f 3) i _ _ (h .levelled i l) (h .corrected i l)
 
   due-is : (i : ℕ) → i < decode f .events .count → rowIn f levels corrects i .«make_up» ≡ makeUpOf (decode f) (correctIn f k) i
   unfolding rowIn decode caseIn correctIn
   due-is i l =
-      due-by (sectionOf f 0) (sectionOf f 1) (sectionOf f 2) (correctReferences k (sectionOf f 1)) (sectionOf f 3) i _ _ (h .levelled i l) (h .corrected i l) _
+      due-by (formatIn f) (sectionOf f 0) (sectionOf f 1) (sectionOf f 2) (correctReferences k (sectionOf f 1)) (sectionOf f 3) i _ _ (h .levelled i l) (h .corrected i l) _
 
   totals-are : totalsIn f levels corrects .«make_ups» ≡ totalMakeUp (decode f) (correctIn f k)
   unfolding totalsIn totalMakeUp
@@ -110,4 +111,4 @@ module _ (f k places levels corrects : List ℕ) (h : HandedOn f k places levels
 
   pub settled-rows : (rows after : List ℕ) → refusal f k (length rows) ≡ 0 → after ≡ rowsIn f levels corrects rows → after ≡ rowsAfter f k rows
   unfolding rowsAfter rowsIn rowsOf
-  settled-rows rows after e g = rw (eq-eqb _ _ e) (g ∙ ap (λ (x : List ℕ). x ++ drop (rowWidth * decode f .events .count) rows) (join-same (decode f .events .count) _ _ row-is))
+  settled-rows rows after e g = rw (eq-eqb _ _ e) (g ∙ ap (λ (x : List ℕ). x ++ drop (rowWidth (formatIn f) * decode f .events .count) rows) (join-same (decode f .events .count) _ _ row-is))

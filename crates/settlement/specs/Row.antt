@@ -4,6 +4,7 @@ use mathlib.Core.List.{List, _++_}
 use lib.ListN.{drop}
 use Rattle.binary.specs.Bytes.{bytesOf}
 use Rattle.binary.specs.Lists.{joinTo}
+use Rattle.casefile.specs.declared.layout.Format.{Format}
 use Rattle.casefile.specs.Layout.{mostHours, rowWidth}
 use Rattle.casefile.specs.Case.{References, Case}
 use Rattle.conduct.specs.Flags.{flagMask}
@@ -29,5 +30,5 @@ rowOf c correct i =
     ++ bidBytes c correct i))))))))
 
 -- the buffer once every row is written; its bytes beyond the last row stay
-unfoldable pub rowsOf : Case → (correct : References) → (rows : List ℕ) → List ℕ
-rowsOf c correct rows = joinTo (c .events .count) (rowOf c correct) ++ drop (rowWidth * c .events .count) rows
+unfoldable pub rowsOf : Format → Case → (correct : References) → (rows : List ℕ) → List ℕ
+rowsOf format c correct rows = joinTo (c .events .count) (rowOf c correct) ++ drop (rowWidth format * c .events .count) rows

@@ -5,7 +5,7 @@ use mathlib.Core.Bool.{cond}
 use mathlib.Core.List.{List}
 use lib.Dec.{eqb}
 use lib.ListN.{length}
-use Rattle.casefile.specs.Decode.{decode}
+use Rattle.casefile.specs.Decode.{formatIn, decode}
 use Rattle.casefile.specs.Lookup.{correctIn}
 use Rattle.casefile.specs.Refusal.{refusal}
 use Rattle.sanctions.specs.Penalties.{totalPenalty}
@@ -48,7 +48,7 @@ answerOf f k n = cond (eqb (refusal f k n) 0) (accepted f k) (refusedAnswer (ref
 
 -- the rows buffer afterwards; a refusal leaves it untouched
 unfoldable pub rowsAfter : (file correction rows : List ℕ) → List ℕ
-rowsAfter f k rows = cond (eqb (refusal f k (length rows)) 0) (rowsOf (decode f) (correctIn f k) rows) rows
+rowsAfter f k rows = cond (eqb (refusal f k (length rows)) 0) (rowsOf (formatIn f) (decode f) (correctIn f k) rows) rows
 
 -- a settlement whole
 pub record Settled : Type 0 where

@@ -4,6 +4,7 @@ use mathlib.Core.List.{List, _++_}
 use lib.ListN.{getD}
 use Rattle.binary.specs.Bytes.{bytesOf}
 use Rattle.binary.specs.Lists.{listTo, joinTo}
+use Rattle.casefile.specs.declared.layout.Format.{Format}
 use Rattle.casefile.specs.Layout.{mostHours}
 use Rattle.casefile.specs.Decode.{eventsIn}
 use Rattle.sanctions.specs.declared.sanction.Sanction.{Sanction}
@@ -31,20 +32,20 @@ writtenRow r =
     ++ wordsOf (r .bids)))))))))
 
 -- the row of event i from its unit's place, r, c, its flag mask and its sanction
-unfoldable pub rowBy : (units events : List ℕ) (place r c flags : ℕ) → Sanction → ℕ → Row
-rowBy units events place r c flags s i =
+unfoldable pub rowBy : Format → (units events : List ℕ) (place r c flags : ℕ) → Sanction → ℕ → Row
+rowBy format units events place r c flags s i =
     record {
       flags = flags;
-      mitigated = mitigatedBy (eventsIn events) i flags;
+      mitigated = mitigatedBy (eventsIn format events) i flags;
       penalty = s .penalty;
-      «make_up» = makeUpBy events i r c (mitigatedBy (eventsIn events) i flags);
+      «make_up» = makeUpBy format events i r c (mitigatedBy (eventsIn format events) i flags);
       multiplier = s .multiplier;
       n3 = s .n3;
       n2 = s .n2;
-      bids = listTo mostHours (bidBy units events place r c (mitigatedBy (eventsIn events) i flags) i);
+      bids = listTo mostHours (bidBy format units events place r c (mitigatedBy (eventsIn format events) i flags) i);
     }
 
 -- the same from the tables
-unfoldable pub tableRow : (units events places levels corrects masks : List ℕ) → Sanction → ℕ → Row
-tableRow units events places levels corrects masks s i =
-    rowBy units events (getD places i 0) (getD levels i 0) (getD corrects i 0) (getD masks i 0) s i
+unfoldable pub tableRow : Format → (units events places levels corrects masks : List ℕ) → Sanction → ℕ → Row
+tableRow format units events places levels corrects masks s i =
+    rowBy format units events (getD places i 0) (getD levels i 0) (getD corrects i 0) (getD masks i 0) s i

@@ -5,7 +5,7 @@ use lib.ListN.{getD, drop}
 use Rattle.binary.specs.Bounded.{sumTo}
 use Rattle.binary.specs.Lists.{joinTo, Holds}
 use Rattle.casefile.specs.Layout.{rowWidth}
-use Rattle.casefile.specs.Decode.{sectionOf, decode}
+use Rattle.casefile.specs.Decode.{formatIn, sectionOf, decode}
 use Rattle.casefile.specs.Lookup.{unitOf}
 use Rattle.conduct.specs.Flags.{flagMask}
 use Rattle.sanctions.specs.Penalties.{totalPenalty}
@@ -23,13 +23,13 @@ pub record FoundFlags (file places groups leaders masks : List ℕ) : Type 0 whe
 -- the row of event i
 unfoldable pub rowIn : (file levels corrects : List ℕ) → ℕ → Row
 rowIn f levels corrects i =
-    rowBy (sectionOf f 0) (sectionOf f 3) (unitOf (decode f) i) (getD levels i 0) (getD corrects i 0) (flagMask (decode f) i)
+    rowBy (formatIn f) (sectionOf f 0) (sectionOf f 3) (unitOf (decode f) i) (getD levels i 0) (getD corrects i 0) (flagMask (decode f) i)
     (sanctionOf (decode f) i) i
 
 -- the buffer once every row is written; its bytes beyond the last row stay
 unfoldable pub rowsIn : (file levels corrects rows : List ℕ) → List ℕ
 rowsIn f levels corrects rows =
-    joinTo (decode f .events .count) (λ i. writtenRow (rowIn f levels corrects i)) ++ drop (rowWidth * decode f .events .count) rows
+    joinTo (decode f .events .count) (λ i. writtenRow (rowIn f levels corrects i)) ++ drop (rowWidth (formatIn f) * decode f .events .count) rows
 
 unfoldable pub totalsIn : (file levels corrects : List ℕ) → Totals
 totalsIn f levels corrects =

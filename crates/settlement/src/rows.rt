@@ -1,11 +1,11 @@
 // The rows buffer: row i begins at 128 times i, and the row writer sees only that row.
 ghost use mathlib.Core.Bool.{true};
 ghost use mathlib.Core.Path.{_≡_};
-ghost use Prim.Native.Nat.{_*_, _/_, _≤_, _<_};
+ghost use Prim.Native.Nat.{_+_, _*_, _≤_, _<_};
 ghost use lib.ListN.{length, getD};
 ghost use lib.Seq.{sets};
-ghost use Rattle.casefile.specs.Layout.{rowWidth, eventWidth, unitWidth, mostEvents};
-ghost use Rattle.casefile.specs.Decode.{decode};
+ghost use Rattle.casefile.specs.Layout.{rowWidth, mostHours, mostEvents};
+ghost use Rattle.casefile.specs.Decode.{formatIn, decode, eventsIn, unitsIn};
 ghost use Rattle.casefile.specs.Refusal.{eventsFine};
 ghost use Rattle.casefile.specs.StageChecked.{AcceptedFile};
 ghost use Rattle.default_bids.specs.StageFigures.{highestMakeUp};
@@ -15,8 +15,11 @@ use binary::bytes::store_u8;
 use binary::bytes::store_u16;
 use binary::bytes::store_u32;
 use binary::bytes::store_u64;
+use casefile::events::event_count;
+use casefile::header::format_of;
 use casefile::header::section;
 use casefile::layout;
+use casefile::layout::Format;
 use default_bids::bids::bids_in_force;
 use default_bids::make_up::event_make_up;
 use default_bids::mitigated::mitigated_mask;
@@ -36,7 +39,7 @@ pub struct Row {
 
 // The bids in force, from byte 32 on.
 fn write_bids(row: &mut [u8], bids: [u32; layout::HOURS])
-    requires { ⌜ length (now row) ≡ rowWidth ⌝ }
+    requires { ⌜ length (now row) ≡ 32 + 4 * mostHours ⌝ }
     ensures { λ _. ⌜ now (row .exit) ≡ sets (now (row .entry)) 32 (wordsOf bids) ⌝ }
 {
     let mut h = 0;
@@ -48,7 +51,7 @@ fn write_bids(row: &mut [u8], bids: [u32; layout::HOURS])
 
 // All the bytes of one row.
 fn write_row(row: &mut [u8], r: Row)
-    requires { ⌜ length (now row) ≡ rowWidth ⌝ }
+    requires { ⌜ length (now row) ≡ 32 + 4 * mostHours ⌝ }
     ensures { λ _. ⌜ now (row .exit) ≡ writtenRow r ⌝ }
 {
     store_u32(row, 0, r.flags);
@@ -66,6 +69,7 @@ fn write_row(row: &mut [u8], r: Row)
 
 // The row of event i, with its sanction, from the tables of its unit's place, r, c and its flag mask.
 fn row_of(
+    format: Format,
     units: &[u8],
     events: &[u8],
     places: &[usize; layout::MOST_EVENTS],
@@ -75,17 +79,26 @@ fn row_of(
     sanction: Sanction,
     i: usize,
 ) -> Row
-    requires { ⌜ (i < length (now events) / eventWidth) × (i < mostEvents) × (eventsFine (now events) ≡ true) ⌝ }
-    requires { ⌜ getD (now places) i 0 < length (now units) / unitWidth ⌝ }
-    ensures { λ r. ⌜ r ≡ tableRow (now (units .entry)) (now (events .entry)) (now (places .entry)) (now (levels .entry)) (now (corrects .entry)) (now (masks .entry)) sanction i ⌝ }
+    requires { ⌜ (i < eventsIn format (now events) .count) × (i < mostEvents) × (eventsFine format (now events) ≡ true) ⌝ }
+    requires { ⌜ getD (now places) i 0 < unitsIn format (now units) .count ⌝ }
+    ensures { λ r. ⌜ r ≡ tableRow format (now (units .entry)) (now (events .entry)) (now (places .entry)) (now (levels .entry)) (now (corrects .entry)) (now (masks .entry)) sanction i ⌝ }
     ensures { λ r. ⌜ r .«make_up» ≤ highestMakeUp ⌝ }
 {
     let level = levels[i];
     let correct = corrects[i];
     let flags = masks[i];
-    let mitigated = mitigated_mask(events, i, flags);
-    let bids = bids_in_force(units, events, places[i], level, correct, mitigated, i);
-    let make_up = event_make_up(events, i, level, correct, mitigated);
+    let mitigated = mitigated_mask(format, events, i, flags);
+    let bids = bids_in_force(
+        format,
+        units,
+        events,
+        places[i],
+        level,
+        correct,
+        mitigated,
+        i,
+    );
+    let make_up = event_make_up(format, events, i, level, correct, mitigated);
     Row {
         flags,
         mitigated,
@@ -115,21 +128,32 @@ pub fn settle_rows(
     rows: &mut [u8],
 ) -> Totals
     requires { ⌜ AcceptedFile (now file) × FoundFlags (now file) (now places) (now groups) (now leaders) (now masks) ⌝ }
-    requires { ⌜ rowWidth * decode (now file) .events .count ≤ length (now rows) ⌝ }
+    requires { ⌜ rowWidth (formatIn (now file)) * decode (now file) .events .count ≤ length (now rows) ⌝ }
     ensures { λ r. ⌜ r ≡ totalsIn (now (file .entry)) (now (levels .entry)) (now (corrects .entry)) ⌝ }
     ensures { λ _. ⌜ now (rows .exit) ≡ rowsIn (now (file .entry)) (now (levels .entry)) (now (corrects .entry)) (now (rows .entry)) ⌝ }
 {
+    let format = format_of(file);
     let units = section(file, 0);
     let past = section(file, 2);
     let events = section(file, 3);
-    let n = events.len() / layout::EVENT_WIDTH;
+    let n = event_count(format, events);
     let mut penalties = [0u64; layout::MOST_EVENTS];
     let mut total: u64 = 0;
     let mut due: u64 = 0;
     let mut i = 0;
     while i < n {
-        let sanction = sanction_at(past, events, groups, leaders, masks, &penalties, i);
-        let row = row_of(units, events, places, levels, corrects, masks, sanction, i);
+        let sanction = sanction_at(format, past, events, groups, leaders, masks, &penalties, i);
+        let row = row_of(
+            format,
+            units,
+            events,
+            places,
+            levels,
+            corrects,
+            masks,
+            sanction,
+            i,
+        );
         penalties[i] = row.penalty;
         total += row.penalty;
         due += row.make_up;

@@ -4,7 +4,7 @@ ghost use Prim.Native.Nat.{_*_, _≤_};
 ghost use lib.ListN.{length};
 ghost use Rattle.binary.specs.Lists.{Holds};
 ghost use Rattle.casefile.specs.Layout.{rowWidth};
-ghost use Rattle.casefile.specs.Decode.{decode};
+ghost use Rattle.casefile.specs.Decode.{formatIn, decode};
 ghost use Rattle.casefile.specs.Lookup.{unitOf, bidLevel};
 ghost use Rattle.casefile.specs.StageChecked.{AcceptedFile};
 ghost use Rattle.settlement.specs.Settled.{settlementOf, answerOf, rowsAfter};
@@ -12,6 +12,8 @@ ghost use Rattle.settlement.specs.StageRows.{rowsIn, totalsIn};
 use crate::rows::Totals;
 use crate::rows::settle_rows;
 use casefile::check::check_into;
+use casefile::events::event_count;
+use casefile::header::format_of;
 use casefile::header::section;
 use casefile::layout;
 use conduct::flags::find_flags;
@@ -35,7 +37,7 @@ fn settle_accepted(
 ) -> Totals
     requires { ⌜ AcceptedFile (now file) × Holds (decode (now file) .events .count) (now places) (unitOf (decode (now file))) ⌝ }
     requires { ⌜ Holds (decode (now file) .events .count) (now levels) (bidLevel (decode (now file) .references) (decode (now file) .events)) ⌝ }
-    requires { ⌜ rowWidth * decode (now file) .events .count ≤ length (now rows) ⌝ }
+    requires { ⌜ rowWidth (formatIn (now file)) * decode (now file) .events .count ≤ length (now rows) ⌝ }
     ensures { λ r. ⌜ r ≡ totalsIn (now (file .entry)) (now (levels .entry)) (now (corrects .entry)) ⌝ }
     ensures { λ _. ⌜ now (rows .exit) ≡ rowsIn (now (file .entry)) (now (levels .entry)) (now (corrects .entry)) (now (rows .entry)) ⌝ }
 {
@@ -76,7 +78,7 @@ pub fn settle<'a>(file: &'a [u8], correction: &'a [u8], rows: &mut [u8]) -> Sett
     }
     let totals = settle_accepted(file, &places, &levels, &corrects, rows);
     Settlement::Settled {
-        rows: section(file, 3).len() / layout::EVENT_WIDTH,
+        rows: event_count(format_of(file), section(file, 3)),
         penalties: totals.penalties,
         make_ups: totals.make_ups,
     }

@@ -3,7 +3,7 @@ use Prim.Native.Nat.{ℕ, _+_}
 use mathlib.Core.List.{List, [], _++_}
 use lib.ListN.{length, replicate}
 use Rattle.binary.specs.Bytes.{bytesOf}
-use Rattle.casefile.specs.Layout.{version, sectionCount, headerWidth}
+use Rattle.casefile.specs.Layout.{firstVersion, sectionCount, headerWidth}
 
 -- a file with this version, section count and first offset, and these lengths for its pairs
 unfoldable pub headed : (version sections first units references past events : ℕ) → List ℕ → List ℕ
@@ -12,7 +12,7 @@ headed v n o u r p e body =
     ++ bytesOf 4 (o + u + r + p) ++ bytesOf 4 e ++ body
 
 unfoldable pub fileOf : (units references past events : List ℕ) → List ℕ
-fileOf u r p e = headed version sectionCount headerWidth (length u) (length r) (length p) (length e) (u ++ r ++ p ++ e)
+fileOf u r p e = headed firstVersion sectionCount headerWidth (length u) (length r) (length p) (length e) (u ++ r ++ p ++ e)
 
 unfoldable pub unitBytes : (number group area capability : ℕ) → List ℕ
 unitBytes number group area capability =

@@ -6,6 +6,7 @@ use borrow.Author.Tests.{eqb-true}
 use lib.Dec.{ltb, eqb}
 use Rattle.tariff.specs.Comparisons.{bidComparisons, FailsBy}
 use Rattle.tariff.proofs.ComparisonLaws.{none-failed, total-read, comparisons-decide}
+use Rattle.casefile.specs.Layout.{mostHours}
 use Rattle.casefile.specs.Case.{Case}
 use Rattle.casefile.specs.Decode.{decode}
 use Rattle.casefile.specs.Lookup.{unitOf, referenceOf}
@@ -52,11 +53,11 @@ module _ (c : Case) (i h : ℕ) where
 
 pub flagged-where-failed : FlaggedWhereFailed
 unfolding workingOf workingAt workingFrom refusedWorking
-flagged-where-failed f k i h = pick (eqb (refusal f k mostRows) 0) (ltb i (decode f .events .count) && ltb h 24)
+flagged-where-failed f k i h = pick (eqb (refusal f k (mostRows f)) 0) (ltb i (decode f .events .count) && ltb h mostHours)
   where
     pick : (fine inside : Bool)
-        → cond fine (cond inside (workingAt (decode f) i h) (refusedWorking 10)) (refusedWorking (refusal f k mostRows)) .flagged
-        ≡ ltb 0 (cond fine (cond inside (workingAt (decode f) i h) (refusedWorking 10)) (refusedWorking (refusal f k mostRows)) .failed)
+        → cond fine (cond inside (workingAt (decode f) i h) (refusedWorking 10)) (refusedWorking (refusal f k (mostRows f))) .flagged
+        ≡ ltb 0 (cond fine (cond inside (workingAt (decode f) i h) (refusedWorking 10)) (refusedWorking (refusal f k (mostRows f))) .failed)
     pick true true = flagged-at (decode f) i h
     pick true false = refl
     pick false inside = refl

@@ -1,23 +1,25 @@
 -- The figures that the stages leave are those of the case.
-use Prim.Native.Nat.{ℕ, _/_, _≤_, _<_}
+use Prim.Native.Nat.{ℕ, _≤_, _<_}
 use mathlib.Core.Bool.{Bool, true, false, cond, _&&_, _||_}
 use mathlib.Core.List.{List, []}
 use mathlib.Core.Path.{_≡_, refl, ap₂, _∙_}
 use native.Mathlib.Omega.{arith}
 use borrow.Author.Tests.{ltb-true, eqb-true, eq-eqb, ne-eqb}
 use lib.Dec.{ltb, eqb}
-use lib.ListN.{length, getD}
+use lib.ListN.{getD}
+use Rattle.casefile.specs.declared.layout.Format.{Format}
 use Rattle.binary.specs.Bounded.{bitOf}
-use Rattle.binary.specs.Bytes.{byteAt}
 use Rattle.binary.specs.Lists.{Holds}
 use Rattle.binary.proofs.Implies.{and-l, and-r}
 use Rattle.binary.proofs.BoundedLaws.{sum-same}
 use Rattle.binary.proofs.MaskLaws.{bit-mask}
-use Rattle.casefile.specs.Layout.{eventWidth, unitWidth, pastWidth, mostPast, mostHours}
+use Rattle.casefile.specs.Layout.{mostPast, mostHours}
 use Rattle.casefile.specs.Case.{Case}
-use Rattle.casefile.specs.Decode.{recordAt, sectionOf, unitsIn, eventsIn, caseIn, decode}
+use Rattle.casefile.specs.declared.events.Event.{Event}
+use Rattle.casefile.specs.Decode.{formatIn, sectionOf, unitsIn, pastIn, eventsIn, caseIn, decode}
 use Rattle.casefile.specs.Lookup.{unitOf, groupOf, bidLevel}
 use Rattle.casefile.specs.Refusal.{refusal}
+use Rattle.casefile.specs.StageRead.{eventAt}
 use Rattle.casefile.specs.StageChecked.{AcceptedFile}
 use Rattle.casefile.proofs.EventLaws.{events-place}
 use Rattle.conduct.specs.Flags.{together, sumTogether, timeBid, timeTotal, groupCapability, groupSum, flagged, flagMask}
@@ -87,21 +89,21 @@ module _ (c : Case) (i h sum : ℕ) (held : (c .events .kind i ≡ 4 → ⊥) �
 
 -- ---- the events of a file
 
-module _ (f e : List ℕ) (ee : e ≡ sectionOf f 3) where
-  pub count-is : length e / eventWidth ≡ decode f .events .count
-  unfolding decode caseIn eventsIn
-  count-is = rw ee
+module _ (format : Format) (f e : List ℕ) (ef : format ≡ formatIn f) (ee : e ≡ sectionOf f 3) where
+  pub count-is : eventsIn format e .count ≡ decode f .events .count
+  unfolding decode caseIn
+  count-is = rw (ef, ee)
 
-  pub kind-of : (event : List ℕ) (i kind : ℕ) → event ≡ recordAt eventWidth e i → kind ≡ byteAt event 0 → kind ≡ decode f .events .kind i
-  unfolding decode caseIn eventsIn
-  kind-of event i kind er ek = ek ∙ rw (er, ee)
+  pub kind-of : (event : Event) (i : ℕ) → event ≡ eventAt (eventsIn format e) i → event .kind ≡ decode f .events .kind i
+  unfolding decode caseIn eventAt
+  kind-of event i q = rw (q, ef, ee)
 
-  figure-is : (j h : ℕ) → partyFigure (caseIn [] [] [] e) j h ≡ partyFigure (decode f) j h
+  figure-is : (j h : ℕ) → partyFigure (caseIn format [] [] [] e) j h ≡ partyFigure (decode f) j h
   unfolding partyFigure decode caseIn
-  figure-is j h = rw ee
+  figure-is j h = rw (ef, ee)
 
   module _ (leaders : List ℕ) (led : Holds (decode f .events .count) leaders (leaderOf (decode f))) where
-    pub leader-below : (i : ℕ) → i < decode f .events .count → getD leaders i 0 < length e / eventWidth
+    pub leader-below : (i : ℕ) → i < decode f .events .count → getD leaders i 0 < eventsIn format e .count
     leader-below i l = let q = leader-le (decode f) i in let t = led i l in let n = count-is in omega arith
 
     same-leader : (i j : ℕ) → i < decode f .events .count → j < decode f .events .count → (decode f .events .kind i ≡ 4 → ⊥)
@@ -109,7 +111,7 @@ module _ (f e : List ℕ) (ee : e ≡ sectionOf f 3) where
     same-leader i j l m n = rw (led j m, led i l) (leader-eqb (decode f) i j n)
 
     -- the sum of event i's leader is its own
-    pub led-sum : (row : List ℕ) (i h : ℕ) → HasRow (ledSum (caseIn [] [] [] e) leaders (length e / eventWidth) (getD leaders i 0)) row
+    pub led-sum : (row : List ℕ) (i h : ℕ) → HasRow (ledSum (caseIn format [] [] [] e) leaders (eventsIn format e .count) (getD leaders i 0)) row
         → i < decode f .events .count → h < mostHours → (decode f .events .kind i ≡ 4 → ⊥) → getD row h 0 ≡ partySum (decode f) i h
     unfolding ledSum partySum sumTogether
     led-sum row i h r l m n =
@@ -121,58 +123,60 @@ module _ (f e : List ℕ) (ee : e ≡ sectionOf f 3) where
 
   module _ (levels : List ℕ) (held : Holds (decode f .events .count) levels (bidLevel (decode f .references) (decode f .events))) where
     total-case : (i h : ℕ) → timeTotalIn (decode f) levels i h ≡ timeTotal (decode f) i h
-    unfolding decode caseIn eventsIn
-    total-case i h = total-is (sectionOf f 0) (sectionOf f 1) (sectionOf f 2) (sectionOf f 3) levels held i h
+    unfolding decode caseIn
+    total-case i h = total-is (formatIn f) (sectionOf f 0) (sectionOf f 1) (sectionOf f 2) (sectionOf f 3) levels held i h
 
-    read-sections : (i h : ℕ) → totalRead (caseIn [] [] [] e) levels i h ≡ totalRead (decode f) levels i h
+    read-sections : (i h : ℕ) → totalRead (caseIn format [] [] [] e) levels i h ≡ totalRead (decode f) levels i h
     unfolding totalRead timeTotalIn timeBid decode caseIn
-    read-sections i h = rw ee
+    read-sections i h = rw (ef, ee)
 
-    total-of : (i h : ℕ) → totalRead (caseIn [] [] [] e) levels i h ≡ totalOf (decode f) i h
+    total-of : (i h : ℕ) → totalRead (caseIn format [] [] [] e) levels i h ≡ totalOf (decode f) i h
     unfolding totalRead totalOf
     total-of i h = read-sections i h ∙ rw (total-case i h)
 
     pub figures-full : (i h total : ℕ) (sums : Sums) (g : Figures) → i < decode f .events .count
         → g ≡ figuresWith (decode f) i h (getD levels i 0) sums total → sums ≡ sumsOf (decode f) i h
-        → total ≡ totalRead (caseIn [] [] [] e) levels i h → g ≡ figuresOf (decode f) i h
+        → total ≡ totalRead (caseIn format [] [] [] e) levels i h → g ≡ figuresOf (decode f) i h
     unfolding figuresOf
     figures-full i h total sums g l eg es et = eg ∙ rw (es, et, total-of i h, held i l)
 
 -- ---- its units and events
 
-module _ (f u e : List ℕ) (eu : u ≡ sectionOf f 0) (ee : e ≡ sectionOf f 3) where
-  leader-case : (i : ℕ) → leaderOf (decode f) i ≡ leaderOf (caseIn u [] [] e) i
+module _ (format : Format) (f u e : List ℕ) (ef : format ≡ formatIn f) (eu : u ≡ sectionOf f 0) (ee : e ≡ sectionOf f 3) where
+  leader-case : (i : ℕ) → leaderOf (decode f) i ≡ leaderOf (caseIn format u [] [] e) i
   unfolding leaderOf together groupOf unitOf decode caseIn
-  leader-case i = rw (eu, ee)
+  leader-case i = rw (ef, eu, ee)
 
-  pub place-below : AcceptedFile f → (i place : ℕ) → place ≡ unitOf (decode f) i → i < decode f .events .count → place < length u / unitWidth
-  unfolding unitOf decode caseIn unitsIn eventsIn
-  place-below acc i place q l = rw (q, eu) (events-place (unitsIn (sectionOf f 0)) (eventsIn (sectionOf f 3)) i (file-listed f acc _ _ refl refl) l)
+  pub place-below : AcceptedFile f → (i place : ℕ) → place ≡ unitOf (decode f) i → i < decode f .events .count → place < unitsIn format u .count
+  unfolding unitOf decode caseIn
+  place-below acc i place q l =
+      rw (q, ef, eu)
+      (events-place (unitsIn (formatIn f) (sectionOf f 0)) (eventsIn (formatIn f) (sectionOf f 3)) i (file-listed f acc (formatIn f) _ _ refl refl refl) l)
 
-  pub listed-is : (i : ℕ) → listedCapability (caseIn u [] [] e) i ≡ cond (eqb (decode f .events .kind i) 1) (groupCapability (decode f) i) 0
+  pub listed-is : (i : ℕ) → listedCapability (caseIn format u [] [] e) i ≡ cond (eqb (decode f .events .kind i) 1) (groupCapability (decode f) i) 0
   unfolding listedCapability groupCapability groupOf unitOf decode caseIn
-  listed-is i = rw (eu, ee)
+  listed-is i = rw (ef, eu, ee)
 
   pub found-led : AcceptedFile f → (places leaders : List ℕ) → Holds (decode f .events .count) places (unitOf (decode f))
-      → Holds (decode f .events .count) leaders (leaderOf (decode f)) → Led u e places leaders
+      → Holds (decode f .events .count) leaders (leaderOf (decode f)) → Led format u e places leaders
   found-led acc places leaders placed led =
-      file-led f acc u e eu ee places leaders placed (λ i l. led i (rw (count-is f e ee) at l) ∙ leader-case i)
+      file-led f acc format u e ef eu ee places leaders placed (λ i l. led i (rw (count-is format f e ef ee) at l) ∙ leader-case i)
 
 -- ---- the working
 
 module _ (f : List ℕ) (acc : AcceptedFile f) where
-  sections : Accepted (sectionOf f 0) (sectionOf f 2) (sectionOf f 3)
+  sections : Accepted (formatIn f) (sectionOf f 0) (sectionOf f 2) (sectionOf f 3)
   sections = sanctions.accepted f (acc .correction) (acc .rowsLength) (acc .accepted)
 
-  pub past-few : (p : List ℕ) → p ≡ sectionOf f 2 → length p / pastWidth ≤ mostPast
+  pub past-few : (p : List ℕ) → p ≡ sectionOf f 2 → pastIn p .count ≤ mostPast
   past-few p q = rw q (sections .few-past)
 
-  pub counts-are : (p e groups leaders masks : List ℕ) (i : ℕ) (x : Instances) → p ≡ sectionOf f 2 → e ≡ sectionOf f 3
+  pub counts-are : (format : Format) (p e groups leaders masks : List ℕ) (i : ℕ) (x : Instances) → format ≡ formatIn f → p ≡ sectionOf f 2 → e ≡ sectionOf f 3
       → FoundMasks (decode f) (decode f .events .count) groups leaders masks → i < decode f .events .count
-      → x ≡ instancesAt p e groups masks i → record { n3 = x .n3; n2 = x .n2 } ≡ countsOf (decode f) i
-  unfolding countsOf decode caseIn eventsIn
-  counts-are p e groups leaders masks i x ep ee found l q =
-      rw (q, ep, ee, instances-are (sectionOf f 0) (sectionOf f 1) (sectionOf f 2) (sectionOf f 3) groups leaders masks sections found i l) refl
+      → x ≡ instancesAt format p e groups masks i → record { n3 = x .n3; n2 = x .n2 } ≡ countsOf (decode f) i
+  unfolding countsOf decode caseIn
+  counts-are format p e groups leaders masks i x ef ep ee found l q =
+      rw (q, ef, ep, ee, instances-are (formatIn f) (sectionOf f 0) (sectionOf f 1) (sectionOf f 2) (sectionOf f 3) groups leaders masks sections found i l) refl
 
 pub flag-is : (f : List ℕ) (i h mask : ℕ) → mask ≡ flagMask (decode f) i → h < mostHours → bitOf mask h ≡ flagged (decode f) i h
 unfolding flagMask decode caseIn eventsIn
@@ -194,14 +198,14 @@ pub inside : (i n h : ℕ) → (ltb i n && ltb h mostHours) ≡ true → (i < n)
 inside i n h t = (ltb-true i n (and-l (ltb i n) (ltb h mostHours) t), ltb-true h mostHours (and-r (ltb i n) (ltb h mostHours) t))
 
 module _ (f k : List ℕ) (i h : ℕ) where
-  pub refused-is : (number : ℕ) → number ≡ refusal f k mostRows → (number ≡ 0 → ⊥) → refusedWorking number ≡ workingOf f k i h
+  pub refused-is : (number : ℕ) → number ≡ refusal f k (mostRows f) → (number ≡ 0 → ⊥) → refusedWorking number ≡ workingOf f k i h
   unfolding workingOf
   refused-is number e n = rw (← e, ne-eqb number 0 n) refl
 
-  pub working-is : refusal f k mostRows ≡ 0 → (ltb i (decode f .events .count) && ltb h mostHours) ≡ true → workingAt (decode f) i h ≡ workingOf f k i h
+  pub working-is : refusal f k (mostRows f) ≡ 0 → (ltb i (decode f .events .count) && ltb h mostHours) ≡ true → workingAt (decode f) i h ≡ workingOf f k i h
   unfolding workingOf
   working-is fine t = rw (eq-eqb _ _ fine, t)
 
-  pub outside-is : refusal f k mostRows ≡ 0 → (ltb i (decode f .events .count) && ltb h mostHours) ≡ false → refusedWorking 10 ≡ workingOf f k i h
+  pub outside-is : refusal f k (mostRows f) ≡ 0 → (ltb i (decode f .events .count) && ltb h mostHours) ≡ false → refusedWorking 10 ≡ workingOf f k i h
   unfolding workingOf
   outside-is fine t = rw (eq-eqb _ _ fine, t)

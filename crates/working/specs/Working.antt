@@ -13,7 +13,7 @@ use Rattle.tariff.specs.ConductTests.{increase}
 use Rattle.tariff.specs.Comparisons.{noComparison, comparisonsOf, withheldComparisons, dispatchComparisons, fuelComparisons, bidComparisons}
 use Rattle.casefile.specs.Layout.{mostHours, mostEvents, rowWidth}
 use Rattle.casefile.specs.Case.{Case}
-use Rattle.casefile.specs.Decode.{decode}
+use Rattle.casefile.specs.Decode.{formatIn, decode}
 use Rattle.casefile.specs.Lookup.{unitOf}
 use Rattle.casefile.specs.Refusal.{refusal}
 use Rattle.conduct.specs.Flags.{tight, sumTogether, timeTotal, groupCapability, groupSum, flagged}
@@ -131,15 +131,15 @@ refusedWorking n =
     }
 
 -- rows for every case, so that limit 15 never applies
-abbrev pub mostRows : ℕ
-mostRows = rowWidth * mostEvents
+abbrev pub mostRows : (file : List ℕ) → ℕ
+mostRows f = rowWidth (formatIn f) * mostEvents
 
 -- the case's refusal, else 10 where there is no such event or hour
 unfoldable pub workingOf : (file correction : List ℕ) (event hour : ℕ) → Working
 workingOf f k i h =
-    cond (eqb (refusal f k mostRows) 0)
+    cond (eqb (refusal f k (mostRows f)) 0)
     (cond (ltb i (decode f .events .count) && ltb h mostHours) (workingAt (decode f) i h) (refusedWorking 10))
-    (refusedWorking (refusal f k mostRows))
+    (refusedWorking (refusal f k (mostRows f)))
 
 -- a working shows why its hour is flagged: the hour is flagged exactly where a comparison fails
 abbrev pub FlaggedWhereFailed : Type 0

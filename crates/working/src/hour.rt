@@ -13,9 +13,6 @@ use crate::figures::Counts;
 use crate::figures::Figures;
 use crate::figures::Sums;
 use crate::figures::Working;
-use binary::bytes::load_u8;
-use binary::bytes::load_u16;
-use binary::bytes::load_u32;
 use binary::masks::bit_of;
 use binary::numbers::choose_u32;
 use binary::numbers::choose_u64;
@@ -24,12 +21,15 @@ use binary::words::negative_part;
 use binary::words::positive_part;
 use casefile::cells::cell_at;
 use casefile::check::check_into;
+use casefile::events::event_at;
+use casefile::events::event_cells;
+use casefile::events::event_count;
+use casefile::header::format_of;
 use casefile::header::section;
 use casefile::layout;
-use casefile::records::record_at;
+use casefile::units::unit_at;
 use conduct::flags::find_flags;
 use conduct::parties::run_end;
-use conduct::sums::cells_of;
 use conduct::sums::listed_capability;
 use conduct::sums::party_sums;
 use conduct::time::time_totals;
@@ -59,16 +59,18 @@ fn party_figures(
     ensures { λ r. ⌜ r ≡ sumsOf (decode (now (file .entry))) i h ⌝ }
     ensures { λ r. ⌜ r .s ≤ highestSum ⌝ }
 {
+    let format = format_of(file);
     let units = section(file, 0);
     let events = section(file, 3);
-    let kind = load_u8(record_at(events, i, layout::EVENT_WIDTH), 0);
+    let event = event_at(format, events, i);
+    let kind = event.kind;
     let leader = leaders[i];
-    let end = run_end(events, leader);
-    let sums = party_sums(events, leaders, leader, end);
+    let end = run_end(format, events, leader);
+    let sums = party_sums(format, events, leaders, leader, end);
     let sum = sums[h];
     Sums {
         s: choose_u64((kind == 1) | (kind == 2), sum, 0),
-        g: listed_capability(units, events, places[i], i),
+        g: listed_capability(format, units, events, places[i], i),
         fuel_events: choose_u64(kind == 3, sum, 0),
     }
 }
@@ -87,25 +89,26 @@ fn figures_at(
     requires { ⌜ place ≡ unitOf (decode (now file)) i ⌝ }
     ensures { λ r. ⌜ r ≡ figuresWith (decode (now (file .entry))) i h reference sums total ⌝ }
 {
+    let format = format_of(file);
     let units = section(file, 0);
     let events = section(file, 3);
-    let event = record_at(events, i, layout::EVENT_WIDTH);
-    let p = load_u32(event, 12);
-    let unit = record_at(units, place, layout::UNIT_WIDTH);
-    let area = load_u8(unit, 4);
+    let event = event_at(format, events, i);
+    let p = event.p;
+    let unit = unit_at(format, units, place);
+    let area = unit.area;
     let set = bit_of(p, h);
-    let cell = cell_at(cells_of(events, i), h);
+    let cell = cell_at(event_cells(format, events, i), h);
     Figures {
-        kind: load_u8(event, 0),
-        component: load_u8(event, 6),
-        market: load_u8(event, 1),
+        kind: event.kind,
+        component: event.component,
+        market: event.market,
         tight: (area == 1) & set,
         a: cell.a,
         reference,
-        capability: load_u32(unit, 8),
-        rate: load_u32(unit, 12),
-        average_price: load_u32(unit, 16),
-        constrained_hours: load_u16(unit, 20),
+        capability: unit.capability,
+        rate: unit.rate,
+        average_price: unit.average_price,
+        constrained_hours: unit.constrained_hours,
         s: sums.s,
         g: sums.g,
         fuel_events: sums.fuel_events,
@@ -222,11 +225,12 @@ fn working_at(
     let mut leaders = [0usize; layout::MOST_EVENTS];
     let mut masks = [0u32; layout::MOST_EVENTS];
     find_flags(file, places, levels, &mut groups, &mut leaders, &mut masks);
+    let format = format_of(file);
     let events = section(file, 3);
     let flagged = bit_of(masks[i], h);
-    let instances = instances_at(section(file, 2), events, &groups, &masks, i);
+    let instances = instances_at(format, section(file, 2), events, &groups, &masks, i);
     let sums = party_figures(file, places, &leaders, i, h);
-    let totals = time_totals(events, levels, i);
+    let totals = time_totals(format, events, levels, i);
     let figures = figures_at(file, places[i], levels[i], sums, totals[h], i, h);
     let counts = Counts {
         n3: instances.n3,
@@ -254,7 +258,7 @@ pub fn working<'a>(file: &'a [u8], correction: &'a [u8], event: usize, hour: usi
         return refused_working(number);
     }
     let events = section(file, 3);
-    if (event < events.len() / layout::EVENT_WIDTH) & (hour < layout::HOURS) {
+    if (event < event_count(format_of(file), events)) & (hour < layout::HOURS) {
         return working_at(file, &places, &levels, event, hour);
     }
     refused_working(10)

@@ -4,7 +4,7 @@ use mathlib.Core.List.{List}
 use mathlib.Core.Path.{_≡_}
 use lib.ListN.{length}
 use Rattle.casefile.specs.Layout.{longestFile}
-use Rattle.casefile.specs.Decode.{sectionOf, FollowOn, decode}
+use Rattle.casefile.specs.Decode.{formatIn, sectionOf, FollowOn, decode}
 use Rattle.casefile.specs.Refusal.{refusal}
 use Rattle.casefile.proofs.AcceptedLaws as case
 use Rattle.sanctions.proofs.AcceptedLaws as sanctions
@@ -21,5 +21,5 @@ accepted-case f k n h =
     record {
       follow = case.follows f k n h;
       short = case.file-short f k n h;
-      ranges = sanctions.ranges (sectionOf f 0) (sectionOf f 2) (sectionOf f 3) (sanctions.accepted f k n h) (sectionOf f 1);
+      ranges = sanctions.ranges (formatIn f) (sectionOf f 0) (sectionOf f 2) (sectionOf f 3) (sanctions.accepted f k n h) (sectionOf f 1);
     }

@@ -8,6 +8,7 @@ use lib.Dec.{lit<}
 use Rattle.binary.specs.Bounded.{bitOf}
 use Rattle.binary.specs.Bytes.{valueAt, bytesOf}
 use Rattle.binary.proofs.Implies.{true→T}
+use Rattle.casefile.specs.declared.layout.Format.{Format}
 use Rattle.settlement.specs.Settled.{Settled}
 use Rattle.worse_conduct.specs.Promise.{NoSmaller}
 
@@ -19,9 +20,9 @@ oneRow flags multiplier penalty =
       rows = bytesOf 8 flags ++ bytesOf 8 penalty ++ bytesOf 8 0 ++ bytesOf 1 multiplier;
     }
 
-pub no-way-back : NoSmaller (oneRow 1 2 200400) (oneRow 0 0 0) → ⊥ × ⊥ × ⊥ × ⊥
+pub no-way-back : (format : Format) → NoSmaller format (oneRow 1 2 200400) (oneRow 0 0 0) → ⊥ × ⊥ × ⊥ × ⊥
 unfolding oneRow bitOf valueAt bytesOf
-no-way-back claim =
+no-way-back format claim =
     let flag : false ≡ true = claim .flags 0 0 (lit< tt) refl in
     let multiplier : 2 ≤ 0 = claim .multipliers 0 (lit< tt) in
     let penalty : 200400 ≤ 0 = claim .penalties 0 (lit< tt) in

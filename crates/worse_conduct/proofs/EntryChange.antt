@@ -10,9 +10,10 @@ use Rattle.binary.specs.Bytes.{byteAt, bytesOf}
 use Rattle.binary.proofs.BoundedLaws.{count-insert}
 use Rattle.binary.proofs.ByteLaws.{value-same, stretch-length, stretch-byte, stretch-same}
 use Rattle.casefile.specs.Layout.{headerWidth, longestFile, pastWidth}
-use Rattle.casefile.specs.Decode.{caseIn, offsetOf, lengthOf, sectionOf, FollowOn, recordAt, unitsIn, referencesIn, violationIn, pastIn, eventsIn, amountsIn, decode}
+use Rattle.casefile.specs.Decode.{formatIn, caseIn, offsetOf, lengthOf, sectionOf, FollowOn, recordAt, unitsIn, referencesIn, violationIn, pastIn, eventsIn, amountsIn, decode}
 use Rattle.worse_conduct.specs.Changes.{entry, entryPlace, entryPut, longerPast, laterEvents, headerMoved, apply, OneMoreEntry}
 use Rattle.worse_conduct.proofs.StoredWord.{Stored, sets-stored, value-apart}
+use Rattle.worse_conduct.proofs.FormatKept.{format-kept}
 use Rattle.worse_conduct.proofs.WorseCase.{WorseAmounts, MoreEntries, Worse, amounts-refl}
 
 -- ---- the parts of the change
@@ -186,8 +187,8 @@ module _ (f g : List ℕ) (L : FollowOn f) (k : ℕ) (lk : pastWidth * k ≤ len
       let n = past-size in
       let n′ = past-size′ in
       let m : ℕ = lengthOf f 2 / pastWidth - k in
-      let c : length (sectionOf f 2) / pastWidth ≡ k + m = omega arith in
-      let c′ : length (sectionOf g 2) / pastWidth ≡ k + (1 + m) = omega arith in
+      let c : pastIn (sectionOf f 2) .count ≡ k + m = omega arith in
+      let c′ : pastIn (sectionOf g 2) .count ≡ k + (1 + m) = omega arith in
       record {
         more = λ t. rw (c, c′)
             (count-insert k m (λ j. t (violationIn (recordAt pastWidth (sectionOf f 2) j)))
@@ -196,23 +197,24 @@ module _ (f g : List ℕ) (L : FollowOn f) (k : ℕ) (lk : pastWidth * k ≤ len
             (λ j l. ap (λ (r : List ℕ). t (violationIn r)) (entry-after j (omega arith))));
       }
 
-  worse : Worse (decode f) (decode g)
+  worse : formatIn g ≡ formatIn f → Worse (decode f) (decode g)
   unfolding decode caseIn
-  worse =
-      record {
-        units = ap unitsIn (front 0 (omega arith) (omega arith) (omega arith));
-        references = ap referencesIn (front 1 (omega arith) (omega arith) (omega arith));
-        events = ap eventsIn back;
+  worse kept =
+      rw kept
+      (record {
+        units = ap (unitsIn (formatIn f)) (front 0 (omega arith) (omega arith) (omega arith));
+        references = ap (referencesIn (formatIn f)) (front 1 (omega arith) (omega arith) (omega arith));
+        events = ap (eventsIn (formatIn f)) back;
         past = more-entries;
-        amounts = subst (λ (s : List ℕ). WorseAmounts (eventsIn (sectionOf f 3)) (amountsIn (sectionOf f 3)) (amountsIn s)) back
-            (amounts-refl (eventsIn (sectionOf f 3)) (amountsIn (sectionOf f 3)));
-      }
+        amounts = subst (λ (s : List ℕ). WorseAmounts (eventsIn (formatIn f) (sectionOf f 3)) (amountsIn (formatIn f) (sectionOf f 3)) (amountsIn (formatIn f) s)) back
+            (amounts-refl (eventsIn (formatIn f) (sectionOf f 3)) (amountsIn (formatIn f) (sectionOf f 3)));
+      })
 
 in-range : (f : List ℕ) (k : ℕ) (e : List ℕ) → FollowOn f → OneMoreEntry (decode f) k e → pastWidth * k ≤ lengthOf f 2
 unfolding decode caseIn pastIn sectionOf
 in-range f k e L c =
     let n : length (sectionOf f 2) ≡ lengthOf f 2 = stretch-length f (offsetOf f 2) (lengthOf f 2) (omega arith) in
-    let p : k ≤ length (sectionOf f 2) / pastWidth = c .place in
+    let p : k ≤ pastIn (sectionOf f 2) .count = c .place in
     omega arith
 
 module _ (f : List ℕ) (L : FollowOn f) (k : ℕ) (e : List ℕ) (c : OneMoreEntry (decode f) k e) (short : length f + pastWidth ≤ longestFile) where
@@ -222,4 +224,5 @@ module _ (f : List ℕ) (L : FollowOn f) (k : ℕ) (e : List ℕ) (c : OneMoreEn
 
   pub entry-worse : Worse (decode f) (decode (apply (entry k e) f))
   unfolding apply
-  entry-worse = worse f _ L k (in-range f k e L c) (entry-grown f L k e (in-range f k e L c) (c .size) short)
+  entry-worse =
+      worse f _ L k (in-range f k e L c) (entry-grown f L k e (in-range f k e L c) (c .size) short) (format-kept (entry k e) f L)

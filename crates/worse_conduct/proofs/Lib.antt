@@ -1,5 +1,6 @@
 pub mod WorseCase
 pub mod StoredWord
+pub mod FormatKept
 pub mod CellChange
 pub mod EntryChange
 pub mod AcceptedCase

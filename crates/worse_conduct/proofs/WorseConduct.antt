@@ -1,7 +1,7 @@
 -- Demand 3, one theorem for every list of changes.
 use Prim.Native.Nat.{ℕ, _+_, _^_, _≤_, _<_}
 use mathlib.Core.List.{List, [], _∷_}
-use mathlib.Core.Path.{_≡_, sym, _∙_, ap, subst₂}
+use mathlib.Core.Path.{_≡_, refl, sym, _∙_, ap, subst₂}
 use native.Mathlib.Nat.{le-refl, le-trans, lt-of-lt-of-le}
 use native.Mathlib.Omega.{arith}
 use lib.ListN.{length, length-append, length-take, length-drop}
@@ -9,9 +9,10 @@ use lib.Pow.{pow-mono}
 use lib.Seq.{length-sets}
 use Rattle.binary.specs.Bounded.{bitOf}
 use Rattle.binary.proofs.MaskLaws.{mask-lt}
+use Rattle.casefile.specs.declared.layout.Format.{Format}
 use Rattle.casefile.specs.Layout.{longestFile}
 use Rattle.casefile.specs.Case.{References, Case}
-use Rattle.casefile.specs.Decode.{FollowOn, decode}
+use Rattle.casefile.specs.Decode.{formatIn, FollowOn, decode}
 use Rattle.casefile.specs.Lookup.{correctIn}
 use Rattle.casefile.specs.Refusal.{refusal}
 use Rattle.conduct.specs.Flags.{flagged, flagMask}
@@ -22,6 +23,7 @@ use Rattle.settlement.proofs.RowLaws.{rows-flags, rows-multiplier, rows-penalty
 use Rattle.worse_conduct.specs.Changes.{Change, cell, entry, cellWritten, entryPut, headerMoved, apply, applyAll, Takes, TakesAll}
 use Rattle.worse_conduct.specs.Promise.{EnergyNotNegative, NoSmaller}
 use Rattle.worse_conduct.proofs.WorseCase.{Worse, worse-refl, worse-trans, Figures, worse-figures}
+use Rattle.worse_conduct.proofs.FormatKept.{format-kept}
 use Rattle.worse_conduct.proofs.CellChange.{cell-follow, cell-worse}
 use Rattle.worse_conduct.proofs.EntryChange.{entry-follow, entry-worse}
 use Rattle.worse_conduct.proofs.AcceptedCase.{accepted-case}
@@ -63,6 +65,15 @@ list-worse (x ∷ xs) f L t b =
     let s = le-trans (grows-all xs (apply x f)) b in
     worse-trans (step-worse x f L (t .0) s) (list-worse xs (apply x f) (step-follow x f L (t .0) s) (t .1) b)
 
+-- no list of changes writes the version (FormatKept): every file on the way is read in the format of the first
+all-kept : (xs : List Change) (f : List ℕ) → FollowOn f → TakesAll f xs → length (applyAll xs f) ≤ longestFile
+    → formatIn (applyAll xs f) ≡ formatIn f
+unfolding applyAll
+all-kept [] f L t b = refl
+all-kept (x ∷ xs) f L t b =
+    let s = le-trans (grows-all xs (apply x f)) b in
+    all-kept xs (apply x f) (step-follow x f L (t .0) s) (t .1) b ∙ format-kept x f L
+
 -- ---- the rows
 
 mask-fits : (c : Case) (r : Ranges c) (i : ℕ) → flagMask c i < 2 ^ 32
@@ -70,29 +81,29 @@ unfolding flagMask
 mask-fits c r i =
     lt-of-lt-of-le (mask-lt (c .events .hours i) (flagged c i)) (pow-mono {j = 32} (le-trans (r .hours i) (omega arith)))
 
--- the rows that settling leaves, from the figures of the two cases
-rows-worse : (f f′ k rows rows′ : List ℕ) → Ranges (decode f) → Ranges (decode f′) → Figures (decode f) (decode f′)
-    → NoSmaller (record { answer = accepted f k; rows = rowsOf (decode f) (correctIn f k) rows })
-    (record { answer = accepted f′ k; rows = rowsOf (decode f′) (correctIn f′ k) rows′ })
+-- the rows that settling leaves in one format, from the figures of the two cases
+rows-worse : (format : Format) (f f′ k rows rows′ : List ℕ) → Ranges (decode f) → Ranges (decode f′) → Figures (decode f) (decode f′)
+    → NoSmaller format (record { answer = accepted f k; rows = rowsOf format (decode f) (correctIn f k) rows })
+    (record { answer = accepted f′ k; rows = rowsOf format (decode f′) (correctIn f′ k) rows′ })
 unfolding accepted
-rows-worse f f′ k rows rows′ r r′ w =
+rows-worse format f f′ k rows rows′ r r′ w =
     record {
       rowCount = w .count;
       flags = λ i h l e.
-          ap (λ (x : ℕ). bitOf x h) (rows-flags c′ q′ rows′ i (later i l) (mask-fits c′ r′ i))
-          ∙ w .flags i h (ap (λ (x : ℕ). bitOf x h) (sym (rows-flags c q rows i l (mask-fits c r i))) ∙ e);
+          ap (λ (x : ℕ). bitOf x h) (rows-flags format c′ q′ rows′ i (later i l) (mask-fits c′ r′ i))
+          ∙ w .flags i h (ap (λ (x : ℕ). bitOf x h) (sym (rows-flags format c q rows i l (mask-fits c r i))) ∙ e);
       multipliers = λ i l.
           let x = multiplier-bound c i in
           let y = multiplier-bound c′ i in
-          let p = rows-multiplier c q rows i l (omega arith) in
-          let p′ = rows-multiplier c′ q′ rows′ i (later i l) (omega arith) in
+          let p = rows-multiplier format c q rows i l (omega arith) in
+          let p′ = rows-multiplier format c′ q′ rows′ i (later i l) (omega arith) in
           let z = w .multipliers i l in
           omega arith;
       penalties = λ i l.
           let x = penalty-bound c r i l in
           let y = penalty-bound c′ r′ i (later i l) in
-          let p = rows-penalty c q rows i l (omega arith) in
-          let p′ = rows-penalty c′ q′ rows′ i (later i l) (omega arith) in
+          let p = rows-penalty format c q rows i l (omega arith) in
+          let p′ = rows-penalty format c′ q′ rows′ i (later i l) (omega arith) in
           let z = w .penalties i l in
           omega arith;
       total = omega (arith, w .total);
@@ -119,12 +130,14 @@ pub worse-conduct : (file correction rows worseRows : List ℕ) (changes : List 
     → refusal file correction (length rows) ≡ 0
     → refusal (applyAll changes file) correction (length worseRows) ≡ 0
     → EnergyNotNegative (decode file)
-    → NoSmaller (settled file correction rows) (settled (applyAll changes file) correction worseRows)
+    → NoSmaller (formatIn file) (settled file correction rows) (settled (applyAll changes file) correction worseRows)
 worse-conduct file correction rows worseRows changes takes before after energy =
     let p = accepted-case file correction (length rows) before in
     let p′ = accepted-case (applyAll changes file) correction (length worseRows) after in
     let w = list-worse changes file (p .follow) takes (p′ .short) in
-    subst₂ NoSmaller (sym (settled-accepted file correction rows before))
+    let kept = all-kept changes file (p .follow) takes (p′ .short) in
+    subst₂ (NoSmaller (formatIn file)) (sym (settled-accepted file correction rows before))
     (sym (settled-accepted (applyAll changes file) correction worseRows after))
-    (rows-worse file (applyAll changes file) correction rows worseRows (p .ranges) (p′ .ranges)
-    (worse-figures (decode file) (decode (applyAll changes file)) w energy))
+    (rw kept
+    (rows-worse (formatIn file) file (applyAll changes file) correction rows worseRows (p .ranges) (p′ .ranges)
+    (worse-figures (decode file) (decode (applyAll changes file)) w energy)))

@@ -11,7 +11,7 @@ use Rattle.binary.specs.Bytes.{bytesOf}
 use Rattle.binary.specs.Word.{positivePart, negativePart}
 use Rattle.casefile.specs.Layout.{pastWidth, eventWidth}
 use Rattle.casefile.specs.Case.{Case}
-use Rattle.casefile.specs.Decode.{offsetOf, lengthOf, cellAt, decode}
+use Rattle.casefile.specs.Decode.{formatIn, offsetOf, lengthOf, cellAt, decode}
 
 pub data Change : Type 0 where
   -- a of the event and the hour becomes the word
@@ -23,7 +23,7 @@ pub data Change : Type 0 where
 
 -- where a of event i and hour h stands in the file
 unfoldable pub cellPlace : List ℕ → (i h : ℕ) → ℕ
-cellPlace f i h = offsetOf f 3 + (eventWidth * i + cellAt h)
+cellPlace f i h = offsetOf f 3 + (eventWidth (formatIn f) * i + cellAt h)
 
 unfoldable pub cellWritten : (i h w : ℕ) → List ℕ → List ℕ
 cellWritten i h w f = sets f (cellPlace f i h) (bytesOf 4 w)

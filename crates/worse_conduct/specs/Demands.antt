@@ -8,7 +8,7 @@ use lib.ListN.{length, drop}
 use Rattle.binary.specs.Lists.{joinTo}
 use Rattle.casefile.specs.Layout.{rowWidth}
 use Rattle.casefile.specs.Case.{Case}
-use Rattle.casefile.specs.Decode.{decode}
+use Rattle.casefile.specs.Decode.{formatIn, decode}
 use Rattle.casefile.specs.Lookup.{correctIn}
 use Rattle.casefile.specs.Refusal.{limits, refusal, MeetsAll, LowestBroken}
 use Rattle.sanctions.specs.Penalties.{totalPenalty}
@@ -43,7 +43,7 @@ module _ (file correction rows : List ℕ) (answer : Settlement) (after : List �
   -- documents state.
   pub record Demand2 : Type 0 where
     pub rows-stated : refusal file correction (length rows) ≡ 0
-        → after ≡ joinTo (decode file .events .count) (rowOf (decode file) (correctIn file correction)) ++ drop (rowWidth * decode file .events .count) rows
+        → after ≡ joinTo (decode file .events .count) (rowOf (decode file) (correctIn file correction)) ++ drop (rowWidth (formatIn file) * decode file .events .count) rows
     pub penalties-stated : refusal file correction (length rows) ≡ 0 → answerOfSettlement answer .penalties ≡ totalPenalty (decode file)
     pub make-ups-stated : refusal file correction (length rows) ≡ 0
         → answerOfSettlement answer .makeUps ≡ totalMakeUp (decode file) (correctIn file correction)
@@ -58,7 +58,7 @@ module _ (file worse correction rows worseRows : List ℕ) (answer worseAnswer :
       → refusal file correction (length rows) ≡ 0
       → refusal worse correction (length worseRows) ≡ 0
       → Premise (decode file)
-      → NoSmaller (record { answer = answerOfSettlement answer; rows = after }) (record { answer = answerOfSettlement worseAnswer; rows = worseAfter })
+      → NoSmaller (formatIn file) (record { answer = answerOfSettlement answer; rows = after }) (record { answer = answerOfSettlement worseAnswer; rows = worseAfter })
 
   -- Demand 3. Take every list of changes, of any number and in any order, that leads from one case to a worse one. Each change is
   -- made to the case as the one before left it, and is one of three: a higher a in an hour cell of a withheld or dispatch event; a

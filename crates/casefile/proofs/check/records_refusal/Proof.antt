@@ -7,7 +7,7 @@ use Rattle.casefile.proofs.RangeLaws.{numbers-in-order}
 use Rattle.casefile.proofs.check.records_refusal.Statement.{statement}
 use Rattle.casefile.proofs.check.records_refusal.Tie as tie
 
-fine : (c : tie.Else1) → unitsFine (c .before .before .before .before .before .before .args .units .now) ≡ true
+fine : (c : tie.Else1) → let s = c .before .before .before .before .before .before .args in unitsFine (s .format) (s .units .now) ≡ true
 fine c = sym (c .before .units-fine .ensures) ∙ not-false _ (c .if1 .left)
 
 pub records-refusal-spec : {M : Type 1} → statement M
@@ -17,8 +17,8 @@ records-refusal-spec =
     (tie.spec
     (λ c κs. tt)
     (λ c. rw (sym (c .before .units-fine .ensures) ∙ not-true _ (c .if1 .taken)))
-    (λ c κs. numbers-in-order _ (fine c))
-    (λ c κs. numbers-in-order _ (fine (c .before)))
+    (λ c κs. numbers-in-order _ _ (fine c))
+    (λ c κs. numbers-in-order _ _ (fine (c .before)))
     (λ c κs. tt)
     (λ c κs. tt)
     (λ c κs. tt)

@@ -1,9 +1,9 @@
-use Prim.Native.Nat.{_-_, _/_, _≤_}
+use Prim.Native.Nat.{_-_, _≤_}
 use mathlib.Core.Path.{_≡_}
 use borrow.Author.Needs.{needs}
 use native.Mathlib.Omega.{arith}
 use lib.ListN.{length}
-use Rattle.casefile.specs.Layout.{eventWidth, mostEvents}
+use Rattle.casefile.specs.Layout.{mostEvents}
 use Rattle.casefile.specs.Decode.{referencesIn, eventsIn}
 use Rattle.casefile.specs.Refusal.{referencesFound}
 use Rattle.casefile.proofs.CheckedLaws.{LevelsFound, levels-start, levels-turn}
@@ -11,22 +11,23 @@ use Rattle.casefile.proofs.events.references_found.Statement.{statement
 use Rattle.casefile.proofs.events.references_found.Tie as tie
 
 abbrev Inv-loop : tie.InvT-loop
-Inv-loop references correct events own₀ other₀ n fine₀ i₀ own other fine i =
-    (i ≤ length events / eventWidth) × (length own ≡ mostEvents) × (length other ≡ mostEvents)
-    × LevelsFound (referencesIn references) (referencesIn correct) (eventsIn events) i fine own other
+Inv-loop format references correct events own₀ other₀ n fine₀ i₀ own other fine i =
+    (i ≤ eventsIn format events .count) × (length own ≡ mostEvents) × (length other ≡ mostEvents)
+    × LevelsFound (referencesIn format references) (referencesIn format correct) (eventsIn format events) i fine own other
 
 abbrev μ-loop : tie.MeasureT-loop
-μ-loop references correct events own₀ other₀ n fine₀ i₀ own other fine i = length events / eventWidth - i
+μ-loop format references correct events own₀ other₀ n fine₀ i₀ own other fine i = eventsIn format events .count - i
 
 pub references-found-spec : {M : Type 1} → statement M
-unfolding referencesFound eventsIn
+unfolding referencesFound
 references-found-spec =
     tie.close
     (tie.spec
     Inv-loop
     μ-loop
+    (λ c κs. tt)
     (λ c. (omega arith, search needs, search needs, levels-start _ _ _ _ _))
-    (λ c κs. let s = c .before .before .before .before .before .before .before in (c .loop-test .taken, s .pre .0, s .pre .1))
+    (λ c κs. let s = c .before .before .before .before .before .before .before .before in (omega arith, s .pre .0, s .pre .1))
     (λ c. search needs)
     (λ c. omega arith)
     (λ c. search needs)
@@ -43,6 +44,7 @@ references-found-spec =
     ))
     (λ c.
     let l = c .before .loop in
-    let e : l .i ≡ length (c .before .before .before .before .before .before .before .args .events .now) / eventWidth = omega arith in
+    let s = c .before .before .before .before .before .before .before .before .args in
+    let e : l .i ≡ eventsIn (s .format) (s .events .now) .count = omega arith in
     let w = rw e at (l .inv .3) in
     (w .found, (w .levelled, w .corrected))))

@@ -21,16 +21,17 @@ header-refusal-spec =
     (λ c κs. tt)
     (λ c κs. tt)
     (λ c.
-    let s = c .before .before .before .before in
+    let u = c .before .before in
+    let s = u .before .before .before in
     let p = s .before .before .before .before in
     simp (le-leb _ _ (p .before .if1 .left), le-leb _ _ (p .if2 .left))
     (rw (
       c .unless4 .ensures,
-      c .before .unless3 .ensures,
-      c .before .before .unless2 .ensures,
-      c .before .before .before .unless .ensures,
+      u .unless3 .ensures,
+      u .before .unless2 .ensures,
+      u .before .before .unless .ensures,
       s .sizes-fine .ensures,
       s .before .pairs-fine .ensures,
-      s .before .before .load-u162 .ensures,
-      s .before .before .before .load-u16 .ensures,
+      s .before .before .load-u16 .ensures,
+      s .before .before .before .format-of .ensures,
     ))))

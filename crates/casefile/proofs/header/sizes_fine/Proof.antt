@@ -20,14 +20,6 @@ sizes-fine-spec =
     (λ c κs. search needs)
     (λ c κs. search needs)
     (λ c κs. search needs)
-    (λ c.
-    rw (
-      c .size-fine4 .ensures,
-      c .before .size-fine3 .ensures,
-      c .before .before .size-fine2 .ensures,
-      c .before .before .before .size-fine .ensures,
-      c .before .before .before .before .length-of4 .ensures,
-      c .before .before .before .before .before .length-of3 .ensures,
-      c .before .before .before .before .before .before .length-of2 .ensures,
-      c .before .before .before .before .before .before .before .length-of .ensures,
-    )))
+    (λ c κs. search needs)
+    (λ c κs. search needs)
+    (λ c. rw (c .size-fine4 .ensures, c .before .size-fine3 .ensures, c .before .before .size-fine2 .ensures, c .before .before .before .size-fine .ensures, c .before .before .before .before .widths-of .ensures .0, c .before .before .before .before .before .format-of .ensures, c .before .before .before .before .before .before .length-of4 .ensures, c .before .before .before .before .before .before .before .length-of3 .ensures, c .before .before .before .before .before .before .before .before .length-of2 .ensures, c .before .before .before .before .before .before .before .before .before .length-of .ensures)))

@@ -9,7 +9,14 @@ unfolding correctionFine
 correction-fine-spec =
     tie.close
     (tie.spec
+    (λ c κs. tt)
     (λ c κs. search needs)
-    (λ c κs. c .before .before .before .before .pre)
-    (λ c. rw (c .references-fine .ensures, sym (c .before .before .size-fine .ensures) ∙ c .before .if1 .taken))
-    (λ c. rw (sym (c .before .size-fine .ensures) ∙ c .if1 .left)))
+    (λ c κs. c .before .before .before .before .before .pre)
+    (λ c.
+    let w = c .before .before .before .widths-of .ensures .0 in
+    let fine = rw w at (sym (c .before .before .size-fine .ensures) ∙ c .before .if1 .taken) in
+    rw (c .references-fine .ensures, fine))
+    (λ c.
+    let w = c .before .before .widths-of .ensures .0 in
+    let small = rw w at (sym (c .before .size-fine .ensures) ∙ c .if1 .left) in
+    rw small))

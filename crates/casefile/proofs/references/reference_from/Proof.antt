@@ -1,10 +1,8 @@
 use Prim.Native.Nat.{ℕ, _+_, _-_, _/_}
 use mathlib.Core.Path.{_≡_, sym, ap}
-use native.Mathlib.Nat.{le-refl, not-suc-le-zero}
+use native.Mathlib.Nat.{not-suc-le-zero}
 use native.Mathlib.Omega.{arith}
 use lib.Dec.{ltb}
-use lib.ListN.{length}
-use Rattle.casefile.specs.Layout.{referenceWidth}
 use Rattle.casefile.specs.Decode.{referencesIn}
 use Rattle.casefile.specs.Lookup.{referenceKey}
 use Rattle.casefile.specs.StageLookup.{Between}
@@ -13,10 +11,10 @@ use Rattle.casefile.proofs.references.reference_from.Statement.{stateme
 use Rattle.casefile.proofs.references.reference_from.Tie as tie
 
 abbrev Inv-loop : tie.InvT-loop
-Inv-loop references key lo₀ hi₀ lo hi = Between (referenceKey (referencesIn references)) (length references / referenceWidth) key lo hi
+Inv-loop format references key lo₀ hi₀ lo hi = Between (referenceKey (referencesIn format references)) (referencesIn format references .count) key lo hi
 
 abbrev μ-loop : tie.MeasureT-loop
-μ-loop references key lo₀ hi₀ lo hi = hi - lo
+μ-loop format references key lo₀ hi₀ lo hi = hi - lo
 
 pub reference-from-spec : {M : Type 1} → statement M
 reference-from-spec =
@@ -24,10 +22,11 @@ reference-from-spec =
     (tie.spec
     Inv-loop
     μ-loop
+    (λ c κs. tt)
     (λ c.
     record {
       order = omega arith;
-      end = le-refl _;
+      end = omega arith;
       before = λ j l. absurd (not-suc-le-zero l);
       after = λ j g l. absurd (omega arith);
     })
@@ -40,16 +39,16 @@ reference-from-spec =
     (λ c.
     let k = c .before .before in
     let l = k .before .before .loop in
-    let s = k .before .before .before .before in
+    let s = k .before .before .before .before .before in
     rw (c .choose-usize2 .ensures, c .before .choose-usize .ensures)
-    (halve-less (referenceKey (referencesIn (s .args .references .now))) (length (s .args .references .now) / referenceWidth) (s .args .key) (l .lo) (l .hi)
+    (halve-less (referenceKey (referencesIn (s .args .format) (s .args .references .now))) (referencesIn (s .args .format) (s .args .references .now) .count) (s .args .key) (l .lo) (l .hi)
     (l .lo + (l .hi - l .lo) / 2) (s .pre) (l .inv) (omega arith) (omega arith) (ltb (k .reference-key .result) (s .args .key))))
     (λ c.
     let k = c .before .before in
     let l = k .before .before .loop in
-    let s = k .before .before .before .before in
+    let s = k .before .before .before .before .before in
     rw (c .choose-usize2 .ensures, c .before .choose-usize .ensures)
-    (halve (referenceKey (referencesIn (s .args .references .now))) (length (s .args .references .now) / referenceWidth) (s .args .key) (l .lo) (l .hi)
+    (halve (referenceKey (referencesIn (s .args .format) (s .args .references .now))) (referencesIn (s .args .format) (s .args .references .now) .count) (s .args .key) (l .lo) (l .hi)
     (l .lo + (l .hi - l .lo) / 2) (s .pre) (l .inv) (omega arith) (omega arith) _
     (ap (λ (x : ℕ). ltb x (s .args .key)) (sym (k .reference-key .ensures)))))
     (λ c.

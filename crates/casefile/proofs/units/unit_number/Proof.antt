@@ -1,13 +1,12 @@
 use borrow.Author.Needs.{needs}
-use Rattle.casefile.specs.Decode.{unitsIn}
+use Rattle.casefile.specs.StageRead.{unitAt}
 use Rattle.casefile.proofs.units.unit_number.Statement.{statement}
 use Rattle.casefile.proofs.units.unit_number.Tie as tie
 
 pub unit-number-spec : {M : Type 1} → statement M
-unfolding unitsIn
+unfolding unitAt
 unit-number-spec =
     tie.close
     (tie.spec
     (λ c κs. search needs)
-    (λ c κs. search needs)
-    (λ c. rw (c .load-u16 .ensures, c .before .record-at .ensures .0)))
+    (λ c. rw (c .unit-at .ensures)))

@@ -11,5 +11,5 @@ event-mask-spec =
     (λ c κs. search needs)
     (λ c κs. search needs)
     (λ c κs. search needs)
-    (λ c κs. (c .cells-of .ensures .1, c .before .before .before .before .before .pre .1))
-    (λ c. rw (c .failing-hours .ensures, c .before .cells-of .ensures .0, c .before .before .tight-hours .ensures, c .before .before .before .test-of .ensures)))
+    (λ c κs. search needs)
+    (λ c. rw (c .failing-hours .ensures, c .before .event-cells .ensures .0, c .before .before .tight-hours .ensures, c .before .before .before .test-of .ensures)))

@@ -15,5 +15,5 @@ find-parties-spec =
     let g = c .before .before .before in
     let a = g .before .before .before .before .args in (
       g .party-groups .ensures,
-      (λ i m. c .party-leaders .ensures i m ∙ leader-in (a .units .now) [] [] (a .events .now) _ _ i (g .party-groups .ensures) m),
+      (λ i m. c .party-leaders .ensures i m ∙ leader-in (a .format) (a .units .now) [] [] (a .events .now) _ _ i (g .party-groups .ensures) m),
     )))

@@ -6,7 +6,6 @@ use Rattle.conduct.proofs.parties.run_start.Statement.{statement}
 use Rattle.conduct.proofs.parties.run_start.Tie as tie
 
 pub run-start-spec : {M : Type 1} → statement M
-unfolding eventsIn
 run-start-spec =
     tie.close
     (tie.spec
@@ -15,5 +14,5 @@ run-start-spec =
     (λ c κs. tt)
     (λ c.
     let start = c .before .before .before .before in
-    run-turn (eventsIn (start .args .events .now)) _ _ (start .pre .0) (start .pre .1 .0) (start .pre .1 .1) _ _
+    run-turn (eventsIn (start .args .format) (start .args .events .now)) _ _ (start .pre .0) (start .pre .1 .0) (start .pre .1 .1) _ _
     (rw (c .before .before .place-before .ensures) at (c .before .same-run .ensures)) (c .choose-usize .ensures)))

@@ -10,11 +10,11 @@ use Rattle.conduct.proofs.sums.party_sums.Statement.{statement}
 use Rattle.conduct.proofs.sums.party_sums.Tie as tie
 
 abbrev Inv-loop : tie.InvT-loop
-Inv-loop events leaders i end sums₀ j₀ sums j =
-    (i ≤ j) × (j ≤ end) × ((k : ℕ) → getD sums k 0 ≤ 4294967295 * j) × HasRow (ledSum (caseIn [] [] [] events) leaders j i) sums
+Inv-loop format events leaders i end sums₀ j₀ sums j =
+    (i ≤ j) × (j ≤ end) × ((k : ℕ) → getD sums k 0 ≤ 4294967295 * j) × HasRow (ledSum (caseIn format [] [] [] events) leaders j i) sums
 
 abbrev μ-loop : tie.MeasureT-loop
-μ-loop events leaders i end sums₀ j₀ sums j = end - j
+μ-loop format events leaders i end sums₀ j₀ sums j = end - j
 
 pub party-sums-spec : {M : Type 1} → statement M
 party-sums-spec =
@@ -41,7 +41,7 @@ party-sums-spec =
           omega (
             arith,
             added-bound 24 (4294967295 * l .j) 4294967295 _ _ _ more (l .inv .2)
-                (counted-figure-le _ 4294967295 24 _ (λ h b. figure-le [] [] [] (a .events .now) (l .j) h (λ b. known .shared-slice-known .given b .fits) b)) k,
+                (counted-figure-le _ 4294967295 24 _ (λ h b. figure-le (a .format) [] [] [] (a .events .now) (l .j) h (λ b. known .shared-slice-known .given b .fits))) k,
           )),
       led-more _ _ _ _ _ _ (l .inv .3) more,
     ))

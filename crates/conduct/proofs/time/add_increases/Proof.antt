@@ -1,20 +1,20 @@
-use Prim.Native.Nat.{_≤_, _-_}
+use Prim.Native.Nat.{ℕ, _≤_, _-_}
 use mathlib.Core.Path.{_≡_, refl}
 use borrow.Author.Needs.{needs}
 use borrow.Author.Tests.{not-true, not-false}
 use native.Mathlib.Omega.{arith}
 use lib.ListN.{length, length-set}
-use Rattle.casefile.specs.Decode.{amountsIn}
+use Rattle.casefile.specs.StageRead.{cellOf}
 use Rattle.conduct.specs.StageFlags.{Added}
 use Rattle.conduct.specs.StageTime.{countedIncrease}
 use Rattle.conduct.proofs.SumLaws.{added-none, row-kept, row-more}
-use Rattle.conduct.proofs.TimeLaws.{counted-none, counted-is}
+use Rattle.conduct.proofs.TimeLaws.{counted-none, counted-is, increases-added}
 use Rattle.conduct.proofs.time.add_increases.Statement.{statement}
 use Rattle.conduct.proofs.time.add_increases.Tie as tie
 
 abbrev Inv-loop : tie.InvT-loop
 Inv-loop row₀ events level j counts cells h₀ row h =
-    (h ≤ 24) × (length row ≡ length row₀) × Added h row₀ row (countedIncrease (amountsIn events) level j counts)
+    (h ≤ 24) × (length row ≡ length row₀) × Added h row₀ row (countedIncrease (λ (_ x : ℕ). cellOf cells x .a) level j counts)
 
 abbrev μ-loop : tie.MeasureT-loop
 μ-loop row₀ events level j counts cells h₀ row h = 24 - h
@@ -47,11 +47,12 @@ add-increases-spec =
     let l = f .before .before .before .loop in
     let k = f .before .before .before .before in
     let d =
-    counted-is _ _ _ _ _ _ _ _ _ (not-false _ (k .before .if1 .left)) (k .cells-of .ensures .0) (f .before .cell-at .ensures)
+    counted-is _ _ _ _ _ _ _ _ (not-false _ (k .before .if1 .left)) (f .before .cell-at .ensures)
     (f .increase .ensures) (c .before .wide .ensures .0) in
     (omega arith, simp length-set (l .inv .1), row-more _ _ _ _ _ (omega arith) d (l .inv .2)))
     (λ c. c .before .loop .inv .1)
     (λ c.
     let l = c .before .loop in
     let e : l .h ≡ 24 = omega arith in
-    rw e at (l .inv .2)))
+    let s = c .before .before .before .before .before .before .args in
+    increases-added (s .format) (s .events .now) _ (s .j) _ _ _ (rw (c .before .before .event-cells .ensures .0, e) at (l .inv .2))))

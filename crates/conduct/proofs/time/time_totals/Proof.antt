@@ -14,10 +14,10 @@ time-totals-spec =
     (start .pre .0, (start .pre .1, sym (c .before .time-bid .ensures) ∙ c .if1 .taken)))
     (λ c κs.
     let start = c .before .before .before .before in
-    small-table _ _ _ _ _ (start .pre .0 .1) (c .time-increases .ensures))
+    small-table _ _ _ _ _ _ (start .pre .0 .1) (c .time-increases .ensures))
     (λ c.
-    totals-of _ _ _ _ _ (sym (c .before .before .before .time-bid .ensures) ∙ c .before .before .if1 .taken) (c .before .time-increases .ensures)
+    totals-of _ _ _ _ _ _ (sym (c .before .before .before .time-bid .ensures) ∙ c .before .before .if1 .taken) (c .before .time-increases .ensures)
     (c .hour-totals .ensures))
     (λ c.
     let start = c .before .before .before in
-    totals-none _ _ _ (start .pre .1) (start .pre .0 .0) (sym (c .before .time-bid .ensures) ∙ c .if1 .left)))
+    totals-none _ _ _ _ (start .pre .1) (start .pre .0 .0) (sym (c .before .time-bid .ensures) ∙ c .if1 .left)))

@@ -17,5 +17,5 @@ failing-with-spec =
     (λ c.
     let t = c .before .before .before in
     let a = t .before .before .before .before .args in
-    rw (c .failing-hours .ensures, c .before .before .cells-of .ensures .0, t .tight-hours .ensures, t .before .bid-of .ensures)
-    (tested-with (a .units .now) (a .events .now) (a .place) (a .correct) (a .i))))
+    rw (c .failing-hours .ensures, c .before .before .event-cells .ensures .0, t .tight-hours .ensures, t .before .bid-of .ensures)
+    (tested-with (a .format) (a .units .now) (a .events .now) (a .place) (a .correct) (a .i))))

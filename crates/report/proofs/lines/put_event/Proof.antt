@@ -1,42 +1,28 @@
 -- Five fields, one after another.
 use native.Mathlib.Omega.{arith}
 use borrow.Author.Needs.{needs}
-use Rattle.report.proofs.PutLaws.{then, read-as}
-use Rattle.report.specs.Line.{eventFields}
+use Rattle.report.proofs.PutLaws.{then}
+use Rattle.report.specs.StagePut.{eventText}
 use Rattle.report.proofs.lines.put_event.Statement.{statement}
 use Rattle.report.proofs.lines.put_event.Tie as tie
 
 returns : tie.Need-returns
-unfolding eventFields
+unfolding eventText
 returns c =
-    let c5 = c .before .before in
-    let c4 = c5 .before .before .before .before in
+    let p5 = c .before .before .put-field5 .ensures in
+    let c4 = c .before .before .before .before .before .before in
+    let p4 = c4 .put-field4 .ensures in
     let c3 = c4 .before .before .before .before in
+    let p3 = c3 .put-field3 .ensures in
     let c2 = c3 .before .before .before .before in
-    let c1 = c2 .before .before .before .before in
-    let l5 = c1 .before .before in
-    let l4 = l5 .before in
-    let l3 = l4 .before in
-    let l2 = l3 .before in
-    let l1 = l2 .before in
-    let p1 = read-as 32 (l1 .load-u32 .ensures) (c1 .put-field .ensures .0) in
-    let p2 = read-as 32 (l2 .load-u8 .ensures) (c2 .put-field2 .ensures .0) in
-    let p3 = read-as 32 (l3 .load-u16 .ensures) (c3 .put-field3 .ensures .0) in
-    let p4 = read-as 32 (l4 .load-u82 .ensures) (c4 .put-field4 .ensures .0) in
-    let p5 = read-as 32 (l5 .load-u83 .ensures) (c5 .put-field5 .ensures .0) in (
-      then (then (then (then p1 p2) p3) p4) p5,
-      omega (arith, c1 .put-field .ensures .1, c2 .put-field2 .ensures .1, c3 .put-field3 .ensures .1, c4 .put-field4 .ensures .1, c5 .put-field5 .ensures .1),
-    )
+    let p2 = c2 .put-field2 .ensures in
+    let p1 = c2 .before .before .before .before .put-field .ensures in
+    (then (then (then (then (p1 .0) (p2 .0)) (p3 .0)) (p4 .0)) (p5 .0), omega (arith, p1 .1, p2 .1, p3 .1, p4 .1, p5 .1))
 
 pub put-event-spec : {M : Type 1} → statement M
 put-event-spec =
     tie.close
     (tie.spec
-    (λ c κs. search needs)
-    (λ c κs. search needs)
-    (λ c κs. search needs)
-    (λ c κs. search needs)
-    (λ c κs. search needs)
     (λ c. search needs)
     (λ c κs. search needs)
     (λ c. search needs)

@@ -23,5 +23,5 @@ dispatch-spec =
       sym (w .before .with-impact .ensures) ∙ not-false _ (w .if1 .left),
       c .dispatch-penalty .ensures,
       c .before .revenue .ensures .0,
-      c .before .before .before .cells-of .ensures .0,
+      c .before .before .before .event-cells .ensures .0,
     )))

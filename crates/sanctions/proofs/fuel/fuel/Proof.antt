@@ -2,7 +2,7 @@ use Prim.Native.Nat.{_≤_}
 use native.Mathlib.Nat.{le-refl}
 use native.Mathlib.Omega.{arith}
 use borrow.Author.Needs.{needs}
-use Rattle.casefile.specs.Decode.{eventsIn}
+use Rattle.casefile.specs.StageRead.{eventAt}
 use Rattle.sanctions.specs.StageTables.{multiplierAt, partyPenalty, fuelRow}
 use Rattle.sanctions.proofs.TableLaws.{SmallDay, day-small, after-small}
 use Rattle.sanctions.proofs.fuel.fuel.Statement.{statement}
@@ -10,19 +10,18 @@ use Rattle.sanctions.proofs.fuel.fuel.Tie as tie
 
 small : (c : tie.After-party-day) → SmallDay (c .party-day .result)
 small c =
-    let s = c .before .before .before .before .before .before .before .before .before .before in
+    let s = c .before .before .before .before .before .before .before .before .before in
     rw (c .party-day .ensures)
-    (day-small (s .args .events .now) (s .args .leaders .now) _ (s .args .i) (s .pre .2) (s .pre .3) _ (le-refl _) (s .pre .1))
+    (day-small (s .args .format) (s .args .events .now) (s .args .leaders .now) _ (s .args .i) (s .pre .2) (s .pre .3) _ (le-refl _) (s .pre .1))
 
 few : (c : tie.After-multiplier-after) → c .multiplier-after .result ≤ 3
 few c = rw (c .multiplier-after .ensures) (after-small _)
 
 pub fuel-spec : {M : Type 1} → statement M
-unfolding fuelRow multiplierAt partyPenalty eventsIn
+unfolding eventAt fuelRow multiplierAt partyPenalty
 fuel-spec =
     tie.close
     (tie.spec
-    (λ c κs. search needs)
     (λ c κs. search needs)
     (λ c. search needs)
     (λ c. search needs)
@@ -48,6 +47,5 @@ fuel-spec =
       m .multiplier-after .ensures,
       m .before .prior-past .ensures,
       h .prior-here .ensures,
-      h .before .before .load-u32 .ensures,
-      h .before .before .before .record-at .ensures .0,
+      h .before .before .event-at .ensures,
     )))

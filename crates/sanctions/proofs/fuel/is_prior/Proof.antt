@@ -1,20 +1,18 @@
 use borrow.Author.Needs.{needs}
-use Rattle.casefile.specs.Decode.{eventsIn}
+use Rattle.casefile.specs.StageRead.{eventAt}
 use Rattle.sanctions.specs.StageTables.{fuelRowCounts}
 use Rattle.sanctions.proofs.fuel.is_prior.Statement.{statement}
 use Rattle.sanctions.proofs.fuel.is_prior.Tie as tie
 
 pub is-prior-spec : {M : Type 1} → statement M
-unfolding eventsIn fuelRowCounts
+unfolding eventAt fuelRowCounts
 is-prior-spec =
     tie.close
     (tie.spec
     (λ c κs. search needs)
     (λ c κs. search needs)
-    (λ c κs. search needs)
-    (λ c κs. search needs)
     (λ c. search needs)
     (λ c. search needs)
     (λ c. search needs)
     (λ c. search needs)
-    (λ c. rw (c .before .before .fuel-day-counts .ensures, c .before .before .before .load-u32 .ensures, c .before .before .before .before .load-u8 .ensures, c .before .before .before .before .before .record-at .ensures .0)))
+    (λ c. rw (c .before .before .fuel-day-counts .ensures, c .before .before .before .event-at .ensures)))

@@ -9,12 +9,12 @@ use Rattle.sanctions.proofs.instances.instances_here.Statement.{stateme
 use Rattle.sanctions.proofs.instances.instances_here.Tie as tie
 
 abbrev Inv-loop : tie.InvT-loop
-Inv-loop events groups masks group market period i three₀ two₀ j₀ three two j =
-    (j ≤ i) × (three ≤ j) × (two ≤ j) × (three ≡ countTo j (rowCounts events groups masks group market period 2))
-    × (two ≡ countTo j (rowCounts events groups masks group market period 1))
+Inv-loop format events groups masks group market period i three₀ two₀ j₀ three two j =
+    (j ≤ i) × (three ≤ j) × (two ≤ j) × (three ≡ countTo j (rowCounts format events groups masks group market period 2))
+    × (two ≡ countTo j (rowCounts format events groups masks group market period 1))
 
 abbrev μ-loop : tie.MeasureT-loop
-μ-loop events groups masks group market period i three₀ two₀ j₀ three two j = i - j
+μ-loop format events groups masks group market period i three₀ two₀ j₀ three two j = i - j
 
 pub instances-here-spec : {M : Type 1} → statement M
 unfolding rowCounts instancesHere

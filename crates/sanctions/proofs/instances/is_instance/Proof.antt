@@ -1,15 +1,14 @@
 use borrow.Author.Needs.{needs}
-use Rattle.casefile.specs.Decode.{eventsIn}
+use Rattle.casefile.specs.StageRead.{eventAt}
 use Rattle.sanctions.specs.StageTables.{instanceAt}
 use Rattle.sanctions.proofs.instances.is_instance.Statement.{statement}
 use Rattle.sanctions.proofs.instances.is_instance.Tie as tie
 
 pub is-instance-spec : {M : Type 1} → statement M
-unfolding eventsIn instanceAt
+unfolding eventAt instanceAt
 is-instance-spec =
     tie.close
     (tie.spec
     (λ c κs. search needs)
     (λ c κs. search needs)
-    (λ c κs. search needs)
-    (λ c. rw (c .with-impact .ensures, c .before .load-u8 .ensures, c .before .before .record-at .ensures .0)))
+    (λ c. rw (c .with-impact .ensures, c .before .event-at .ensures)))

@@ -1,17 +1,16 @@
 use borrow.Author.Needs.{needs}
-use Rattle.casefile.specs.Decode.{eventsIn}
+use Rattle.casefile.specs.StageRead.{eventAt}
 use Rattle.sanctions.specs.StageTables.{instanceOf}
 use Rattle.sanctions.proofs.instances.is_instance_of.Statement.{statement}
 use Rattle.sanctions.proofs.instances.is_instance_of.Tie as tie
 
 pub is-instance-of-spec : {M : Type 1} → statement M
-unfolding eventsIn instanceOf
+unfolding eventAt instanceOf
 is-instance-of-spec =
     tie.close
     (tie.spec
     (λ c κs. search needs)
     (λ c κs. search needs)
-    (λ c κs. search needs)
     (λ c. search needs)
     (λ c. search needs)
-    (λ c. rw (c .before .is-instance .ensures, c .before .before .load-u8 .ensures, c .before .before .before .record-at .ensures .0)))
+    (λ c. rw (c .before .is-instance .ensures, c .before .before .event-at .ensures)))

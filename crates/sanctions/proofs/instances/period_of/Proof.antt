@@ -1,13 +1,12 @@
 use borrow.Author.Needs.{needs}
-use Rattle.casefile.specs.Decode.{eventsIn}
+use Rattle.casefile.specs.StageRead.{eventAt}
 use Rattle.sanctions.proofs.instances.period_of.Statement.{statement}
 use Rattle.sanctions.proofs.instances.period_of.Tie as tie
 
 pub period-of-spec : {M : Type 1} → statement M
-unfolding eventsIn
+unfolding eventAt
 period-of-spec =
     tie.close
     (tie.spec
     (λ c κs. search needs)
-    (λ c κs. search needs)
-    (λ c. rw (c .load-u16 .ensures, c .before .record-at .ensures .0)))
+    (λ c. rw (c .event-at .ensures)))

@@ -6,15 +6,16 @@ use lib.Dec.{eqb}
 use lib.ListN.{getD}
 use Rattle.binary.proofs.Implies.{and-l}
 use Rattle.casefile.specs.Decode.{eventsIn}
+use Rattle.casefile.specs.StageRead.{eventAt}
 use Rattle.sanctions.specs.StageTables.{noSanction, rowAt}
 use Rattle.sanctions.proofs.penalties.sanction_at.Statement.{statement}
 use Rattle.sanctions.proofs.penalties.sanction_at.Tie as tie
 
-kind : (c : tie.After-load-u8)
-    → let a = c .before .before .before .before .args in
-    c .load-u8 .result ≡ eventsIn (a .events .now) .kind (a .i)
-unfolding eventsIn
-kind c = rw (c .load-u8 .ensures, c .before .record-at .ensures .0)
+kind : (c : tie.After-event-at)
+    → let a = c .before .before .before .args in
+    c .event-at .result .kind ≡ eventsIn (a .format) (a .events .now) .kind (a .i)
+unfolding eventAt
+kind c = rw (c .event-at .ensures)
 
 pub sanction-at-spec : {M : Type 1} → statement M
 unfolding rowAt noSanction
@@ -22,10 +23,9 @@ sanction-at-spec =
     tie.close
     (tie.spec
     (λ c κs. search needs)
-    (λ c κs. search needs)
     (λ c κs.
     let k = kind (c .before) in
-    let s = c .before .before .before .before .before in (
+    let s = c .before .before .before .before in (
       s .pre .0 .0,
       omega arith,
       s .pre .0 .2,
@@ -45,10 +45,10 @@ sanction-at-spec =
     (λ c. search needs)
     (λ c κs.
     let k = kind (c .before .before .before .before) in
-    let s = c .before .before .before .before .before .before .before .before in (
+    let s = c .before .before .before .before .before .before .before in (
       s .pre .0 .0,
       s .pre .0 .1,
-      sym k ∙ eqb-true _ 3 (and-l (eqb (c .before .before .before .before .load-u8 .result) 3) (eqb (getD (s .args .leaders .now) (s .args .i) 0) (s .args .i)) (c .if3 .taken)),
+      sym k ∙ eqb-true _ 3 (and-l (eqb (c .before .before .before .before .event-at .result .kind) 3) (eqb (getD (s .args .leaders .now) (s .args .i) 0) (s .args .i)) (c .if3 .taken)),
       s .pre .1,
     ))
     (λ c.

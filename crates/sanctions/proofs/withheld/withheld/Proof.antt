@@ -19,7 +19,7 @@ withheld-spec =
     (λ c. search needs)
     (λ c κs.
     let s = c .before .before .before .before .before .before .before in
-    (c .before .cells-of .ensures .1, rw (c .before .cells-of .ensures .0) (s .pre .3)))
+    (c .before .event-cells .ensures .1, rw (c .before .event-cells .ensures .0) (s .pre .3)))
     (λ c κs. c .amount .ensures .1)
     (λ c.
     let l = c .before .before .before .before in
@@ -28,6 +28,6 @@ withheld-spec =
       ne-eqb _ 0 (l .before .if1 .left),
       c .withheld-penalty .ensures,
       c .before .amount .ensures .0,
-      c .before .before .before .cells-of .ensures .0,
+      c .before .before .before .event-cells .ensures .0,
       l .ladder .ensures,
     )))

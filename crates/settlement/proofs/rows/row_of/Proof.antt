@@ -21,6 +21,6 @@ row-of-spec =
     (λ c κs. search needs)
     (λ c κs. search needs)
     (λ c. (
-      row-made _ _ _ _ _ _ _ _ _ _ _ (c .before .before .before .mitigated-mask .ensures) (c .before .bids-in-force .ensures) (c .event-make-up .ensures .0),
+      row-made _ _ _ _ _ _ _ _ _ _ _ _ (c .before .before .before .mitigated-mask .ensures) (c .before .bids-in-force .ensures) (c .event-make-up .ensures .0),
       c .event-make-up .ensures .1,
     )))

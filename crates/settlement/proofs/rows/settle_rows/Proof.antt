@@ -1,4 +1,4 @@
-use Prim.Native.Nat.{ℕ, _-_, _*_, _/_, _≤_, _<_}
+use Prim.Native.Nat.{ℕ, _-_, _*_, _≤_, _<_}
 use mathlib.Core.List.{_++_}
 use mathlib.Core.Path.{_≡_, _∙_, refl, ap}
 use borrow.Author.Needs.{needs}
@@ -9,7 +9,7 @@ use Rattle.binary.specs.Bounded.{sumTo}
 use Rattle.binary.specs.Lists.{joinTo, Holds}
 use Rattle.binary.proofs.BoundedLaws.{sum-none}
 use Rattle.binary.proofs.ListLaws.{join-none, join-part}
-use Rattle.casefile.specs.Decode.{decode}
+use Rattle.casefile.specs.Decode.{formatIn, sectionOf, decode}
 use Rattle.sanctions.specs.Penalties.{penalty}
 use Rattle.sanctions.proofs.FoundLaws.{SanctionTurn}
 use Rattle.default_bids.specs.StageFigures.{highestMakeUp}
@@ -21,22 +21,38 @@ use Rattle.settlement.proofs.rows.settle_rows.Statement.{statement}
 use Rattle.settlement.proofs.rows.settle_rows.Tie as tie
 
 abbrev Inv-loop : tie.InvT-loop
-Inv-loop file places levels corrects groups leaders masks rows₀ units past events n penalties₀ total₀ due₀ i₀ rows penalties total due i =
+Inv-loop file places levels corrects groups leaders masks rows₀ format units past events n penalties₀ total₀ due₀ i₀ rows penalties total due i =
     (i ≤ decode file .events .count) × (length rows ≡ length rows₀)
     × (rows ≡ joinTo i (λ (j : ℕ). writtenRow (rowIn file levels corrects j)) ++ drop (128 * i) rows₀)
     × (length penalties ≡ 200) × Holds i penalties (penalty (decode file)) × (total ≡ sumTo i (penalty (decode file)))
     × (due ≡ sumTo i (λ (j : ℕ). rowIn file levels corrects j .«make_up»)) × (due ≤ highestMakeUp * i)
 
 abbrev μ-loop : tie.MeasureT-loop
-μ-loop file places levels corrects groups leaders masks rows₀ units past events n penalties₀ total₀ due₀ i₀ rows penalties total due i =
+μ-loop file places levels corrects groups leaders masks rows₀ format units past events n penalties₀ total₀ due₀ i₀ rows penalties total due i =
     decode file .events .count - i
 
+abbrev counted : tie.At-loop Inv-loop μ-loop → tie.After-event-count Inv-loop μ-loop
+counted l = l .before
+
 abbrev first : tie.At-loop Inv-loop μ-loop → tie.Start Inv-loop μ-loop
-first l = l .before .before .before .before .before .before
+first l = l .before .before .before .before .before .before .before .before
+
+-- the format and the sections are the file's
+formatted : (l : tie.At-loop Inv-loop μ-loop) → counted l .before .before .before .before .format-of .result ≡ formatIn (first l .args .file .now)
+formatted l = counted l .before .before .before .before .format-of .ensures
+
+units-of : (l : tie.At-loop Inv-loop μ-loop) → counted l .before .before .before .section .result .now ≡ sectionOf (first l .args .file .now) 0
+units-of l = counted l .before .before .before .section .ensures
+
+past-of : (l : tie.At-loop Inv-loop μ-loop) → counted l .before .before .section2 .result .now ≡ sectionOf (first l .args .file .now) 2
+past-of l = counted l .before .before .section2 .ensures
+
+events-of : (l : tie.At-loop Inv-loop μ-loop) → counted l .before .section3 .result .now ≡ sectionOf (first l .args .file .now) 3
+events-of l = counted l .before .section3 .ensures
 
 -- the loop's bound is the number of events
-count : (l : tie.At-loop Inv-loop μ-loop) → length (l .before .section3 .result .now) / 312 ≡ decode (first l .args .file .now) .events .count
-count l = count-is (first l .args .file .now) _ (l .before .section3 .ensures)
+count : (l : tie.At-loop Inv-loop μ-loop) → counted l .event-count .result ≡ decode (first l .args .file .now) .events .count
+count l = counted l .event-count .ensures .0 ∙ count-is (first l .args .file .now) _ _ (formatted l) (events-of l)
 
 abbrev at : tie.In-loop Inv-loop μ-loop → tie.At-loop Inv-loop μ-loop
 at t = t .before
@@ -60,7 +76,7 @@ turned r =
     let t = entered r in
     let l = at t in
     let s = first l in
-    turn (s .args .file .now) (s .pre .0 .0) _ _ _ (l .before .before .before .section .ensures) (l .before .before .section2 .ensures) (l .before .section3 .ensures) _ _ _ _ (s .pre .0 .1)
+    turn (s .args .file .now) (s .pre .0 .0) _ _ _ _ (formatted l) (units-of l) (past-of l) (events-of l) _ _ _ _ (s .pre .0 .1)
     (l .loop .i) (below t) _ _ _ (sanctioned r .sanction-at .ensures) (let q = inside t in omega (arith, l .loop .inv .3)) (l .loop .inv .4) (l .loop .inv .5)
 
 made : (r : tie.After-row-of Inv-loop μ-loop) → let l = at (entered r) in let a = first l .args in
@@ -69,11 +85,11 @@ made r =
     let t = entered r in
     let l = at t in
     let s = first l in
-    row-is (s .args .file .now) (s .pre .0 .0) _ _ _ (l .before .before .before .section .ensures) (l .before .before .section2 .ensures) (l .before .section3 .ensures) _ _ _ _ (s .pre .0 .1)
+    row-is (s .args .file .now) (s .pre .0 .0) _ _ _ _ (formatted l) (units-of l) (past-of l) (events-of l) _ _ _ _ (s .pre .0 .1)
     (l .loop .i) (below t) _ _ _ _ _ _ (turned r) (r .row-of .ensures .0)
 
 paid : (r : tie.After-row-of Inv-loop μ-loop) → r .row-of .result .penalty ≡ sanctioned r .sanction-at .result .penalty
-paid r = penalty-by _ _ _ _ _ _ _ _ _ (r .row-of .ensures .0)
+paid r = penalty-by _ _ _ _ _ _ _ _ _ _ (r .row-of .ensures .0)
 
 pub settle-rows-spec : {M : Type 1} → statement M
 settle-rows-spec =
@@ -81,28 +97,32 @@ settle-rows-spec =
     (tie.spec
     Inv-loop
     μ-loop
-    (λ c κs. has-section _ (c .before .before .pre .0 .0) 0 (omega arith))
-    (λ c κs. has-section _ (c .before .before .before .pre .0 .0) 2 (omega arith))
-    (λ c κs. has-section _ (c .before .before .before .before .pre .0 .0) 3 (omega arith))
+    (λ c κs. has-section _ (c .before .before .pre .0 .0) 0 (omega arith) .header)
+    (λ c κs. has-section _ (c .before .before .before .pre .0 .0) 0 (omega arith))
+    (λ c κs. has-section _ (c .before .before .before .before .pre .0 .0) 2 (omega arith))
+    (λ c κs. has-section _ (c .before .before .before .before .before .pre .0 .0) 3 (omega arith))
+    (λ c κs. tt)
     (λ c. (omega arith, refl, join-none _ 128 _, refl, (λ j q. absurd (let z : ⊥ = omega arith in z)), sum-none _, sum-none _, omega arith))
     (λ c κs.
     let t = c .before in
-    let s = first (at t) in
+    let l = at t in
+    let s = first l in
     let f = s .args .file .now in
     let a = s .pre .0 .0 in
-    let q = count (at t) in (
-      (t .loop-test .taken, omega (arith, few f a), past-few f a _ _ _ (t .before .before .before .before .section .ensures) (t .before .before .before .section2 .ensures) (t .before .before .section3 .ensures)),
-      sound f a _ _ _ (t .before .before .before .before .section .ensures) (t .before .before .before .section2 .ensures) (t .before .before .section3 .ensures) _ _ _ _ (s .pre .0 .1) (λ b. t .before .before .before .before .before .before .shared-slice-known .given b .fits),
+    let q = count l in (
+      (omega arith, omega (arith, few f a), past-few f a _ _ _ _ (formatted l) (units-of l) (past-of l) (events-of l)),
+      sound f a _ _ _ _ (formatted l) (units-of l) (past-of l) (events-of l) _ _ _ _ (s .pre .0 .1) (λ b. counted l .before .before .before .before .before .before .shared-slice-known .given b .fits),
     ))
     (λ c κs.
     let t = c .before .before in
-    let s = first (at t) in
+    let l = at t in
+    let s = first l in
     let f = s .args .file .now in
     let a = s .pre .0 .0 in (
-      (t .loop-test .taken, inside t, fine f a _ _ _ (t .before .before .before .before .section .ensures) (t .before .before .before .section2 .ensures) (t .before .before .section3 .ensures)),
-      place-below f a _ _ _ (t .before .before .before .before .section .ensures) (t .before .before .before .section2 .ensures) (t .before .before .section3 .ensures) _ _ _ _ (s .pre .0 .1) _ (below t),
+      (omega arith, inside t, fine f a _ _ _ _ (formatted l) (units-of l) (past-of l) (events-of l)),
+      place-below f a _ _ _ _ (formatted l) (units-of l) (past-of l) (events-of l) _ _ _ _ (s .pre .0 .1) _ (below t),
     ))
-    (λ c. search needs)
+    (λ c. let q = inside (c .before .before .before) in omega arith)
     (λ c. inside (c .before .before .before))
     (λ c. let r = c .before in omega (arith, paid r, turned r .fits))
     (λ c. let r = c .before .before in let q = inside (entered r) in omega (arith, r .row-of .ensures .1, at (entered r) .loop .inv .7))

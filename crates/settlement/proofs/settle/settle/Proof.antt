@@ -39,12 +39,21 @@ settle-spec =
     let e = c .before .before .before .before in
     let a = first e .args in
     ((accepted e, handed e .placed), (handed e .levelled, case.rows-long (a .file .now) (a .correction .now) _ (fine e))))
-    (λ c κs. let e = c .before .before .before .before .before .before .before in let a = first e .args in case.has-section (a .file .now) (a .correction .now) _ (fine e) 3 (omega arith))
-    (λ c. search needs)
-    (λ c.
+    (λ c κs.
+    let e = c .before .before .before .before .before .before .before in
+    let a = first e .args in
+    case.has-section (a .file .now) (a .correction .now) _ (fine e) 0 (omega arith) .header)
+    (λ c κs.
     let e = c .before .before .before .before .before .before .before .before in
     let a = first e .args in
-    let s = c .before .before .before .settle-accepted .ensures in (
-      settled-told _ _ _ _ (settled-answer (a .file .now) (a .correction .now) _ _ _ (handed e) _ _ _ (fine e) (count-is (a .file .now) _ (c .section .ensures)) (s .0)),
+    case.has-section (a .file .now) (a .correction .now) _ (fine e) 3 (omega arith))
+    (λ c κs. tt)
+    (λ c. search needs)
+    (λ c.
+    let e = c .before .before .before .before .before .before .before .before .before .before in
+    let a = first e .args in
+    let s = c .before .before .before .before .before .settle-accepted .ensures in
+    let n = c .event-count .ensures .0 ∙ count-is (a .file .now) _ _ (c .before .before .format-of .ensures) (c .before .section .ensures) in (
+      settled-told _ _ _ _ (settled-answer (a .file .now) (a .correction .now) _ _ _ (handed e) _ _ _ (fine e) n (s .0)),
       settled-rows (a .file .now) (a .correction .now) _ _ _ (handed e) (a .rows .now) _ (fine e) (s .1),
     )))

@@ -1,64 +1,51 @@
-use Prim.Native.Nat.{_/_, _<_}
-use borrow.Author.Needs.{needs}
+use Prim.Native.Nat.{_<_}
 use native.Mathlib.Omega.{arith}
-use lib.ListN.{length}
-use Rattle.casefile.specs.Layout.{eventWidth, unitWidth}
+use borrow.Author.Needs.{needs}
 use Rattle.casefile.specs.Decode.{unitsIn, eventsIn, caseIn, decode}
+use Rattle.casefile.specs.StageRead.{unitAt, eventAt}
 use Rattle.conduct.specs.Flags.{tight}
 use Rattle.conduct.proofs.SumLaws.{cell-amount}
-use Rattle.conduct.proofs.FileLaws.{has-section}
+use Rattle.conduct.proofs.FileLaws.{has-section, header-long}
 use Rattle.working.specs.Working.{figuresWith}
 use Rattle.working.proofs.WorkingLaws.{count-is, place-below}
 use Rattle.working.proofs.hour.figures_at.Statement.{statement}
 use Rattle.working.proofs.hour.figures_at.Tie as tie
 
-below : (s : tie.After-section2) → s .before .before .before .args .i < length (s .section2 .result .now) / eventWidth
-below s = let q = count-is (s .before .before .before .args .file .now) _ (s .section2 .ensures) in omega (arith, s .before .before .before .pre .0 .1)
+abbrev first : tie.After-section2 → tie.Start
+first s = s .before .before .before .before
 
-placed : (s : tie.After-section2) → s .before .before .before .args .place < length (s .before .section .result .now) / unitWidth
+below : (s : tie.After-section2) → first s .args .i < eventsIn (s .before .before .format-of .result) (s .section2 .result .now) .count
+below s = let q = count-is _ (first s .args .file .now) _ (s .before .before .format-of .ensures) (s .section2 .ensures) in omega (arith, first s .pre .0 .1)
+
+placed : (s : tie.After-section2) → first s .args .place < unitsIn (s .before .before .format-of .result) (s .before .section .result .now) .count
 placed s =
-    let p = s .before .before .before .pre in
-    place-below (s .before .before .before .args .file .now) _ _ (s .before .section .ensures) (s .section2 .ensures) (p .0 .0) _ _ (p .1) (p .0 .1)
+    let p = first s .pre in
+    place-below _ (first s .args .file .now) _ _ (s .before .before .format-of .ensures) (s .before .section .ensures) (s .section2 .ensures) (p .0 .0) _ _ (p .1) (p .0 .1)
 
 pub figures-at-spec : {M : Type 1} → statement M
-unfolding figuresWith tight decode caseIn unitsIn eventsIn
+unfolding figuresWith tight decode caseIn unitAt eventAt
 figures-at-spec =
     tie.close
     (tie.spec
-    (λ c κs. has-section _ (c .before .pre .0 .0) 0 (omega arith))
-    (λ c κs. has-section _ (c .before .before .pre .0 .0) 3 (omega arith))
-    (λ c κs. let b = below c in omega arith)
+    (λ c κs. header-long _ (c .before .pre .0 .0))
+    (λ c κs. has-section _ (c .before .before .pre .0 .0) 0 (omega arith))
+    (λ c κs. has-section _ (c .before .before .before .pre .0 .0) 3 (omega arith))
+    (λ c κs. below c)
+    (λ c κs. placed (c .before))
     (λ c κs. search needs)
-    (λ c κs. let b = placed (c .before .before) in omega arith)
-    (λ c κs. search needs)
-    (λ c κs. search needs)
-    (λ c κs. below (c .before .before .before .before .before))
-    (λ c κs. let l = c .before .before .before .before .before .before .before .before .before .pre .0 .2 in search needs)
-    (λ c κs. search needs)
-    (λ c κs. search needs)
-    (λ c κs. search needs)
-    (λ c κs. search needs)
-    (λ c κs. search needs)
-    (λ c κs. search needs)
-    (λ c κs. search needs)
+    (λ c κs. below (c .before .before .before))
+    (λ c κs. let l = first (c .before .before .before .before) .pre .0 .2 in search needs)
     (λ c.
+    let s = c .before .before .before .before .before in
     rw (
-      c .load-u16 .ensures,
-      c .before .load-u324 .ensures,
-      c .before .before .load-u323 .ensures,
-      c .before .before .before .load-u322 .ensures,
-      c .before .before .before .before .load-u84 .ensures,
-      c .before .before .before .before .before .load-u83 .ensures,
-      c .before .before .before .before .before .before .load-u82 .ensures,
-      c .before .before .before .before .before .before .before .cell-at .ensures,
-      c .before .before .before .before .before .before .before .before .cells-of .ensures .0,
-      c .before .before .before .before .before .before .before .before .before .bit-of .ensures,
-      c .before .before .before .before .before .before .before .before .before .before .load-u8 .ensures,
-      c .before .before .before .before .before .before .before .before .before .before .before .record-at2 .ensures .0,
-      c .before .before .before .before .before .before .before .before .before .before .before .before .load-u32 .ensures,
-      c .before .before .before .before .before .before .before .before .before .before .before .before .before .record-at .ensures .0,
-      c .before .before .before .before .before .before .before .before .before .before .before .before .before .before .section2 .ensures,
-      c .before .before .before .before .before .before .before .before .before .before .before .before .before .before .before .section .ensures,
-      c .before .before .before .before .before .before .before .before .before .before .before .before .before .before .before .before .before .pre .1,
+      c .cell-at .ensures,
+      c .before .event-cells .ensures .0,
+      c .before .before .bit-of .ensures,
+      c .before .before .before .unit-at .ensures,
+      c .before .before .before .before .event-at .ensures,
+      s .section2 .ensures,
+      s .before .section .ensures,
+      s .before .before .format-of .ensures,
+      first s .pre .1,
       cell-amount,
     )))
