@@ -2,12 +2,12 @@
 ghost use mathlib.Core.Path.{_≡_};
 ghost use Prim.Native.Nat.{_≤_};
 ghost use lib.ListN.{length, take};
-ghost use Rattle.casefile.specs.Refusal.{refusal};
+ghost use Rattle.limits.specs.Refusal.{refusal};
 ghost use Rattle.settlement.specs.Settled.{answerOf, rowsAfter};
 ghost use Rattle.working.specs.Working.{workingOf};
 ghost use Rattle.report.specs.Listing.{listedLength, listedOut, listedRows};
 ghost use Rattle.api.specs.Exported.{exportedSettlement};
-use casefile::check;
+use limits::check;
 use report::case_listing;
 use settlement::settle;
 use settlement::settle::Settlement;

@@ -1,7 +1,8 @@
 -- Parts of a section's bytes.
-use Prim.Native.Nat.{ℕ, zero, suc, _+_, _-_, _*_, _/_, _%_, _^_, _≤_, _<_}
+use Prim.Native.Nat.{ℕ, zero, suc, _+_, _-_, _*_, _/_, _^_, _≤_, _<_}
 use mathlib.Core.Bool.{Bool, true, false}
 use mathlib.Core.List.{List}
+use mathlib.Core.Logic.{inl}
 use mathlib.Core.Path.{_≡_, refl}
 use native.Mathlib.Nat.{pow-suc, mul-le-mul-left, mul-div-le, mul-suc}
 use native.Mathlib.Omega.{arith}
@@ -11,7 +12,6 @@ use lib.Seq.{take-all, getD-take, getD-drop}
 use borrow.Author.Tests.{ltb-true, ltb-false}
 use Rattle.binary.specs.Bytes.{valueAt}
 use Rattle.binary.specs.Lists.{Bytes}
-use Rattle.binary.proofs.ByteLaws.{value-drop, value-take}
 use Rattle.casefile.specs.declared.layout.Format.{Format}
 use Rattle.casefile.specs.Layout.{referenceWidth, eventWidth, eventUnit, cellWidth, cells, cellsOffset, numberLimit, firstWidths, widthsOf, Fits}
 use Rattle.casefile.specs.Decode.{offsetOf, lengthOf, sectionOf, recordAt, cellsFrom, cellsIn, referencesIn, eventsIn}
@@ -19,11 +19,6 @@ use Rattle.casefile.specs.Decode.{offsetOf, lengthOf, sectionOf, recordA
 -- the part from byte a on
 pub rest : (a : ℕ) (s : List ℕ) → take (length s - a) (drop a s) ≡ drop a s
 rest a s = take-all (length s - a) (drop a s) (omega (arith, length-drop a s))
-
--- a number of record i, read in the section
-pub value-record : (w width : ℕ) (s : List ℕ) (i p : ℕ) → p + w ≤ width → valueAt w (recordAt width s i) p ≡ valueAt w s (width * i + p)
-unfolding recordAt
-value-record w width s i p l = rw (value-take w width (drop (width * i) s) p l, value-drop)
 
 -- record i lies whole within n bytes
 pub record-end : (w n i : ℕ) → i < n / w → w * i + w ≤ n
@@ -58,6 +53,7 @@ first-fits =
       unit-number = omega arith;
       reference-unit = omega arith;
       event-unit = omega arith;
+      event-apart = inl (omega arith);
       number = refl;
     }
 

@@ -1,7 +1,9 @@
 -- From the bytes of a case file to the case (docs/RULES.md, B).
 use Prim.Native.Nat.{ℕ, _+_, _*_, _/_, _≤_, _<_}
+use mathlib.Core.Bool.{Bool, _&&_}
 use mathlib.Core.List.{List}
 use mathlib.Core.Path.{_≡_}
+use lib.Dec.{eqb}
 use lib.ListN.{length, take, drop}
 use Rattle.binary.specs.Bytes.{byteAt, u16At, u32At, valueAt}
 use Rattle.casefile.specs.declared.layout.Format.{Format}
@@ -21,6 +23,10 @@ sectionOf f k = take (lengthOf f k) (drop (offsetOf f k) f)
 -- the format of a file: what its version decides
 unfoldable pub formatIn : List ℕ → Format
 formatIn f = record { version = u16At f 0 }
+
+-- how many sections the file says it has
+abbrev pub sectionsIn : List ℕ → ℕ
+sectionsIn f = u16At f 2
 
 -- the pairs follow on, from the header's end to the file's end
 pub record FollowOn (f : List ℕ) : Type 0 where
@@ -122,3 +128,17 @@ caseIn format u r p e =
 
 unfoldable pub decode : List ℕ → Case
 decode f = caseIn (formatIn f) (sectionOf f 0) (sectionOf f 1) (sectionOf f 2) (sectionOf f 3)
+
+-- ---- spare bytes
+
+-- bytes 5 to 7 and 22 to 23 of a unit's record
+unfoldable pub unitSpareFine : List ℕ → Bool
+unitSpareFine r = eqb (byteAt r 5) 0 && eqb (u16At r 6) 0 && eqb (u16At r 22) 0
+
+-- byte 3 of a reference's
+unfoldable pub referenceSpareFine : List ℕ → Bool
+referenceSpareFine r = eqb (byteAt r 3) 0
+
+-- bytes 6 to 7 of a past entry's
+unfoldable pub entrySpareFine : List ℕ → Bool
+entrySpareFine r = eqb (u16At r 6) 0

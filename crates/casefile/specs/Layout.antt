@@ -1,5 +1,6 @@
 -- The numbers of the layout (docs/RULES.md, B): what the versions of the file share, and then what a version decides.
 use Prim.Native.Nat.{ℕ, _+_, _*_, _^_, _≤_}
+use mathlib.Core.Logic.{_⊎_}
 use mathlib.Core.Path.{_≡_}
 use Rattle.tariff.specs.DefaultBidRules.{dayHours}
 use Rattle.casefile.specs.declared.layout.Format.{Format}
@@ -21,6 +22,13 @@ longestFile = 65000
 -- a past entry
 abbrev pub pastWidth : ℕ
 pastWidth = 12
+
+-- the fields of a unit and of a reference stand within so many bytes, but for a unit's number
+abbrev pub unitFields : ℕ
+unitFields = 24
+
+abbrev pub referenceFields : ℕ
+referenceFields = 8
 
 -- the hour cells begin here in an event's record
 abbrev pub cellsOffset : ℕ
@@ -44,6 +52,10 @@ mostPast = 256
 
 abbrev pub mostEvents : ℕ
 mostEvents = 200
+
+-- the bids in force begin here in a row
+abbrev pub bidsOffset : ℕ
+bidsOffset = 32
 
 -- a unit's number is below this: the keys of an order leave room for six digits
 abbrev pub numberLimit : ℕ
@@ -93,16 +105,18 @@ numberWidth format = widthsOf format .«number_width»
 abbrev pub cells : Format → ℕ
 cells format = mostHours
 
--- a row of the rows buffer
+-- a row of the rows buffer: its fields, and a bid in force for each cell; 128 bytes
 abbrev pub rowWidth : Format → ℕ
-rowWidth format = 128
+rowWidth format = bidsOffset + 4 * cells format
 
--- each field stands within its record, the hour cells within an event's
+-- each field stands within its record, and an event's number before or after its hour cells
 pub record Fits (w : Widths) : Type 0 where
-  pub unit : 24 ≤ w .«unit_width»
-  pub reference : 8 ≤ w .«reference_width»
+  pub unit : unitFields ≤ w .«unit_width»
+  pub reference : referenceFields ≤ w .«reference_width»
   pub event : cellsOffset + cellWidth * mostHours ≤ w .«event_width»
   pub unit-number : w .«unit_number» + w .«number_width» ≤ w .«unit_width»
   pub reference-unit : w .«reference_unit» + w .«number_width» ≤ w .«reference_width»
   pub event-unit : w .«event_unit» + w .«number_width» ≤ w .«event_width»
+  pub event-apart :
+      (w .«event_unit» + w .«number_width» ≤ cellsOffset) ⊎ (cellsOffset + cellWidth * mostHours ≤ w .«event_unit»)
   pub number : w .«number_width» ≡ 2

@@ -2,8 +2,4 @@ pub mod Layout
 pub mod Case
 pub mod Decode
 pub mod Lookup
-pub mod StageLookup
-pub mod Refusal
-pub mod StageRefusal
 pub mod StageRead
-pub mod StageChecked

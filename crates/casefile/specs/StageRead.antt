@@ -1,23 +1,15 @@
 -- What the readers of records and hour cells answer.
-use Prim.Native.Nat.{ℕ, _+_, _*_, _^_}
-use mathlib.Core.Bool.{Bool, true, false, _&&_}
+use Prim.Native.Nat.{ℕ, _+_, _*_}
 use mathlib.Core.List.{List}
-use lib.Dec.{leb, eqb}
 use lib.ListN.{take}
-use Rattle.binary.specs.Bytes.{byteAt, u32At}
-use Rattle.casefile.specs.declared.layout.Format.{Format}
-use Rattle.casefile.specs.Layout.{cellWidth, mostHours, referenceWidth}
+use Rattle.binary.specs.Bytes.{u32At}
+use Rattle.casefile.specs.Layout.{cellWidth, mostHours}
 use Rattle.casefile.specs.Case.{Units, References, Past, Events}
-use Rattle.casefile.specs.Decode.{recordAt, referencesIn, eventsIn, amountsIn}
-use Rattle.casefile.specs.Lookup.{referenceKey}
-use Rattle.casefile.specs.Refusal.{rises, referenceFieldsFine, cellFine, eventFine}
 use Rattle.casefile.specs.declared.cells.Cell.{Cell}
 use Rattle.casefile.specs.declared.units.Unit.{Unit}
 use Rattle.casefile.specs.declared.references.Reference.{Reference}
 use Rattle.casefile.specs.declared.past.Entry.{Entry}
 use Rattle.casefile.specs.declared.events.Event.{Event}
-use Rattle.casefile.specs.declared.events.EventRead.{EventRead}
-use Rattle.casefile.specs.declared.events.EventRead.the-variants.{Event as Readable, Unreadable}
 
 -- the cells of the part of a record where they begin: nothing that follows the last
 abbrev pub dayCells : (cells : List ℕ) → List ℕ
@@ -31,12 +23,6 @@ cellOf cells h =
       b = u32At (dayCells cells) (cellWidth * h + 4);
       m = u32At (dayCells cells) (cellWidth * h + 8);
     }
-
-unfoldable pub cellFineAt : (kind component : ℕ) → (cells : List ℕ) → ℕ → Bool
-cellFineAt kind component cells h = cellFine kind component (cellOf cells h .a) (cellOf cells h .b) (cellOf cells h .m)
-
-unfoldable pub amountWithin : (capability : ℕ) → (cells : List ℕ) → ℕ → Bool
-amountWithin capability cells h = leb (cellOf cells h .a) capability
 
 -- the fields of unit i, of reference i, of a past entry and of event i, as the records of the code have them
 unfoldable pub unitAt : Units → ℕ → Unit
@@ -79,29 +65,3 @@ eventAt e i =
       q = e .Q i;
       r = e .R i;
     }
-
--- the place of a record of the code in the order of check 11
-unfoldable pub keyOf : Event → ℕ
-keyOf e = 2 ^ 44 * e .day + 2 ^ 36 * e .kind + 2 ^ 28 * e .market + 2 ^ 8 * e .unit + e .component
-
--- the refusal's number of an answer
-unfoldable pub numberOf : EventRead → ℕ
-numberOf (Readable e) = 0
-numberOf Unreadable = 10
-
--- the fields where the test passes
-unfoldable pub readIf : Bool → Event → EventRead
-readIf true e = Readable e
-readIf false e = Unreadable
-
--- the reader's answer: the fields of event i, where all of them and all its cells are in their ranges
-unfoldable pub readEvent : Format → (events : List ℕ) → ℕ → EventRead
-readEvent format s i = readIf (eventFine (eventsIn format s) (amountsIn format s) i) (eventAt (eventsIn format s) i)
-
--- reference i, where it is known whether its unit is listed
-unfoldable pub referenceFineWhere : Format → (references : List ℕ) → ℕ → (listed : Bool) → Bool
-referenceFineWhere format s i listed =
-    referenceFieldsFine (referencesIn format s .component i) (referencesIn format s .value i)
-    && eqb (byteAt (recordAt (referenceWidth format) s i) 3) 0
-    && listed
-    && rises (referenceKey (referencesIn format s)) i

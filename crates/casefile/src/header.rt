@@ -1,27 +1,21 @@
-// The header: its pairs, the sections, and the checks 1 to 5.
+// The header: the format, the pairs, and the sections.
 ghost use mathlib.Core.Path.{_≡_};
-ghost use Prim.Native.Nat.{_+_, _*_, _≤_, _<_};
+ghost use Prim.Native.Nat.{_≤_, _<_};
 ghost use lib.ListN.{length};
 ghost use Rattle.casefile.specs.Layout.{sectionCount, headerWidth};
-ghost use Rattle.casefile.specs.Decode.{formatIn, offsetOf, lengthOf, sectionOf, HasSection};
-ghost use Rattle.casefile.specs.Refusal.{pairsFine, sizesFine};
-ghost use Rattle.casefile.specs.StageRefusal.{headerRefusal};
-use crate::layout;
+ghost use Rattle.casefile.specs.Decode.{formatIn, sectionsIn, offsetOf, lengthOf, sectionOf, HasSection};
 use crate::layout::Format;
-use crate::layout::widths_of;
-use crate::records::size_fine;
-use crate::refusal::unless;
 use binary::bytes::load_u16;
 use binary::bytes::load_u32;
 
-fn offset_of(file: &[u8], k: usize) -> u32
+pub fn offset_of(file: &[u8], k: usize) -> u32
     requires { ⌜ (k < sectionCount) × (headerWidth ≤ length (now file)) ⌝ }
     ensures { λ r. ⌜ r ≡ offsetOf (now (file .entry)) k ⌝ }
 {
     load_u32(file, 4 + 8 * k)
 }
 
-fn length_of(file: &[u8], k: usize) -> u32
+pub fn length_of(file: &[u8], k: usize) -> u32
     requires { ⌜ (k < sectionCount) × (headerWidth ≤ length (now file)) ⌝ }
     ensures { λ r. ⌜ r ≡ lengthOf (now (file .entry)) k ⌝ }
 {
@@ -38,6 +32,14 @@ pub fn format_of(file: &[u8]) -> Format
     }
 }
 
+// How many sections the file says it has.
+pub fn sections_of(file: &[u8]) -> u16
+    requires { ⌜ headerWidth ≤ length (now file) ⌝ }
+    ensures { λ r. ⌜ r ≡ sectionsIn (now (file .entry)) ⌝ }
+{
+    load_u16(file, 2)
+}
+
 // Section k (0 units, 1 references, 2 past, 3 events): that stretch of the file itself.
 pub fn section(file: &[u8], k: usize) -> &[u8]
     requires { ⌜ HasSection (now file) k ⌝ }
@@ -47,59 +49,4 @@ pub fn section(file: &[u8], k: usize) -> &[u8]
     let n = length_of(file, k) as usize;
     let end = at + n;
     &file[at..end]
-}
-
-// Whether the pairs follow on. The sums are of 64 bits, so that none wraps.
-fn pairs_fine(file: &[u8]) -> bool
-    requires { ⌜ headerWidth ≤ length (now file) ⌝ }
-    ensures { λ r. ⌜ r ≡ pairsFine (now (file .entry)) ⌝ }
-{
-    let units = offset_of(file, 0) as usize;
-    let units_length = length_of(file, 0) as usize;
-    let references = offset_of(file, 1) as usize;
-    let references_length = length_of(file, 1) as usize;
-    let past = offset_of(file, 2) as usize;
-    let past_length = length_of(file, 2) as usize;
-    let events = offset_of(file, 3) as usize;
-    let events_length = length_of(file, 3) as usize;
-    (units == layout::HEADER_WIDTH)
-        & (references == units + units_length)
-        & (past == references + references_length)
-        & (events == past + past_length)
-        & (file.len() == events + events_length)
-}
-
-fn sizes_fine(file: &[u8]) -> bool
-    requires { ⌜ headerWidth ≤ length (now file) ⌝ }
-    ensures { λ r. ⌜ r ≡ sizesFine (now (file .entry)) ⌝ }
-{
-    let units = length_of(file, 0) as usize;
-    let references = length_of(file, 1) as usize;
-    let past = length_of(file, 2) as usize;
-    let events = length_of(file, 3) as usize;
-    let w = widths_of(format_of(file));
-    size_fine(units, w.unit_width, layout::MOST_UNITS)
-        & size_fine(references, w.reference_width, layout::MOST_REFERENCES)
-        & size_fine(past, layout::PAST_WIDTH, layout::MOST_PAST)
-        & size_fine(events, w.event_width, layout::MOST_EVENTS)
-}
-
-// The number of the first limit of the header that is broken, or 0.
-pub fn header_refusal(file: &[u8]) -> u8
-    ensures { λ r. ⌜ r ≡ headerRefusal (now (file .entry)) 0 ⌝ }
-{
-    if file.len() < layout::HEADER_WIDTH {
-        return 1;
-    }
-    if layout::LONGEST_FILE < file.len() {
-        return 1;
-    }
-    let format = format_of(file);
-    let sections = load_u16(file, 2);
-    let pairs = pairs_fine(file);
-    let sizes = sizes_fine(file);
-    let from_5 = unless(sizes, 5, 0);
-    let from_4 = unless(pairs, 4, from_5);
-    let from_3 = unless(sections == layout::SECTION_COUNT, 3, from_4);
-    unless(format.version == layout::FIRST_VERSION, 2, from_3)
 }

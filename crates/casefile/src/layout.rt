@@ -16,6 +16,7 @@ pub const PAST_WIDTH: usize = 12;
 pub const CELLS_OFFSET: usize = 24;
 
 pub const CELL_WIDTH: usize = 12;
+
 // The most hours of a day: an event has a cell for each.
 pub const HOURS: usize = ranges::HOURS;
 
@@ -29,7 +30,9 @@ pub const MOST_PAST: usize = 256;
 
 pub const MOST_EVENTS: usize = 200;
 
-pub const ROW_WIDTH: usize = 128;
+pub const BIDS_OFFSET: usize = 32;
+
+pub const ROW_WIDTH: usize = BIDS_OFFSET + 4 * HOURS;
 
 // What a file says of its own layout.
 pub struct Format {

@@ -4,7 +4,6 @@ ghost use Prim.Native.Nat.{_+_, _-_, _/_, _≤_, _<_};
 ghost use lib.ListN.{length};
 ghost use Rattle.binary.specs.Bytes.{u16At};
 ghost use Rattle.casefile.specs.Decode.{recordAt};
-ghost use Rattle.casefile.specs.Refusal.{sizeFine};
 use binary::bytes::load_u16;
 
 // How many records of that width there are.
@@ -31,14 +30,6 @@ pub fn number_at(source: &[u8], at: usize) -> u32
     ensures { λ r. ⌜ r ≡ u16At (now (source .entry)) at ⌝ }
 {
     load_u16(source, at) as u32
-}
-
-// Whether n bytes are records of that width, and not too many.
-pub fn size_fine(n: usize, width: usize, most: usize) -> bool
-    requires { ⌜ 0 < width ⌝ }
-    ensures { λ r. ⌜ r ≡ sizeFine n width most ⌝ }
-{
-    (n % width == 0) & (n / width <= most)
 }
 
 // The place before i; the first has none before it, and is its own.

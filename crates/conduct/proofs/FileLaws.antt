@@ -14,12 +14,12 @@ use Rattle.binary.proofs.Implies.{and-l, and-r}
 use Rattle.binary.proofs.BoundedLaws.{sum-same}
 use Rattle.binary.proofs.MaskLaws.{mask-same}
 use Rattle.tariff.specs.ConductTests.{increase}
-use Rattle.casefile.specs.Layout.{headerWidth, mostEvents, longestFile}
+use Rattle.casefile.specs.Layout.{mostHours, headerWidth, mostEvents, longestFile}
 use Rattle.casefile.specs.Decode.{formatIn, sectionOf, HasSection, unitsIn, referencesIn, eventsIn, caseIn, decode}
 use Rattle.casefile.specs.Lookup.{unitOf, groupOf, referenceOf, bidLevel}
-use Rattle.casefile.specs.Refusal.{eventsListed}
-use Rattle.casefile.specs.StageChecked.{AcceptedFile}
-use Rattle.casefile.proofs.AcceptedLaws as case
+use Rattle.limits.specs.Refusal.{eventsListed}
+use Rattle.limits.specs.StageChecked.{AcceptedFile}
+use Rattle.limits.proofs.AcceptedLaws as case
 use Rattle.conduct.specs.Flags.{tight, together, sumTogether, timeBid, timeTotal, bidFlag, groupCapability, groupSum, withheldFlag, dispatchFlag, fuelFlag, flagged, flagMask}
 use Rattle.conduct.specs.StageParties.{RunsTogether, leaderOf}
 use Rattle.conduct.specs.StageTime.{BidsInOrder}
@@ -94,12 +94,12 @@ module _ (format : Format) (u r p e levels : List ℕ) (t : Holds (eventsIn form
             (λ q. bid-is i h l (eqb-true _ _ q)),
       )
 
-  flag-hours : (i : ℕ) → maskTo 24 (flagged (caseIn format u r p e) i) ≡ flagMask (caseIn format u r p e) i
+  flag-hours : (i : ℕ) → maskTo mostHours (flagged (caseIn format u r p e) i) ≡ flagMask (caseIn format u r p e) i
   unfolding flagMask caseIn eventsIn
   flag-hours i = refl
 
   flag-mask-is : (i : ℕ) → i < eventsIn format e .count → flagMaskIn (caseIn format u [] [] e) levels i ≡ flagMask (caseIn format u r p e) i
-  flag-mask-is i l = sym (hours-are format u e levels i) ∙ mask-same 24 _ _ (λ h b. flagged-is i h l) ∙ flag-hours i
+  flag-mask-is i l = sym (hours-are format u e levels i) ∙ mask-same mostHours _ _ (λ h b. flagged-is i h l) ∙ flag-hours i
 
 -- ---- an accepted file
 

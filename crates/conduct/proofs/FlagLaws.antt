@@ -1,5 +1,5 @@
 -- The flags that are found from the tables are the flags of the case.
-use Prim.Native.Nat.{ℕ, _+_, _/_, _<_}
+use Prim.Native.Nat.{ℕ, _+_, _<_}
 use mathlib.Core.Bool.{Bool, true, false, cond}
 use mathlib.Core.List.{List, []}
 use mathlib.Core.Path.{_≡_, refl, sym, ap, ap₂, _∙_}
@@ -16,12 +16,13 @@ use Rattle.binary.specs.Bounded.{sumTo, bitOf}
 use Rattle.binary.specs.Lists.{Holds}
 use Rattle.binary.proofs.BoundedLaws.{sum-same}
 use Rattle.binary.proofs.MaskLaws.{mask-same}
+use Rattle.casefile.specs.Layout.{mostHours}
 use Rattle.casefile.specs.Case.{Case}
 use Rattle.casefile.specs.Decode.{unitsIn, eventsIn, caseIn}
 use Rattle.casefile.specs.Lookup.{unitOf, groupOf}
 use Rattle.conduct.specs.Flags.{together, sumTogether, timeBid, groupCapability, fuelFlag}
 use Rattle.conduct.specs.StageParties.{sameRun, RunEnd, leaderOf}
-use Rattle.conduct.specs.StageFlags.{partyFigure, ledSum, partySum, PartyWithin, HasRow, capabilityOf, listedCapability, timeTotalIn, totalRead, flaggedIn, flagMaskIn, maskIn, Led, memberMask, bidMask, LeaderFlagged, PartyFlagged, Flagged}
+use Rattle.conduct.specs.StageFlags.{partyFigure, ledSum, partySum, PartyWithin, HasRow, capabilityOf, listedCapability, timeTotalIn, totalRead, flaggedIn, flagMaskIn, maskIn, Led, memberMask, LeaderFlagged, PartyFlagged, Flagged}
 use Rattle.conduct.proofs.PartyLaws.{together-fields, together-sym, together-same, any-together, leader-le, leader-together, leader-same, leader-eqb, fields-run}
 use Rattle.conduct.proofs.MaskLaws.{hours-are, mask-is}
 use Rattle.conduct.proofs.SumLaws.{capability-is}
@@ -53,7 +54,7 @@ fuel-same : (format : Format) (u e : List ℕ) (i j : ℕ) → together (caseIn 
 fuel-same format u e i j t k =
     let m = sym (together-fields (caseIn format u [] [] e) i j t .kind) ∙ k in
     sym (hours-are format u e [] i)
-    ∙ mask-same 24 _ _
+    ∙ mask-same mostHours _ _
     (λ h l.
     fuel-hour (caseIn format u [] [] e) [] i h m ∙ sym (fuel-together (caseIn format u [] [] e) i j t h) ∙ sym (fuel-hour (caseIn format u [] [] e) [] j h k))
     ∙ hours-are format u e [] j
@@ -66,7 +67,7 @@ level-unread c levels i h n = rw (ne-eqb (c .events .kind i) 4 n)
 no-level : (format : Format) (u e levels : List ℕ) (i : ℕ) → (caseIn format u [] [] e .events .kind i ≡ 4 → ⊥)
     → flagMaskIn (caseIn format u [] [] e) [] i ≡ flagMaskIn (caseIn format u [] [] e) levels i
 no-level format u e levels i n =
-    sym (hours-are format u e [] i) ∙ mask-same 24 _ _ (λ h l. level-unread (caseIn format u [] [] e) levels i h n) ∙ hours-are format u e levels i
+    sym (hours-are format u e [] i) ∙ mask-same mostHours _ _ (λ h l. level-unread (caseIn format u [] [] e) levels i h n) ∙ hours-are format u e levels i
 
 figure-sections : (format : Format) (u e : List ℕ) (j h : ℕ) → partyFigure (caseIn format [] [] [] e) j h ≡ partyFigure (caseIn format u [] [] e) j h
 unfolding partyFigure caseIn

@@ -11,6 +11,7 @@ use Rattle.casefile.specs.declared.layout.Format.{Format}
 use Rattle.binary.specs.Bounded.{maskTo, bitOf}
 use Rattle.binary.proofs.MaskLaws.{mask-same, bit-past}
 use Rattle.tariff.proofs.ComparisonLaws.{bid-total}
+use Rattle.casefile.specs.Layout.{mostHours}
 use Rattle.casefile.specs.Case.{Case}
 use Rattle.casefile.specs.Decode.{unitsIn, eventsIn, caseIn, cellsFrom}
 use Rattle.casefile.specs.Lookup.{unitOf}
@@ -77,7 +78,7 @@ pub record Read (c : Case) (levels : List ℕ) (i level G : ℕ) (sums : List �
   pub capability : c .events .kind i ≡ 1 → G ≡ groupCapability c i
   pub party : (c .events .kind i ≡ 4 → ⊥) → HasRow (partySum c i) sums
 
-hour-at : (c : Case) (levels sums : List ℕ) (i h level G a : ℕ) (t : Bool) → Read c levels i level G sums → h < 24 → a ≡ c .a i h → t ≡ tight c i h
+hour-at : (c : Case) (levels sums : List ℕ) (i h level G a : ℕ) (t : Bool) → Read c levels i level G sums → h < mostHours → a ≡ c .a i h → t ≡ tight c i h
     → failsIn (testOf (c .units) (c .events) (unitOf c i) level G i) a (getD sums h 0) t ≡ flaggedIn c levels i h
 unfolding testOf flaggedIn
 hour-at c levels sums i h level G a t r l ea et =
@@ -94,7 +95,7 @@ hour-at c levels sums i h level G a t r l ea et =
     amounts : (k : ℕ) → c .events .kind i ≡ k → k < 4 → (k ≡ 3 → ⊥) → getD sums h 0 ≡ groupSum c i h
     amounts k e m n = amounts-at c i h a _ t ea et k e n (row k e m)
 
-pub hours-are : (format : Format) (u e levels : List ℕ) (i : ℕ) → maskTo 24 (flaggedIn (caseIn format u [] [] e) levels i) ≡ flagMaskIn (caseIn format u [] [] e) levels i
+pub hours-are : (format : Format) (u e levels : List ℕ) (i : ℕ) → maskTo mostHours (flaggedIn (caseIn format u [] [] e) levels i) ≡ flagMaskIn (caseIn format u [] [] e) levels i
 unfolding flagMaskIn caseIn eventsIn
 hours-are format u e levels i = refl
 
@@ -117,7 +118,7 @@ module _ (format : Format) (u e : List ℕ) (i : ℕ) where
   unfolding maskIn failsAt
   mask-is levels sums place level G x at r q =
       q ∙ ap (λ (p : ℕ). maskIn format u e p level G sums i) at
-      ∙ mask-same 24 _ _
+      ∙ mask-same mostHours _ _
       (λ h l.
       ap (λ k. failsIn k (cellOf (cellsFrom format e i) h .a) (getD sums h 0) (bitOf (tightHours (unitsIn format u) (eventsIn format e) (unitOf (caseIn format u [] [] e) i) i) h)) (test-is level G)
       ∙ hour-at (caseIn format u [] [] e) levels sums i h level G _ _ r l (amount-is h) (tight-is h))

@@ -18,8 +18,8 @@ use Rattle.binary.proofs.ListLaws.{from-le, from-holds, from-passed}
 use Rattle.casefile.specs.Case.{Events, Case}
 use Rattle.casefile.specs.Decode.{formatIn, sectionOf, eventsIn, caseIn, decode}
 use Rattle.casefile.specs.Lookup.{unitOf, groupOf}
-use Rattle.casefile.specs.Refusal.{refusal}
-use Rattle.casefile.proofs.RunLaws.{runs-together}
+use Rattle.limits.specs.Refusal.{refusal}
+use Rattle.limits.proofs.RunLaws.{runs-together}
 use Rattle.conduct.specs.Flags.{together}
 use Rattle.conduct.specs.StageParties.{sameRun, RunsTogether, RunStart, RunEnd, leaderOf}
 

@@ -15,8 +15,8 @@ use Rattle.binary.proofs.ListLaws.{from-next}
 use Rattle.casefile.specs.Case.{Events}
 use Rattle.casefile.specs.Decode.{unitsIn, eventsIn, caseIn}
 use Rattle.casefile.specs.Lookup.{unitOf, groupOf}
-use Rattle.casefile.specs.Refusal.{eventsListed}
-use Rattle.casefile.proofs.EventLaws.{events-place}
+use Rattle.limits.specs.Refusal.{eventsListed}
+use Rattle.limits.proofs.EventLaws.{events-place}
 use Rattle.conduct.specs.Flags.{together}
 use Rattle.conduct.specs.StageParties.{sameRun, RunStart, leaderOf, sameGroup, leaderIn}
 

@@ -16,7 +16,7 @@ use Rattle.binary.specs.Bytes.{u32At}
 use Rattle.binary.specs.Lists.{Bytes}
 use Rattle.binary.proofs.Implies.{same-test}
 use Rattle.binary.proofs.BoundedLaws.{sum-none, sum-more, sum-same, any-count}
-use Rattle.casefile.specs.Layout.{cellWidth}
+use Rattle.casefile.specs.Layout.{mostHours, cellWidth}
 use Rattle.casefile.specs.Case.{Case}
 use Rattle.casefile.specs.Decode.{eventsIn, amountsIn, caseIn, cellsFrom, cellsIn}
 use Rattle.casefile.specs.Lookup.{groupOf}
@@ -111,9 +111,9 @@ added-bound m b c old new f a o u k = pick (ltb k m) refl
         omega (arith, o k)
 
 -- a figure that does not count adds nothing
-pub uncounted : (row : List ℕ) (f : ℕ → ℕ) (b : Bool) → b ≡ false → Added 24 row row (counted b f)
+pub uncounted : (row : List ℕ) (f : ℕ → ℕ) (b : Bool) → b ≡ false → Added mostHours row row (counted b f)
 unfolding counted
-uncounted row f b e = record { each = λ k. rw e (sym (zero-of k (ltb k 24))) }
+uncounted row f b e = record { each = λ k. rw e (sym (zero-of k (ltb k mostHours))) }
   where
     zero-of : (k : ℕ) (t : Bool) → getD row k 0 + cond t 0 0 ≡ getD row k 0
     zero-of k true = add-zero _
@@ -128,8 +128,8 @@ unfolding counted
 counted-figure-le f m n b u h l = cond-le b _ _ (u h l)
 
 -- the whole row, after the loop
-added-row : (old new : List ℕ) (f g : ℕ → ℕ) → HasRow f old → Added 24 old new g → HasRow (λ h. f h + g h) new
-added-row old new f g r a = record { each = λ h l. (rw (lt-ltb h 24 l) at (a .each h)) ∙ ap (λ (x : ℕ). x + g h) (r .each h l) }
+added-row : (old new : List ℕ) (f g : ℕ → ℕ) → HasRow f old → Added mostHours old new g → HasRow (λ h. f h + g h) new
+added-row old new f g r a = record { each = λ h l. (rw (lt-ltb h mostHours l) at (a .each h)) ∙ ap (λ (x : ℕ). x + g h) (r .each h l) }
 
 pub zeros-at : (n k : ℕ) → _≡_ {A = ℕ} (getD (replicate n 0) k 0) 0
 zeros-at n k = pick (ltb k n) refl
@@ -142,10 +142,10 @@ zeros-at n k = pick (ltb k n) refl
 -- ---- the sums of a party
 
 pub figures-added : (format : Format) (e : List ℕ) (j : ℕ) (b : Bool) (old new : List ℕ)
-    → Added 24 old new (counted b (λ h. cond (eqb (eventsIn format e .kind j) 3) (cond (bitOf (eventsIn format e .P j) h) 1 0) (cellOf (cellsFrom format e j) h .a)))
-    → Added 24 old new (counted b (partyFigure (caseIn format [] [] [] e) j))
+    → Added mostHours old new (counted b (λ h. cond (eqb (eventsIn format e .kind j) 3) (cond (bitOf (eventsIn format e .P j) h) 1 0) (cellOf (cellsFrom format e j) h .a)))
+    → Added mostHours old new (counted b (partyFigure (caseIn format [] [] [] e) j))
 unfolding counted partyFigure caseIn
-figures-added format e j b old new a = added-same 24 old new _ _ (λ h. rw (cell-amount format e j h)) a
+figures-added format e j b old new a = added-same mostHours old new _ _ (λ h. rw (cell-amount format e j h)) a
 
 pub figure-le : (format : Format) (u r p e : List ℕ) (j h : ℕ) → Bytes e → partyFigure (caseIn format u r p e) j h ≤ 4294967295
 unfolding partyFigure caseIn
@@ -162,12 +162,12 @@ module _ (c : Case) (leaders : List ℕ) (n i end : ℕ) (w : PartyWithin leader
   outside : (h k : ℕ) → k < n → ((i ≤ k) × (k < end) → ⊥) → cond (eqb (getD leaders k 0) i) (partyFigure c k h) 0 ≡ 0
   outside h k l out = cond-zero _ _ (λ q. out (w k l (eqb-true _ _ q)))
 
-  pub led-first : i ≤ n → HasRow (ledSum c leaders i i) (replicate 24 0)
+  pub led-first : i ≤ n → HasRow (ledSum c leaders i i) (replicate mostHours 0)
   unfolding ledSum
   led-first l =
       record {
         each = λ h b.
-            zeros-at 24 h ∙ sum-none (λ j. cond (eqb (getD leaders j 0) i) (partyFigure c j h) 0)
+            zeros-at mostHours h ∙ sum-none (λ j. cond (eqb (getD leaders j 0) i) (partyFigure c j h) 0)
             ∙ sym (sum-beyond 0 i _ zero-le (λ k _ q. outside h k (omega arith) (λ z. let o : ⊥ = omega arith in o)));
       }
 
@@ -177,7 +177,7 @@ module _ (c : Case) (leaders : List ℕ) (n i end : ℕ) (w : PartyWithin leader
       record { each = λ h b. r .each h b ∙ sym (sum-beyond end n _ l (λ k q s. outside h k s (λ z. let o : ⊥ = omega arith in o))) }
 
 pub led-more : (c : Case) (leaders old new : List ℕ) (m i : ℕ) → HasRow (ledSum c leaders m i) old
-    → Added 24 old new (counted (eqb (getD leaders m 0) i) (partyFigure c m)) → HasRow (ledSum c leaders (m + 1) i) new
+    → Added mostHours old new (counted (eqb (getD leaders m 0) i) (partyFigure c m)) → HasRow (ledSum c leaders (m + 1) i) new
 unfolding ledSum counted
 led-more c leaders old new m i r a =
     record {

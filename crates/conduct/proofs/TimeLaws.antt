@@ -1,6 +1,6 @@
 -- The time totals: bids on the time components of one unit, day and market stand next to each other, and what is added from
 -- the neighbours of one of them is the total.
-use Prim.Native.Nat.{ℕ, zero, suc, _+_, _-_, _/_, _≤_, _<_, zero-le}
+use Prim.Native.Nat.{ℕ, zero, suc, _+_, _-_, _≤_, _<_, zero-le}
 use mathlib.Core.Bool.{Bool, true, false, cond, _&&_}
 use mathlib.Core.List.{List, [], _∷_}
 use mathlib.Core.Path.{_≡_, refl, sym, ap, ap₂, _∙_}
@@ -8,7 +8,7 @@ use native.Mathlib.Nat.{add-zero}
 use native.Mathlib.Omega.{arith}
 use borrow.Author.Tests.{eqb-true, eq-eqb, ne-eqb, ltb-true, ltb-false, leb-true, leb-false, le-leb, lt-ltb}
 use lib.Dec.{ltb, leb, eqb}
-use lib.ListN.{length, getD, replicate}
+use lib.ListN.{getD, replicate}
 use Rattle.casefile.specs.declared.layout.Format.{Format}
 use Rattle.binary.specs.Bounded.{sumTo}
 use Rattle.binary.specs.Lists.{Holds}
@@ -16,13 +16,14 @@ use Rattle.binary.proofs.Implies.{and-l, and-r, same-test}
 use Rattle.binary.proofs.BoundedLaws.{sum-none, sum-more, sum-same, sum-bound}
 use Rattle.binary.proofs.WordLaws.{positive-lt}
 use Rattle.tariff.specs.ConductTests.{increase}
+use Rattle.casefile.specs.Layout.{mostEvents, mostHours}
 use Rattle.casefile.specs.Case.{Events, Case}
 use Rattle.casefile.specs.Decode.{formatIn, sectionOf, eventsIn, amountsIn, caseIn, decode, cellsFrom}
-use Rattle.casefile.specs.Refusal.{eventKey, refusal}
-use Rattle.casefile.specs.StageLookup.{Rising}
+use Rattle.limits.specs.Refusal.{eventKey, refusal}
+use Rattle.limits.specs.StageLookup.{Rising}
 use Rattle.casefile.specs.StageRead.{cellOf}
 use Rattle.casefile.specs.declared.cells.Cell.{Cell}
-use Rattle.casefile.proofs.AcceptedLaws.{event-ranges, events-rise}
+use Rattle.limits.proofs.AcceptedLaws.{event-ranges, events-rise}
 use Rattle.conduct.specs.Flags.{timeBid}
 use Rattle.conduct.specs.StageMasks.{highestSum, SmallRow}
 use Rattle.conduct.specs.StageFlags.{counted, Added, HasRow, timeTotalIn, totalRead}
@@ -124,7 +125,7 @@ counted-le : (a : ℕ → ℕ → ℕ) (level j h : ℕ) (b : Bool) → countedI
 unfolding countedIncrease
 counted-le a level j h b = cond-le b _ _ (increase-le level (a j h))
 
-pub counted-none : (a : ℕ → ℕ → ℕ) (level j : ℕ) (l : List ℕ) (b : Bool) → b ≡ false → Added 24 l l (countedIncrease a level j b)
+pub counted-none : (a : ℕ → ℕ → ℕ) (level j : ℕ) (l : List ℕ) (b : Bool) → b ≡ false → Added mostHours l l (countedIncrease a level j b)
 unfolding countedIncrease counted
 counted-none a level j l b e = uncounted l (λ h. increase level (a j h)) b e
 
@@ -134,49 +135,49 @@ unfolding countedIncrease
 counted-is cells level j h x d b cell t el ex ed = rw (ed, ex, el, t)
 
 pub increases-added : (format : Format) (e : List ℕ) (level j : ℕ) (b : Bool) (old new : List ℕ)
-    → Added 24 old new (countedIncrease (λ (_ y : ℕ). cellOf (cellsFrom format e j) y .a) level j b)
-    → Added 24 old new (countedIncrease (amountsIn format e) level j b)
+    → Added mostHours old new (countedIncrease (λ (_ y : ℕ). cellOf (cellsFrom format e j) y .a) level j b)
+    → Added mostHours old new (countedIncrease (amountsIn format e) level j b)
 unfolding countedIncrease
-increases-added format e level j b old new a = added-same 24 old new _ _ (λ h. rw (cell-amount format e j h)) a
+increases-added format e level j b old new a = added-same mostHours old new _ _ (λ h. rw (cell-amount format e j h)) a
 
 module _ (format : Format) (e levels : List ℕ) (i component : ℕ) where
   pub increases-none : (start k : ℕ) → ((j : ℕ) → j < start → componentBid (caseIn format [] [] [] e) i component j ≡ false)
-      → Holds 24 (replicate k 0) (componentIncrease format e levels i component start)
+      → Holds mostHours (replicate k 0) (componentIncrease format e levels i component start)
   unfolding componentIncrease countedIncrease
   increases-none start k f h l = zeros-at k h ∙ sum-none _ ∙ sym (sum-beyond 0 start _ zero-le (λ j a b. rw (f j b)))
 
-  pub increases-more : (old new : List ℕ) (m : ℕ) (b : Bool) → Holds 24 old (componentIncrease format e levels i component m)
-      → b ≡ componentBid (caseIn format [] [] [] e) i component m → Added 24 old new (countedIncrease (amountsIn format e) (getD levels m 0) m b)
-      → Holds 24 new (componentIncrease format e levels i component (m + 1))
+  pub increases-more : (old new : List ℕ) (m : ℕ) (b : Bool) → Holds mostHours old (componentIncrease format e levels i component m)
+      → b ≡ componentBid (caseIn format [] [] [] e) i component m → Added mostHours old new (countedIncrease (amountsIn format e) (getD levels m 0) m b)
+      → Holds mostHours new (componentIncrease format e levels i component (m + 1))
   unfolding componentIncrease
   increases-more old new m b s q d h l =
-      (rw (lt-ltb h 24 l, q) at (d .each h))
+      (rw (lt-ltb h mostHours l, q) at (d .each h))
       ∙ ap (λ (x : ℕ). x + countedIncrease (amountsIn format e) (getD levels m 0) m (componentBid (caseIn format [] [] [] e) i component m) h) (s h l)
       ∙ sym (sum-more m _)
 
   pub increases-all : (row : List ℕ) (m n : ℕ) → m ≤ n → ((j : ℕ) → m ≤ j → j < n → componentBid (caseIn format [] [] [] e) i component j ≡ false)
-      → Holds 24 row (componentIncrease format e levels i component m) → Holds 24 row (componentIncrease format e levels i component n)
+      → Holds mostHours row (componentIncrease format e levels i component m) → Holds mostHours row (componentIncrease format e levels i component n)
   unfolding componentIncrease countedIncrease
   increases-all row m n q f s h l = s h l ∙ sym (sum-beyond m n _ q (λ j a b. rw (f j a b)))
 
-  increases-le : (m h : ℕ) → m ≤ 200 → componentIncrease format e levels i component m h ≤ highestSum
+  increases-le : (m h : ℕ) → m ≤ mostEvents → componentIncrease format e levels i component m h ≤ highestSum
   unfolding componentIncrease
   increases-le m h l =
       let q = sum-bound m (λ j. countedIncrease (amountsIn format e) (getD levels j 0) j (componentBid (caseIn format [] [] [] e) i component j) h) 4294967295
       (λ j lj. counted-le (amountsIn format e) (getD levels j 0) j h (componentBid (caseIn format [] [] [] e) i component j)) in
       omega arith
 
-  pub small-increases : (row : List ℕ) (m : ℕ) → m ≤ 200 → Holds 24 row (componentIncrease format e levels i component m) → SmallRow row
+  pub small-increases : (row : List ℕ) (m : ℕ) → m ≤ mostEvents → Holds mostHours row (componentIncrease format e levels i component m) → SmallRow row
   small-increases row m l s h q = rw (s h q) (increases-le m h l)
 
 -- ---- the table
 
 -- three arrays by hour are the table
-pub three : (figure : ℕ → ℕ → ℕ) (x y z : List ℕ) → Holds 24 x (figure 0) → Holds 24 y (figure 1) → Holds 24 z (figure 2)
+pub three : (figure : ℕ → ℕ → ℕ) (x y z : List ℕ) → Holds mostHours x (figure 0) → Holds mostHours y (figure 1) → Holds mostHours z (figure 2)
     → HasIncreases figure (x ∷ y ∷ z ∷ [])
 three figure x y z hx hy hz = record { each = go }
   where
-    go : (k h : ℕ) → k < 3 → h < 24 → cell (x ∷ y ∷ z ∷ []) k h ≡ figure k h
+    go : (k h : ℕ) → k < 3 → h < mostHours → cell (x ∷ y ∷ z ∷ []) k h ≡ figure k h
     go zero h l q = hx h q
     go (suc zero) h l q = hy h q
     go (suc (suc zero)) h l q = hz h q
@@ -279,18 +280,18 @@ module _ (format : Format) (e levels : List ℕ) (i : ℕ) where
       }
 
   pub totals-none : BidsInOrder (eventsIn format e) → i < eventsIn format e .count → timeBid (caseIn format [] [] [] e) i i ≡ false
-      → HasRow (totalRead (caseIn format [] [] [] e) levels i) (replicate 24 0)
+      → HasRow (totalRead (caseIn format [] [] [] e) levels i) (replicate mostHours 0)
   unfolding totalRead caseIn eventsIn
   totals-none o l own =
       record {
         each = λ h m.
-            zeros-at 24 h
+            zeros-at mostHours h
             ∙ ap (λ (b : Bool). cond b (timeTotalIn (caseIn format [] [] [] e) levels i h) 0)
             (sym own ∙ reads (caseIn format [] [] [] e) i o l);
       }
 
   -- no total is above 2 ^ 40
-  pub small-totals : (row : List ℕ) → eventsIn format e .count ≤ 200 → HasRow (totalRead (caseIn format [] [] [] e) levels i) row → SmallRow row
+  pub small-totals : (row : List ℕ) → eventsIn format e .count ≤ mostEvents → HasRow (totalRead (caseIn format [] [] [] e) levels i) row → SmallRow row
   unfolding totalRead timeTotalIn caseIn eventsIn
   small-totals row q r h l =
       let s =
@@ -330,6 +331,6 @@ module _ (c : Case) (levels row : List ℕ) (i : ℕ) where
             ∙ ap (λ (b : Bool). cond b 0 (totalRead c levels (i + 1 - 1) h)) (sym n);
       }
 
-pub totals-first : (c : Case) (levels : List ℕ) → HasRow (totalBefore c levels 0) (replicate 24 0)
+pub totals-first : (c : Case) (levels : List ℕ) → HasRow (totalBefore c levels 0) (replicate mostHours 0)
 unfolding totalBefore
-totals-first c levels = record { each = λ h l. zeros-at 24 h }
+totals-first c levels = record { each = λ h l. zeros-at mostHours h }

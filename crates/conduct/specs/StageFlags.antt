@@ -1,5 +1,5 @@
 -- What a stage reads in the tables of the stages before it, and adds to its own. The laws say that these are the figures of the case.
-use Prim.Native.Nat.{ℕ, _+_, _≤_, _<_}
+use Prim.Native.Nat.{ℕ, _-_, _^_, _+_, _≤_, _<_}
 use mathlib.Core.Bool.{Bool, true, false, cond, _&&_}
 use mathlib.Core.List.{List, []}
 use mathlib.Core.Path.{_≡_}
@@ -13,7 +13,7 @@ use Rattle.casefile.specs.Layout.{mostHours, mostEvents, longestFile}
 use Rattle.casefile.specs.Case.{Units, Events, Case}
 use Rattle.casefile.specs.Decode.{cellsFrom, unitsIn, eventsIn, caseIn}
 use Rattle.casefile.specs.Lookup.{unitOf}
-use Rattle.casefile.specs.Refusal.{eventsListed}
+use Rattle.limits.specs.Refusal.{eventsListed}
 use Rattle.conduct.specs.Flags.{tight, sumTogether, timeBid, groupCapability, withheldFlag, dispatchFlag, fuelFlag}
 use Rattle.conduct.specs.StageParties.{leaderOf, RunEnd}
 use Rattle.conduct.specs.StageMasks.{testOf, tightHours, failsAt}
@@ -22,7 +22,7 @@ use Rattle.conduct.specs.StageMasks.{testOf, tightHours, failsAt}
 
 -- no element is within 2 ^ 32 of the end of 64 bits
 abbrev pub Small : List ℕ → Type 0
-Small l = (k : ℕ) → getD l k 0 ≤ 18446744069414584320
+Small l = (k : ℕ) → getD l k 0 ≤ 2 ^ 64 - 2 ^ 32
 
 -- a figure where it counts, else 0
 unfoldable pub counted : Bool → (figure : ℕ → ℕ) → ℕ → ℕ

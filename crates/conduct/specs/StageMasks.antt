@@ -1,5 +1,5 @@
 -- What a conduct test reads of an event beside its hours, and the hours that fail it.
-use Prim.Native.Nat.{ℕ, _≤_, _<_}
+use Prim.Native.Nat.{ℕ, _^_, _≤_, _<_}
 use mathlib.Core.Bool.{Bool, false, cond}
 use mathlib.Core.List.{List}
 use lib.Dec.{ltb, eqb}
@@ -50,7 +50,7 @@ failsAt t tight cells sums h = failsIn t (cellOf cells h .a) (getD sums h 0) (bi
 
 -- no sum of a case is above 2 ^ 40
 abbrev pub highestSum : ℕ
-highestSum = 1099511627776
+highestSum = 2 ^ 40
 
 abbrev pub SmallRow : (row : List ℕ) → Type 0
 SmallRow row = (h : ℕ) → h < mostHours → getD row h 0 ≤ highestSum

@@ -11,8 +11,8 @@ use Rattle.casefile.specs.declared.layout.Format.{Format}
 use Rattle.casefile.specs.Layout.{mostHours}
 use Rattle.casefile.specs.Case.{Events, Case}
 use Rattle.casefile.specs.Decode.{amountsIn, caseIn}
-use Rattle.casefile.specs.Refusal.{eventKey}
-use Rattle.casefile.specs.StageLookup.{Rising}
+use Rattle.limits.specs.Refusal.{eventKey}
+use Rattle.limits.specs.StageLookup.{Rising}
 use Rattle.conduct.specs.Flags.{timeBid}
 use Rattle.conduct.specs.StageMasks.{SmallRow}
 use Rattle.conduct.specs.StageFlags.{totalRead}

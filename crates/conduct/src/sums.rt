@@ -7,7 +7,7 @@ ghost use lib.Dec.{eqb};
 ghost use lib.ListN.{length};
 ghost use Rattle.binary.specs.Bounded.{bitOf};
 ghost use Rattle.casefile.specs.Layout.{cellWidth, mostHours, mostEvents, longestFile};
-ghost use Rattle.casefile.specs.Decode.{unitsIn, caseIn, eventsIn, cellsFrom};
+ghost use Rattle.casefile.specs.Decode.{unitsIn, caseIn, eventsIn};
 ghost use Rattle.casefile.specs.Lookup.{unitOf};
 ghost use Rattle.casefile.specs.StageRead.{cellOf};
 ghost use Rattle.conduct.specs.StageMasks.{SmallRow};

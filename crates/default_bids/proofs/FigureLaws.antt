@@ -20,7 +20,7 @@ use Rattle.casefile.specs.Layout.{mostHours}
 use Rattle.casefile.specs.Case.{References, Case}
 use Rattle.casefile.specs.Decode.{referencesIn, eventsIn, amountsIn, caseIn, cellsFrom, cellsIn}
 use Rattle.casefile.specs.Lookup.{unitOf, levelOf, referenceOf, bidLevel, readsCorrect}
-use Rattle.casefile.specs.StageLookup.{readsLevel, correctLevel}
+use Rattle.limits.specs.StageLookup.{readsLevel, correctLevel}
 use Rattle.casefile.specs.StageRead.{cellOf}
 use Rattle.conduct.specs.Flags.{tight, flagged, flagMask}
 use Rattle.default_bids.specs.Mitigation.{hit, mitigated, mitigatedMask, correctOf, bidInForce, makeUpTenths, makeUpOf}

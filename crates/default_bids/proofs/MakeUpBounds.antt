@@ -16,9 +16,9 @@ use Rattle.tariff.specs.SanctionRules.{cents}
 use Rattle.tariff.specs.Ranges.{highestMegawatts}
 use Rattle.casefile.specs.Layout.{mostHours}
 use Rattle.casefile.specs.Decode.{eventsIn, cellsFrom, cellsIn}
-use Rattle.casefile.specs.Refusal.{eventsFine}
+use Rattle.limits.specs.Refusal.{eventsFine}
 use Rattle.casefile.specs.StageRead.{cellOf}
-use Rattle.casefile.proofs.SectionLaws.{cell-ranges}
+use Rattle.limits.proofs.SectionLaws.{cell-ranges}
 use Rattle.default_bids.specs.StageFigures.{MegawattsFine, tenthsAt, makeUpBy, highestExcess, highestTenths, highestMakeUp}
 
 excess-bound : (x y : ℕ) → excess x y ≤ highestExcess

@@ -1,6 +1,6 @@
 -- The figures of one event from what earlier stages found of it: its flag mask, its unit's place, r and c, and its mitigated mask.
 -- proofs/FigureLaws shows that they are those of specs/Mitigation.
-use Prim.Native.Nat.{ℕ, _+_, _*_, _≤_, _<_}
+use Prim.Native.Nat.{ℕ, _^_, _+_, _*_, _≤_, _<_}
 use mathlib.Core.Bool.{Bool, cond, _&&_}
 use mathlib.Core.List.{List}
 use lib.Bits.{bitAnd}
@@ -60,7 +60,7 @@ makeUpBy format s i r c mitigated =
 
 -- one word of 32 bits exceeds another by at most this
 abbrev pub highestExcess : ℕ
-highestExcess = 4294967296
+highestExcess = 2 ^ 32
 
 -- an hour's make-up is at most this, in tenths of a cent
 abbrev pub highestTenths : ℕ

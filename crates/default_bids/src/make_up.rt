@@ -7,7 +7,7 @@ ghost use Rattle.binary.specs.Bounded.{sumTo};
 ghost use Rattle.tariff.specs.Ranges.{highestMegawatts};
 ghost use Rattle.casefile.specs.Decode.{eventsIn};
 ghost use Rattle.casefile.specs.Layout.{mostHours, cellWidth};
-ghost use Rattle.casefile.specs.Refusal.{eventsFine};
+ghost use Rattle.limits.specs.Refusal.{eventsFine};
 ghost use Rattle.casefile.specs.StageRead.{cellOf};
 ghost use Rattle.default_bids.specs.StageFigures.{MegawattsFine, tenthsAt, makeUpBy, highestTenths, highestMakeUp};
 use binary::masks::bit_of;

@@ -12,8 +12,8 @@ use Rattle.casefile.specs.declared.layout.Format.{Format}
 use Rattle.casefile.specs.Layout.{rowWidth, mostEvents}
 use Rattle.casefile.specs.Case.{Events}
 use Rattle.casefile.specs.Decode.{formatIn, sectionOf, decode, caseIn, eventsIn}
-use Rattle.casefile.specs.Refusal.{refusal}
-use Rattle.casefile.proofs.AcceptedLaws as case
+use Rattle.limits.specs.Refusal.{refusal}
+use Rattle.limits.proofs.AcceptedLaws as case
 use Rattle.settlement.specs.declared.settle.Settlement.the-variants as settlement
 use Rattle.settlement.specs.Settled.{SettlementAnswer, refusedAnswer, accepted, settlementOf, answerOf, rowsAfter}
 use Rattle.report.specs.Line.{linesTo}

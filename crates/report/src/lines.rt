@@ -2,7 +2,7 @@
 ghost use mathlib.Core.Path.{_≡_};
 ghost use Prim.Native.Nat.{_+_, _*_, _≤_};
 ghost use lib.ListN.{length};
-ghost use Rattle.casefile.specs.Layout.{rowWidth, mostHours};
+ghost use Rattle.casefile.specs.Layout.{rowWidth, bidsOffset, mostHours};
 ghost use Rattle.casefile.specs.Decode.{eventsIn};
 ghost use Rattle.report.specs.StagePut.{Put, eventText};
 ghost use Rattle.report.specs.Line.{rowFields, linesTo};
@@ -35,7 +35,7 @@ fn put_event(event: Event, out: &mut [u8], at: usize) -> usize
 
 // Flags, mitigated, multiplier, penalty, make-up, with a line feed at the end.
 fn put_row(row: &[u8], out: &mut [u8], at: usize) -> usize
-    requires { ⌜ (length (now row) ≡ 32 + 4 * mostHours) × (at + 105 ≤ length (now out)) ⌝ }
+    requires { ⌜ (length (now row) ≡ bidsOffset + 4 * mostHours) × (at + 105 ≤ length (now out)) ⌝ }
     ensures { λ r. ⌜ Put (now (out .entry)) at (rowFields (now (row .entry))) (now (out .exit)) r × (r ≤ at + 105) ⌝ }
 {
     let flags = load_u32(row, 0);

@@ -6,10 +6,10 @@ use native.Mathlib.Nat.{le-refl}
 use native.Mathlib.Omega.{arith}
 use Rattle.casefile.specs.declared.layout.Format.{Format}
 use Rattle.casefile.specs.Layout.{mostHours}
-use Rattle.casefile.specs.Decode.{formatIn, sectionOf, pastIn, eventsIn, caseIn, decode}
-use Rattle.casefile.specs.Refusal.{refusal}
-use Rattle.casefile.proofs.AcceptedLaws as case
-use Rattle.casefile.proofs.SectionLaws.{event-ranges, cell-ranges, amount-bound}
+use Rattle.casefile.specs.Decode.{formatIn, sectionOf, eventsIn, caseIn, decode}
+use Rattle.limits.specs.Refusal.{refusal}
+use Rattle.limits.proofs.AcceptedLaws as case
+use Rattle.limits.proofs.SectionLaws.{event-ranges, cell-ranges, amount-bound}
 use Rattle.sanctions.specs.StageFound.{Accepted}
 use Rattle.sanctions.proofs.PenaltyBounds.{Ranges}
 

@@ -10,8 +10,8 @@ use borrow.Author.Tests.{eqb-true, eqb-false, lt-ltb, ltb-true, ltb-false}
 use Rattle.binary.specs.Bounded.{anyTo}
 use Rattle.binary.proofs.BoundedLaws.{any-true, any-false}
 use Rattle.casefile.specs.Case.{Case}
-use Rattle.casefile.specs.Refusal.{orderFine}
-use Rattle.casefile.proofs.SectionLaws.{units-in-order}
+use Rattle.limits.specs.Refusal.{orderFine}
+use Rattle.limits.proofs.SectionLaws.{units-in-order}
 use Rattle.conduct.specs.Flags.{together}
 use Rattle.conduct.specs.StageParties.{leaderOf}
 use Rattle.conduct.proofs.PartyLaws.{SameParty, together-fields, together-sym, leader-le, leader-together, leader-first, leader-eqb}

@@ -15,9 +15,9 @@ use Rattle.tariff.specs.SanctionRules.{fuelDayCounts}
 use Rattle.casefile.specs.Case.{Case}
 use Rattle.casefile.specs.Decode.{decode}
 use Rattle.casefile.specs.Lookup.{groupOf}
-use Rattle.casefile.specs.Refusal.{refusal}
-use Rattle.casefile.proofs.AcceptedLaws as case
-use Rattle.casefile.proofs.RunLaws.{unit-lt}
+use Rattle.limits.specs.Refusal.{refusal}
+use Rattle.limits.proofs.AcceptedLaws as case
+use Rattle.limits.proofs.RunLaws.{unit-lt}
 use Rattle.sanctions.specs.Penalties.{lowestUnit, fuelStands, priorFuel, fuelMultiplier, multiplier, countsFuelHere, fuelMultiplierHere, MultiplierByFile}
 use Rattle.sanctions.proofs.PriorLaws.{prior-rows}
 

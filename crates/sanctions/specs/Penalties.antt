@@ -13,7 +13,7 @@ use Rattle.tariff.specs.SanctionRules.{periodCounts, ladder, withheldPenalty, d
 use Rattle.casefile.specs.Case.{Violation, Case}
 use Rattle.casefile.specs.Decode.{decode}
 use Rattle.casefile.specs.Lookup.{groupOf}
-use Rattle.casefile.specs.Refusal.{refusal}
+use Rattle.limits.specs.Refusal.{refusal}
 use Rattle.conduct.specs.Flags.{together, sumTogether, fuelFlag, flagged}
 
 -- impact 1 and a flagged hour

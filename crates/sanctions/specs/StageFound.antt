@@ -11,7 +11,7 @@ use Rattle.casefile.specs.Layout.{mostHours, mostPast, mostEvents}
 use Rattle.casefile.specs.Case.{Case}
 use Rattle.casefile.specs.Decode.{cellsFrom, unitsIn, pastIn, eventsIn}
 use Rattle.casefile.specs.Lookup.{groupOf}
-use Rattle.casefile.specs.Refusal.{unitsFine, eventsFine, orderFine, eventsListed, amountsFine}
+use Rattle.limits.specs.Refusal.{unitsFine, eventsFine, orderFine, eventsListed, amountsFine}
 use Rattle.casefile.specs.StageRead.{cellOf}
 use Rattle.conduct.specs.Flags.{flagMask}
 use Rattle.conduct.specs.StageParties.{sameRun, RunsTogether, leaderOf}

@@ -116,7 +116,8 @@ fn party_day(
     mask: u32,
     i: usize,
 ) -> PartyDay
-    requires { ⌜ (i < eventsIn format (now events) .count) × (eventsIn format (now events) .count ≤ mostEvents) × (eventsIn format (now events) .kind i ≡ 3) × Sound format (now events) (now leaders) ⌝ }
+    requires { ⌜ (i < eventsIn format (now events) .count) × (eventsIn format (now events) .count ≤ mostEvents)
+        × (eventsIn format (now events) .kind i ≡ 3) × Sound format (now events) (now leaders) ⌝ }
     ensures { λ r. ⌜ r ≡ partyDay format (now (events .entry)) (now (leaders .entry)) mask i (eventsIn format (now (events .entry)) .count) ⌝ }
 {
     let end = run_end(format, events, i);
@@ -225,7 +226,8 @@ pub fn fuel(
     penalties: &[u64; layout::MOST_EVENTS],
     i: usize,
 ) -> Sanction
-    requires { ⌜ (i < eventsIn format (now events) .count) × (eventsIn format (now events) .count ≤ mostEvents) × (eventsIn format (now events) .kind i ≡ 3) × Sound format (now events) (now leaders) ⌝ }
+    requires { ⌜ (i < eventsIn format (now events) .count) × (eventsIn format (now events) .count ≤ mostEvents)
+        × (eventsIn format (now events) .kind i ≡ 3) × Sound format (now events) (now leaders) ⌝ }
     ensures { λ r. ⌜ r ≡ fuelRow format (now (past .entry)) (now (events .entry)) (now (groups .entry)) (now (leaders .entry)) (now (masks .entry)) (now (penalties .entry)) i ⌝ }
 {
     let event = event_at(format, events, i);

@@ -15,7 +15,7 @@ use Rattle.casefile.specs.Layout.{mostHours, rowWidth}
 use Rattle.casefile.specs.Case.{References, Case}
 use Rattle.casefile.specs.Decode.{formatIn, decode}
 use Rattle.casefile.specs.Lookup.{correctIn}
-use Rattle.casefile.specs.Refusal.{refusal}
+use Rattle.limits.specs.Refusal.{refusal}
 use Rattle.conduct.specs.Flags.{flagMask}
 use Rattle.sanctions.specs.Penalties.{multiplier, penalty}
 use Rattle.default_bids.specs.Mitigation.{mitigatedMask, bidInForce, makeUpOf}

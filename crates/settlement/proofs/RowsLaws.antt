@@ -11,9 +11,9 @@ use Rattle.casefile.specs.declared.layout.Format.{Format}
 use Rattle.casefile.specs.Layout.{sectionCount, mostHours, mostEvents, mostPast, rowWidth}
 use Rattle.casefile.specs.Decode.{formatIn, sectionOf, unitsIn, pastIn, eventsIn, caseIn, decode, HasSection}
 use Rattle.casefile.specs.Lookup.{unitOf}
-use Rattle.casefile.specs.Refusal.{eventsFine}
-use Rattle.casefile.proofs.AcceptedLaws as case
-use Rattle.casefile.proofs.EventLaws.{events-place}
+use Rattle.limits.specs.Refusal.{eventsFine}
+use Rattle.limits.proofs.AcceptedLaws as case
+use Rattle.limits.proofs.EventLaws.{events-place}
 use Rattle.conduct.proofs.PartyLaws.{accepted-runs}
 use Rattle.sanctions.specs.declared.sanction.Sanction.{Sanction}
 use Rattle.sanctions.specs.Penalties.{penalty, totalPenalty}
@@ -22,7 +22,7 @@ use Rattle.sanctions.specs.StageTables.{rowAt}
 use Rattle.sanctions.proofs.AcceptedLaws as sanctions
 use Rattle.sanctions.proofs.FoundLaws as sanctions-found
 use Rattle.sanctions.proofs.FoundLaws.{SanctionTurn}
-use Rattle.casefile.specs.StageChecked.{AcceptedFile}
+use Rattle.limits.specs.StageChecked.{AcceptedFile}
 use Rattle.default_bids.specs.StageFigures.{mitigatedBy, bidBy, makeUpBy}
 use Rattle.settlement.specs.declared.rows.Row.{Row}
 use Rattle.settlement.specs.StageRow.{writtenRow, rowBy, tableRow}

@@ -14,9 +14,9 @@ use Rattle.casefile.specs.declared.layout.Format.{Format}
 use Rattle.casefile.specs.Layout.{mostHours, rowWidth}
 use Rattle.casefile.specs.Decode.{formatIn, sectionOf, referencesIn, eventsIn, caseIn, decode}
 use Rattle.casefile.specs.Lookup.{unitOf, bidLevel, correctReferences, correctIn}
-use Rattle.casefile.specs.StageLookup.{correctLevel}
-use Rattle.casefile.specs.Refusal.{refusal}
-use Rattle.casefile.specs.StageChecked.{HandedOn}
+use Rattle.limits.specs.StageLookup.{correctLevel}
+use Rattle.limits.specs.Refusal.{refusal}
+use Rattle.limits.specs.StageChecked.{HandedOn}
 use Rattle.conduct.specs.Flags.{flagMask}
 use Rattle.sanctions.specs.declared.sanction.Sanction.{Sanction}
 use Rattle.sanctions.specs.Penalties.{totalPenalty}

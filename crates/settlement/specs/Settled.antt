@@ -7,7 +7,7 @@ use lib.Dec.{eqb}
 use lib.ListN.{length}
 use Rattle.casefile.specs.Decode.{formatIn, decode}
 use Rattle.casefile.specs.Lookup.{correctIn}
-use Rattle.casefile.specs.Refusal.{refusal}
+use Rattle.limits.specs.Refusal.{refusal}
 use Rattle.sanctions.specs.Penalties.{totalPenalty}
 use Rattle.default_bids.specs.Mitigation.{totalMakeUp}
 use Rattle.settlement.specs.Row.{rowsOf}

@@ -4,10 +4,10 @@ ghost use mathlib.Core.Path.{_≡_};
 ghost use Prim.Native.Nat.{_+_, _*_, _≤_, _<_};
 ghost use lib.ListN.{length, getD};
 ghost use lib.Seq.{sets};
-ghost use Rattle.casefile.specs.Layout.{rowWidth, mostHours, mostEvents};
+ghost use Rattle.casefile.specs.Layout.{rowWidth, bidsOffset, mostHours, mostEvents};
 ghost use Rattle.casefile.specs.Decode.{formatIn, decode, eventsIn, unitsIn};
-ghost use Rattle.casefile.specs.Refusal.{eventsFine};
-ghost use Rattle.casefile.specs.StageChecked.{AcceptedFile};
+ghost use Rattle.limits.specs.Refusal.{eventsFine};
+ghost use Rattle.limits.specs.StageChecked.{AcceptedFile};
 ghost use Rattle.default_bids.specs.StageFigures.{highestMakeUp};
 ghost use Rattle.settlement.specs.StageRow.{wordsOf, writtenRow, tableRow};
 ghost use Rattle.settlement.specs.StageRows.{FoundFlags, rowsIn, totalsIn};
@@ -37,21 +37,21 @@ pub struct Row {
     pub bids: [u32; layout::HOURS],
 }
 
-// The bids in force, from byte 32 on.
+// The bids in force.
 fn write_bids(row: &mut [u8], bids: [u32; layout::HOURS])
-    requires { ⌜ length (now row) ≡ 32 + 4 * mostHours ⌝ }
-    ensures { λ _. ⌜ now (row .exit) ≡ sets (now (row .entry)) 32 (wordsOf bids) ⌝ }
+    requires { ⌜ length (now row) ≡ bidsOffset + 4 * mostHours ⌝ }
+    ensures { λ _. ⌜ now (row .exit) ≡ sets (now (row .entry)) bidsOffset (wordsOf bids) ⌝ }
 {
     let mut h = 0;
     while h < layout::HOURS {
-        store_u32(row, 32 + 4 * h, bids[h]);
+        store_u32(row, layout::BIDS_OFFSET + 4 * h, bids[h]);
         h += 1;
     }
 }
 
 // All the bytes of one row.
 fn write_row(row: &mut [u8], r: Row)
-    requires { ⌜ length (now row) ≡ 32 + 4 * mostHours ⌝ }
+    requires { ⌜ length (now row) ≡ bidsOffset + 4 * mostHours ⌝ }
     ensures { λ _. ⌜ now (row .exit) ≡ writtenRow r ⌝ }
 {
     store_u32(row, 0, r.flags);

@@ -6,17 +6,17 @@ ghost use Rattle.binary.specs.Lists.{Holds};
 ghost use Rattle.casefile.specs.Layout.{rowWidth};
 ghost use Rattle.casefile.specs.Decode.{formatIn, decode};
 ghost use Rattle.casefile.specs.Lookup.{unitOf, bidLevel};
-ghost use Rattle.casefile.specs.StageChecked.{AcceptedFile};
+ghost use Rattle.limits.specs.StageChecked.{AcceptedFile};
 ghost use Rattle.settlement.specs.Settled.{settlementOf, answerOf, rowsAfter};
 ghost use Rattle.settlement.specs.StageRows.{rowsIn, totalsIn};
 use crate::rows::Totals;
 use crate::rows::settle_rows;
-use casefile::check::check_into;
 use casefile::events::event_count;
 use casefile::header::format_of;
 use casefile::header::section;
 use casefile::layout;
 use conduct::flags::find_flags;
+use limits::check::check_into;
 
 pub enum Settlement {
     Refused(u8),

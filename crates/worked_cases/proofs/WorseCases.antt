@@ -18,9 +18,9 @@ use Rattle.tariff.specs.ConductTests.{increase, lowerTest, constrainedTest, per
 use Rattle.tariff.specs.SanctionRules.{cents, periodCounts, ladder, withheldPenalty, dispatchPenalty, fuelDayCounts, fuelCharge, fuelPenalty}
 use Rattle.tariff.specs.DefaultBidRules.{between, spanned, spanMask, atMost, lesser, greater, defaultBid, restores, correctedBid, correctedInForce, excess, hourMakeUp, makeUp}
 use Rattle.casefile.specs.Layout.{firstWidths, widthsOf}
-use Rattle.casefile.specs.Decode.{formatIn, caseIn, offsetOf, lengthOf, sectionOf, recordAt, unitsIn, referencesIn, violationIn, pastIn, cellsFrom, cellsIn, eventsIn, amountsIn, decode}
+use Rattle.casefile.specs.Decode.{formatIn, caseIn, offsetOf, lengthOf, sectionOf, recordAt, unitsIn, referencesIn, violationIn, pastIn, cellsFrom, cellsIn, eventsIn, amountsIn, decode, unitSpareFine, referenceSpareFine, entrySpareFine}
 use Rattle.casefile.specs.Lookup.{referenceKey, isUnit, isListed, placeOf, unitOf, groupOf, isReference, hasReference, levelOf, correctReferences, correctIn, referenceOf, readsCorrect}
-use Rattle.casefile.specs.Refusal.{lengthFine, versionFine, sectionsFine, pairsFine, sizeFine, sizesFine, rises, unitFieldsFine, unitSpareFine, unitFine, unitsFine, referenceFieldsFine, referenceFine, referencesFine, correctionFine, violationFine, entryFine, pastFine, maskFine, quantitiesFine, fieldsFine, cellFine, hourFine, eventFine, eventsFine, eventKey, orderFine, eventListed, eventsListed, withinCapability, amountFine, amountsFine, referenceFound, referencesFound, rowsFine, refusal}
+use Rattle.limits.specs.Refusal.{lengthFine, versionFine, sectionsFine, pairsFine, sizeFine, sizesFine, rises, unitFieldsFine, unitFine, unitsFine, referenceFieldsFine, referenceFine, referencesFine, correctionFine, violationFine, entryFine, pastFine, maskFine, quantitiesFine, fieldsFine, cellFine, hourFine, eventFine, eventsFine, eventKey, orderFine, eventListed, eventsListed, withinCapability, amountFine, amountsFine, referenceFound, referencesFound, rowsFine, refusal}
 use Rattle.conduct.specs.Flags.{tight, together, sumTogether, timeBid, timeTotal, bidFlag, groupCapability, groupSum, withheldFlag, dispatchFlag, fuelFlag, flagged, flagMask}
 use Rattle.binary.specs.Integers.{signed, sumℤTo}
 use Rattle.sanctions.specs.Penalties.{partyDaySum, E, flaggedWithImpact, isInstance, countsHere, countsPast, instances, N3, N2, withheldMultiplier, withheldAmount, withheldPenaltyOf, dispatchMultiplier, dispatchRevenue, dispatchPenaltyOf, energyPart, gain, loss, tccChange, lowestUnit, countsFuel, pastFuel, fuelStands, fuelMultiplierAfter, fuelPenaltyUnder, priorFuel, fuelMultiplier, fuelPenaltyOf, multiplier, penalty, totalPenalty}
@@ -74,11 +74,11 @@ unfolding caseOf before changes after headed fileOf unitBytes referenceBytes ent
 changed = refl
 
 accepted-before : refusal before [] 640 ≡ 0
-unfolding caseOf before headed fileOf unitBytes referenceBytes entryBytes units cellBytes eventOf sumTo countTo anyTo allTo firstTo lastTo maskTo bitOf valueAt bytesOf positivePart negativePart within thresholdOf increase lowerTest constrainedTest percentTest timeTest maximumTest bidTest unitLimit groupLimit withheldTest dispatchTest cents periodCounts ladder withheldPenalty dispatchPenalty fuelDayCounts fuelCharge fuelPenalty between spanned spanMask atMost lesser greater defaultBid restores correctedBid correctedInForce excess hourMakeUp makeUp firstWidths widthsOf formatIn offsetOf lengthOf sectionOf recordAt unitsIn referencesIn violationIn pastIn cellsFrom cellsIn eventsIn amountsIn decode caseIn isUnit isListed placeOf unitOf groupOf isReference hasReference levelOf correctReferences correctIn referenceOf lengthFine versionFine sectionsFine pairsFine sizeFine sizesFine rises unitFieldsFine unitSpareFine unitFine unitsFine referenceFieldsFine referenceKey referenceFine referencesFine correctionFine violationFine entryFine pastFine maskFine quantitiesFine fieldsFine referenceInRange bidInRange cellFine hourFine eventFine eventsFine eventKey orderFine eventListed eventsListed withinCapability amountFine amountsFine readsCorrect referenceFound referencesFound rowsFine refusal tight together sumTogether timeBid timeTotal bidFlag groupCapability groupSum withheldFlag dispatchFlag fuelFlag flagged flagMask flaggedWithImpact isInstance countsHere countsPast instances N3 N2 withheldMultiplier withheldAmount withheldPenaltyOf dispatchMultiplier dispatchRevenue dispatchPenaltyOf energyPart gain loss tccChange lowestUnit countsFuel pastFuel fuelStands fuelMultiplierAfter fuelPenaltyUnder priorFuel fuelMultiplier fuelPenaltyOf multiplier penalty totalPenalty hit mitigated mitigatedMask correctOf bidInForce makeUpTenths makeUpOf totalMakeUp joinTo bidBytes rowOf rowsOf accepted answerOf rowsAfter settled
+unfolding caseOf before headed fileOf unitBytes referenceBytes entryBytes units cellBytes eventOf sumTo countTo anyTo allTo firstTo lastTo maskTo bitOf valueAt bytesOf positivePart negativePart within thresholdOf increase lowerTest constrainedTest percentTest timeTest maximumTest bidTest unitLimit groupLimit withheldTest dispatchTest cents periodCounts ladder withheldPenalty dispatchPenalty fuelDayCounts fuelCharge fuelPenalty between spanned spanMask atMost lesser greater defaultBid restores correctedBid correctedInForce excess hourMakeUp makeUp firstWidths widthsOf formatIn offsetOf lengthOf sectionOf recordAt unitsIn referencesIn violationIn pastIn cellsFrom cellsIn eventsIn amountsIn decode caseIn isUnit isListed placeOf unitOf groupOf isReference hasReference levelOf correctReferences correctIn referenceOf lengthFine versionFine sectionsFine pairsFine sizeFine sizesFine rises unitFieldsFine unitSpareFine referenceSpareFine entrySpareFine unitFine unitsFine referenceFieldsFine referenceKey referenceFine referencesFine correctionFine violationFine entryFine pastFine maskFine quantitiesFine fieldsFine referenceInRange bidInRange cellFine hourFine eventFine eventsFine eventKey orderFine eventListed eventsListed withinCapability amountFine amountsFine readsCorrect referenceFound referencesFound rowsFine refusal tight together sumTogether timeBid timeTotal bidFlag groupCapability groupSum withheldFlag dispatchFlag fuelFlag flagged flagMask flaggedWithImpact isInstance countsHere countsPast instances N3 N2 withheldMultiplier withheldAmount withheldPenaltyOf dispatchMultiplier dispatchRevenue dispatchPenaltyOf energyPart gain loss tccChange lowestUnit countsFuel pastFuel fuelStands fuelMultiplierAfter fuelPenaltyUnder priorFuel fuelMultiplier fuelPenaltyOf multiplier penalty totalPenalty hit mitigated mitigatedMask correctOf bidInForce makeUpTenths makeUpOf totalMakeUp joinTo bidBytes rowOf rowsOf accepted answerOf rowsAfter settled
 accepted-before = refl
 
 accepted-after : refusal after [] 700 ≡ 0
-unfolding caseOf after headed fileOf unitBytes referenceBytes entryBytes units cellBytes eventOf sumTo countTo anyTo allTo firstTo lastTo maskTo bitOf valueAt bytesOf positivePart negativePart within thresholdOf increase lowerTest constrainedTest percentTest timeTest maximumTest bidTest unitLimit groupLimit withheldTest dispatchTest cents periodCounts ladder withheldPenalty dispatchPenalty fuelDayCounts fuelCharge fuelPenalty between spanned spanMask atMost lesser greater defaultBid restores correctedBid correctedInForce excess hourMakeUp makeUp firstWidths widthsOf formatIn offsetOf lengthOf sectionOf recordAt unitsIn referencesIn violationIn pastIn cellsFrom cellsIn eventsIn amountsIn decode caseIn isUnit isListed placeOf unitOf groupOf isReference hasReference levelOf correctReferences correctIn referenceOf lengthFine versionFine sectionsFine pairsFine sizeFine sizesFine rises unitFieldsFine unitSpareFine unitFine unitsFine referenceFieldsFine referenceKey referenceFine referencesFine correctionFine violationFine entryFine pastFine maskFine quantitiesFine fieldsFine referenceInRange bidInRange cellFine hourFine eventFine eventsFine eventKey orderFine eventListed eventsListed withinCapability amountFine amountsFine readsCorrect referenceFound referencesFound rowsFine refusal tight together sumTogether timeBid timeTotal bidFlag groupCapability groupSum withheldFlag dispatchFlag fuelFlag flagged flagMask flaggedWithImpact isInstance countsHere countsPast instances N3 N2 withheldMultiplier withheldAmount withheldPenaltyOf dispatchMultiplier dispatchRevenue dispatchPenaltyOf energyPart gain loss tccChange lowestUnit countsFuel pastFuel fuelStands fuelMultiplierAfter fuelPenaltyUnder priorFuel fuelMultiplier fuelPenaltyOf multiplier penalty totalPenalty hit mitigated mitigatedMask correctOf bidInForce makeUpTenths makeUpOf totalMakeUp joinTo bidBytes rowOf rowsOf accepted answerOf rowsAfter settled
+unfolding caseOf after headed fileOf unitBytes referenceBytes entryBytes units cellBytes eventOf sumTo countTo anyTo allTo firstTo lastTo maskTo bitOf valueAt bytesOf positivePart negativePart within thresholdOf increase lowerTest constrainedTest percentTest timeTest maximumTest bidTest unitLimit groupLimit withheldTest dispatchTest cents periodCounts ladder withheldPenalty dispatchPenalty fuelDayCounts fuelCharge fuelPenalty between spanned spanMask atMost lesser greater defaultBid restores correctedBid correctedInForce excess hourMakeUp makeUp firstWidths widthsOf formatIn offsetOf lengthOf sectionOf recordAt unitsIn referencesIn violationIn pastIn cellsFrom cellsIn eventsIn amountsIn decode caseIn isUnit isListed placeOf unitOf groupOf isReference hasReference levelOf correctReferences correctIn referenceOf lengthFine versionFine sectionsFine pairsFine sizeFine sizesFine rises unitFieldsFine unitSpareFine referenceSpareFine entrySpareFine unitFine unitsFine referenceFieldsFine referenceKey referenceFine referencesFine correctionFine violationFine entryFine pastFine maskFine quantitiesFine fieldsFine referenceInRange bidInRange cellFine hourFine eventFine eventsFine eventKey orderFine eventListed eventsListed withinCapability amountFine amountsFine readsCorrect referenceFound referencesFound rowsFine refusal tight together sumTogether timeBid timeTotal bidFlag groupCapability groupSum withheldFlag dispatchFlag fuelFlag flagged flagMask flaggedWithImpact isInstance countsHere countsPast instances N3 N2 withheldMultiplier withheldAmount withheldPenaltyOf dispatchMultiplier dispatchRevenue dispatchPenaltyOf energyPart gain loss tccChange lowestUnit countsFuel pastFuel fuelStands fuelMultiplierAfter fuelPenaltyUnder priorFuel fuelMultiplier fuelPenaltyOf multiplier penalty totalPenalty hit mitigated mitigatedMask correctOf bidInForce makeUpTenths makeUpOf totalMakeUp joinTo bidBytes rowOf rowsOf accepted answerOf rowsAfter settled
 accepted-after = refl
 
 taken : TakesAll before changes
@@ -86,7 +86,7 @@ unfolding caseOf before changes headed fileOf unitBytes referenceBytes entryByte
 taken = (record { event = lit< tt; hour = lit< tt; word = lit< tt; worse = refl }, (record { place = lit≤ tt; size = refl }, (record { event = lit< tt; hour = lit< tt; word = lit< tt; worse = refl }, (record { event = lit< tt; hour = lit< tt; word = lit< tt; worse = refl }, (record { place = lit≤ tt; size = refl }, (record { event = lit< tt; hour = lit< tt; word = lit< tt; worse = refl }, (record { event = lit< tt; hour = lit< tt; word = lit< tt; worse = refl }, (record { place = lit≤ tt; size = refl }, (record { event = lit< tt; hour = lit< tt; word = lit< tt; worse = refl }, (record { event = lit< tt; hour = lit< tt; word = lit< tt; worse = refl }, (record { event = lit< tt; hour = lit< tt; word = lit< tt; worse = refl }, tt)))))))))))
 
 energy : EnergyNotNegative (decode before)
-unfolding E partyDaySum signed sumℤTo caseOf before headed fileOf unitBytes referenceBytes entryBytes units cellBytes eventOf sumTo countTo anyTo allTo firstTo lastTo maskTo bitOf valueAt bytesOf positivePart negativePart within thresholdOf increase lowerTest constrainedTest percentTest timeTest maximumTest bidTest unitLimit groupLimit withheldTest dispatchTest cents periodCounts ladder withheldPenalty dispatchPenalty fuelDayCounts fuelCharge fuelPenalty between spanned spanMask atMost lesser greater defaultBid restores correctedBid correctedInForce excess hourMakeUp makeUp firstWidths widthsOf formatIn offsetOf lengthOf sectionOf recordAt unitsIn referencesIn violationIn pastIn cellsFrom cellsIn eventsIn amountsIn decode caseIn isUnit isListed placeOf unitOf groupOf isReference hasReference levelOf correctReferences correctIn referenceOf lengthFine versionFine sectionsFine pairsFine sizeFine sizesFine rises unitFieldsFine unitSpareFine unitFine unitsFine referenceFieldsFine referenceKey referenceFine referencesFine correctionFine violationFine entryFine pastFine maskFine quantitiesFine fieldsFine referenceInRange bidInRange cellFine hourFine eventFine eventsFine eventKey orderFine eventListed eventsListed withinCapability amountFine amountsFine readsCorrect referenceFound referencesFound rowsFine refusal tight together sumTogether timeBid timeTotal bidFlag groupCapability groupSum withheldFlag dispatchFlag fuelFlag flagged flagMask flaggedWithImpact isInstance countsHere countsPast instances N3 N2 withheldMultiplier withheldAmount withheldPenaltyOf dispatchMultiplier dispatchRevenue dispatchPenaltyOf energyPart gain loss tccChange lowestUnit countsFuel pastFuel fuelStands fuelMultiplierAfter fuelPenaltyUnder priorFuel fuelMultiplier fuelPenaltyOf multiplier penalty totalPenalty hit mitigated mitigatedMask correctOf bidInForce makeUpTenths makeUpOf totalMakeUp joinTo bidBytes rowOf rowsOf accepted answerOf rowsAfter settled
+unfolding E partyDaySum signed sumℤTo caseOf before headed fileOf unitBytes referenceBytes entryBytes units cellBytes eventOf sumTo countTo anyTo allTo firstTo lastTo maskTo bitOf valueAt bytesOf positivePart negativePart within thresholdOf increase lowerTest constrainedTest percentTest timeTest maximumTest bidTest unitLimit groupLimit withheldTest dispatchTest cents periodCounts ladder withheldPenalty dispatchPenalty fuelDayCounts fuelCharge fuelPenalty between spanned spanMask atMost lesser greater defaultBid restores correctedBid correctedInForce excess hourMakeUp makeUp firstWidths widthsOf formatIn offsetOf lengthOf sectionOf recordAt unitsIn referencesIn violationIn pastIn cellsFrom cellsIn eventsIn amountsIn decode caseIn isUnit isListed placeOf unitOf groupOf isReference hasReference levelOf correctReferences correctIn referenceOf lengthFine versionFine sectionsFine pairsFine sizeFine sizesFine rises unitFieldsFine unitSpareFine referenceSpareFine entrySpareFine unitFine unitsFine referenceFieldsFine referenceKey referenceFine referencesFine correctionFine violationFine entryFine pastFine maskFine quantitiesFine fieldsFine referenceInRange bidInRange cellFine hourFine eventFine eventsFine eventKey orderFine eventListed eventsListed withinCapability amountFine amountsFine readsCorrect referenceFound referencesFound rowsFine refusal tight together sumTogether timeBid timeTotal bidFlag groupCapability groupSum withheldFlag dispatchFlag fuelFlag flagged flagMask flaggedWithImpact isInstance countsHere countsPast instances N3 N2 withheldMultiplier withheldAmount withheldPenaltyOf dispatchMultiplier dispatchRevenue dispatchPenaltyOf energyPart gain loss tccChange lowestUnit countsFuel pastFuel fuelStands fuelMultiplierAfter fuelPenaltyUnder priorFuel fuelMultiplier fuelPenaltyOf multiplier penalty totalPenalty hit mitigated mitigatedMask correctOf bidInForce makeUpTenths makeUpOf totalMakeUp joinTo bidBytes rowOf rowsOf accepted answerOf rowsAfter settled
 energy zero l k = absurd (omega arith)
 energy (suc zero) l k = absurd (omega arith)
 energy (suc (suc zero)) l k = lit≤ tt
@@ -130,7 +130,7 @@ costAfter =
     }
 
 pub cost : (settled before [] (replicate 640 0) ≡ costBefore) × (settled after [] (replicate 640 0) ≡ costAfter)
-unfolding costBefore costAfter caseOf before after headed fileOf unitBytes referenceBytes entryBytes units cellBytes eventOf rowBytes sumTo countTo anyTo allTo firstTo lastTo maskTo bitOf valueAt bytesOf positivePart negativePart within thresholdOf increase lowerTest constrainedTest percentTest timeTest maximumTest bidTest unitLimit groupLimit withheldTest dispatchTest cents periodCounts ladder withheldPenalty dispatchPenalty fuelDayCounts fuelCharge fuelPenalty between spanned spanMask atMost lesser greater defaultBid restores correctedBid correctedInForce excess hourMakeUp makeUp firstWidths widthsOf formatIn offsetOf lengthOf sectionOf recordAt unitsIn referencesIn violationIn pastIn cellsFrom cellsIn eventsIn amountsIn decode caseIn isUnit isListed placeOf unitOf groupOf isReference hasReference levelOf correctReferences correctIn referenceOf lengthFine versionFine sectionsFine pairsFine sizeFine sizesFine rises unitFieldsFine unitSpareFine unitFine unitsFine referenceFieldsFine referenceKey referenceFine referencesFine correctionFine violationFine entryFine pastFine maskFine quantitiesFine fieldsFine referenceInRange bidInRange cellFine hourFine eventFine eventsFine eventKey orderFine eventListed eventsListed withinCapability amountFine amountsFine readsCorrect referenceFound referencesFound rowsFine refusal tight together sumTogether timeBid timeTotal bidFlag groupCapability groupSum withheldFlag dispatchFlag fuelFlag flagged flagMask flaggedWithImpact isInstance countsHere countsPast instances N3 N2 withheldMultiplier withheldAmount withheldPenaltyOf dispatchMultiplier dispatchRevenue dispatchPenaltyOf energyPart gain loss tccChange lowestUnit countsFuel pastFuel fuelStands fuelMultiplierAfter fuelPenaltyUnder priorFuel fuelMultiplier fuelPenaltyOf multiplier penalty totalPenalty hit mitigated mitigatedMask correctOf bidInForce makeUpTenths makeUpOf totalMakeUp joinTo bidBytes rowOf rowsOf accepted answerOf rowsAfter settled
+unfolding costBefore costAfter caseOf before after headed fileOf unitBytes referenceBytes entryBytes units cellBytes eventOf rowBytes sumTo countTo anyTo allTo firstTo lastTo maskTo bitOf valueAt bytesOf positivePart negativePart within thresholdOf increase lowerTest constrainedTest percentTest timeTest maximumTest bidTest unitLimit groupLimit withheldTest dispatchTest cents periodCounts ladder withheldPenalty dispatchPenalty fuelDayCounts fuelCharge fuelPenalty between spanned spanMask atMost lesser greater defaultBid restores correctedBid correctedInForce excess hourMakeUp makeUp firstWidths widthsOf formatIn offsetOf lengthOf sectionOf recordAt unitsIn referencesIn violationIn pastIn cellsFrom cellsIn eventsIn amountsIn decode caseIn isUnit isListed placeOf unitOf groupOf isReference hasReference levelOf correctReferences correctIn referenceOf lengthFine versionFine sectionsFine pairsFine sizeFine sizesFine rises unitFieldsFine unitSpareFine referenceSpareFine entrySpareFine unitFine unitsFine referenceFieldsFine referenceKey referenceFine referencesFine correctionFine violationFine entryFine pastFine maskFine quantitiesFine fieldsFine referenceInRange bidInRange cellFine hourFine eventFine eventsFine eventKey orderFine eventListed eventsListed withinCapability amountFine amountsFine readsCorrect referenceFound referencesFound rowsFine refusal tight together sumTogether timeBid timeTotal bidFlag groupCapability groupSum withheldFlag dispatchFlag fuelFlag flagged flagMask flaggedWithImpact isInstance countsHere countsPast instances N3 N2 withheldMultiplier withheldAmount withheldPenaltyOf dispatchMultiplier dispatchRevenue dispatchPenaltyOf energyPart gain loss tccChange lowestUnit countsFuel pastFuel fuelStands fuelMultiplierAfter fuelPenaltyUnder priorFuel fuelMultiplier fuelPenaltyOf multiplier penalty totalPenalty hit mitigated mitigatedMask correctOf bidInForce makeUpTenths makeUpOf totalMakeUp joinTo bidBytes rowOf rowsOf accepted answerOf rowsAfter settled
 cost = (refl, refl)
 
 -- ---- E below 0
@@ -145,7 +145,7 @@ pub premise-needed : ((file worse rows worseRows : List ℕ) (answer worseAnswer
     → Run worse [] worseRows worseAnswer worseAfter
     → NeverCheaper file worse [] rows worseRows answer worseAnswer after worseAfter (λ c. Unit {0}))
     → ⊥
-unfolding settlementOf lossMaking headed fileOf unitBytes entryBytes eventOf cellPlace cellWritten entryPlace entryPut longerPast laterEvents headerMoved apply applyAll moreWithheld lowerBid movedBid worseBid worseAmount sumTo countTo anyTo allTo firstTo lastTo maskTo bitOf valueAt bytesOf positivePart negativePart within thresholdOf increase lowerTest constrainedTest percentTest timeTest maximumTest bidTest unitLimit groupLimit withheldTest dispatchTest cents periodCounts ladder withheldPenalty dispatchPenalty fuelDayCounts fuelCharge fuelPenalty between spanned spanMask atMost lesser greater defaultBid restores correctedBid correctedInForce excess hourMakeUp makeUp firstWidths widthsOf formatIn offsetOf lengthOf sectionOf recordAt unitsIn referencesIn violationIn pastIn cellsFrom cellsIn eventsIn amountsIn decode caseIn isUnit isListed placeOf unitOf groupOf isReference hasReference levelOf correctReferences correctIn referenceOf lengthFine versionFine sectionsFine pairsFine sizeFine sizesFine rises unitFieldsFine unitSpareFine unitFine unitsFine referenceFieldsFine referenceKey referenceFine referencesFine correctionFine violationFine entryFine pastFine maskFine quantitiesFine fieldsFine referenceInRange bidInRange cellFine hourFine eventFine eventsFine eventKey orderFine eventListed eventsListed withinCapability amountFine amountsFine readsCorrect referenceFound referencesFound rowsFine refusal tight together sumTogether timeBid timeTotal bidFlag groupCapability groupSum withheldFlag dispatchFlag fuelFlag flagged flagMask flaggedWithImpact isInstance countsHere countsPast instances N3 N2 withheldMultiplier withheldAmount withheldPenaltyOf dispatchMultiplier dispatchRevenue dispatchPenaltyOf energyPart gain loss tccChange lowestUnit countsFuel pastFuel fuelStands fuelMultiplierAfter fuelPenaltyUnder priorFuel fuelMultiplier fuelPenaltyOf multiplier penalty totalPenalty hit mitigated mitigatedMask correctOf bidInForce makeUpTenths makeUpOf totalMakeUp joinTo bidBytes rowOf rowsOf accepted answerOf rowsAfter settled
+unfolding settlementOf lossMaking headed fileOf unitBytes entryBytes eventOf cellPlace cellWritten entryPlace entryPut longerPast laterEvents headerMoved apply applyAll moreWithheld lowerBid movedBid worseBid worseAmount sumTo countTo anyTo allTo firstTo lastTo maskTo bitOf valueAt bytesOf positivePart negativePart within thresholdOf increase lowerTest constrainedTest percentTest timeTest maximumTest bidTest unitLimit groupLimit withheldTest dispatchTest cents periodCounts ladder withheldPenalty dispatchPenalty fuelDayCounts fuelCharge fuelPenalty between spanned spanMask atMost lesser greater defaultBid restores correctedBid correctedInForce excess hourMakeUp makeUp firstWidths widthsOf formatIn offsetOf lengthOf sectionOf recordAt unitsIn referencesIn violationIn pastIn cellsFrom cellsIn eventsIn amountsIn decode caseIn isUnit isListed placeOf unitOf groupOf isReference hasReference levelOf correctReferences correctIn referenceOf lengthFine versionFine sectionsFine pairsFine sizeFine sizesFine rises unitFieldsFine unitSpareFine referenceSpareFine entrySpareFine unitFine unitsFine referenceFieldsFine referenceKey referenceFine referencesFine correctionFine violationFine entryFine pastFine maskFine quantitiesFine fieldsFine referenceInRange bidInRange cellFine hourFine eventFine eventsFine eventKey orderFine eventListed eventsListed withinCapability amountFine amountsFine readsCorrect referenceFound referencesFound rowsFine refusal tight together sumTogether timeBid timeTotal bidFlag groupCapability groupSum withheldFlag dispatchFlag fuelFlag flagged flagMask flaggedWithImpact isInstance countsHere countsPast instances N3 N2 withheldMultiplier withheldAmount withheldPenaltyOf dispatchMultiplier dispatchRevenue dispatchPenaltyOf energyPart gain loss tccChange lowestUnit countsFuel pastFuel fuelStands fuelMultiplierAfter fuelPenaltyUnder priorFuel fuelMultiplier fuelPenaltyOf multiplier penalty totalPenalty hit mitigated mitigatedMask correctOf bidInForce makeUpTenths makeUpOf totalMakeUp joinTo bidBytes rowOf rowsOf accepted answerOf rowsAfter settled
 premise-needed claim =
     let later : List ℕ = apply (entry 0 (entryBytes 1 3 0 44 7900)) lossMaking in
     let fallen : 1000000 ≤ 500000 =
@@ -190,7 +190,7 @@ pub hours-cleared : (mitigatedMask (decode (runningUnit 4000)) 0 ≡ maskTo 24 (
     × (refusal (runningUnit 15001) [] 128 ≡ 0)
     × TakesAll (runningUnit 4000) (cell 0 5 15001 ∷ [])
     × EnergyNotNegative (decode (runningUnit 4000))
-unfolding runningUnit headed fileOf unitBytes referenceBytes cellBytes eventOf cellPlace cellWritten entryPlace entryPut longerPast laterEvents headerMoved apply applyAll moreWithheld lowerBid movedBid worseBid worseAmount sumTo countTo anyTo allTo firstTo lastTo maskTo bitOf valueAt bytesOf positivePart negativePart within thresholdOf increase lowerTest constrainedTest percentTest timeTest maximumTest bidTest unitLimit groupLimit withheldTest dispatchTest cents periodCounts ladder withheldPenalty dispatchPenalty fuelDayCounts fuelCharge fuelPenalty between spanned spanMask atMost lesser greater defaultBid restores correctedBid correctedInForce excess hourMakeUp makeUp firstWidths widthsOf formatIn offsetOf lengthOf sectionOf recordAt unitsIn referencesIn violationIn pastIn cellsFrom cellsIn eventsIn amountsIn decode caseIn isUnit isListed placeOf unitOf groupOf isReference hasReference levelOf correctReferences correctIn referenceOf lengthFine versionFine sectionsFine pairsFine sizeFine sizesFine rises unitFieldsFine unitSpareFine unitFine unitsFine referenceFieldsFine referenceKey referenceFine referencesFine correctionFine violationFine entryFine pastFine maskFine quantitiesFine fieldsFine referenceInRange bidInRange cellFine hourFine eventFine eventsFine eventKey orderFine eventListed eventsListed withinCapability amountFine amountsFine readsCorrect referenceFound referencesFound rowsFine refusal tight together sumTogether timeBid timeTotal bidFlag groupCapability groupSum withheldFlag dispatchFlag fuelFlag flagged flagMask flaggedWithImpact isInstance countsHere countsPast instances N3 N2 withheldMultiplier withheldAmount withheldPenaltyOf dispatchMultiplier dispatchRevenue dispatchPenaltyOf energyPart gain loss tccChange lowestUnit countsFuel pastFuel fuelStands fuelMultiplierAfter fuelPenaltyUnder priorFuel fuelMultiplier fuelPenaltyOf multiplier penalty totalPenalty hit mitigated mitigatedMask correctOf bidInForce makeUpTenths makeUpOf totalMakeUp joinTo bidBytes rowOf rowsOf accepted answerOf rowsAfter settled
+unfolding runningUnit headed fileOf unitBytes referenceBytes cellBytes eventOf cellPlace cellWritten entryPlace entryPut longerPast laterEvents headerMoved apply applyAll moreWithheld lowerBid movedBid worseBid worseAmount sumTo countTo anyTo allTo firstTo lastTo maskTo bitOf valueAt bytesOf positivePart negativePart within thresholdOf increase lowerTest constrainedTest percentTest timeTest maximumTest bidTest unitLimit groupLimit withheldTest dispatchTest cents periodCounts ladder withheldPenalty dispatchPenalty fuelDayCounts fuelCharge fuelPenalty between spanned spanMask atMost lesser greater defaultBid restores correctedBid correctedInForce excess hourMakeUp makeUp firstWidths widthsOf formatIn offsetOf lengthOf sectionOf recordAt unitsIn referencesIn violationIn pastIn cellsFrom cellsIn eventsIn amountsIn decode caseIn isUnit isListed placeOf unitOf groupOf isReference hasReference levelOf correctReferences correctIn referenceOf lengthFine versionFine sectionsFine pairsFine sizeFine sizesFine rises unitFieldsFine unitSpareFine referenceSpareFine entrySpareFine unitFine unitsFine referenceFieldsFine referenceKey referenceFine referencesFine correctionFine violationFine entryFine pastFine maskFine quantitiesFine fieldsFine referenceInRange bidInRange cellFine hourFine eventFine eventsFine eventKey orderFine eventListed eventsListed withinCapability amountFine amountsFine readsCorrect referenceFound referencesFound rowsFine refusal tight together sumTogether timeBid timeTotal bidFlag groupCapability groupSum withheldFlag dispatchFlag fuelFlag flagged flagMask flaggedWithImpact isInstance countsHere countsPast instances N3 N2 withheldMultiplier withheldAmount withheldPenaltyOf dispatchMultiplier dispatchRevenue dispatchPenaltyOf energyPart gain loss tccChange lowestUnit countsFuel pastFuel fuelStands fuelMultiplierAfter fuelPenaltyUnder priorFuel fuelMultiplier fuelPenaltyOf multiplier penalty totalPenalty hit mitigated mitigatedMask correctOf bidInForce makeUpTenths makeUpOf totalMakeUp joinTo bidBytes rowOf rowsOf accepted answerOf rowsAfter settled
 hours-cleared = (
   spanned-by 4000 1024 refl ∙ refl,
   refl,

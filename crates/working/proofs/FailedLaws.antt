@@ -10,7 +10,7 @@ use Rattle.casefile.specs.Layout.{mostHours}
 use Rattle.casefile.specs.Case.{Case}
 use Rattle.casefile.specs.Decode.{decode}
 use Rattle.casefile.specs.Lookup.{unitOf, referenceOf}
-use Rattle.casefile.specs.Refusal.{refusal}
+use Rattle.limits.specs.Refusal.{refusal}
 use Rattle.conduct.specs.Flags.{tight, sumTogether, timeTotal, bidFlag, groupCapability, groupSum, withheldFlag, dispatchFlag, fuelFlag, flagged}
 use Rattle.casefile.specs.Lookup.{bidLevel}
 use Rattle.conduct.specs.StageFlags.{partySum}

@@ -18,10 +18,10 @@ use Rattle.casefile.specs.Case.{Case}
 use Rattle.casefile.specs.declared.events.Event.{Event}
 use Rattle.casefile.specs.Decode.{formatIn, sectionOf, unitsIn, pastIn, eventsIn, caseIn, decode}
 use Rattle.casefile.specs.Lookup.{unitOf, groupOf, bidLevel}
-use Rattle.casefile.specs.Refusal.{refusal}
+use Rattle.limits.specs.Refusal.{refusal}
 use Rattle.casefile.specs.StageRead.{eventAt}
-use Rattle.casefile.specs.StageChecked.{AcceptedFile}
-use Rattle.casefile.proofs.EventLaws.{events-place}
+use Rattle.limits.specs.StageChecked.{AcceptedFile}
+use Rattle.limits.proofs.EventLaws.{events-place}
 use Rattle.conduct.specs.Flags.{together, sumTogether, timeBid, timeTotal, groupCapability, groupSum, flagged, flagMask}
 use Rattle.conduct.specs.StageParties.{leaderOf}
 use Rattle.conduct.specs.StageMasks.{highestSum}

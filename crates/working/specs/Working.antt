@@ -15,7 +15,7 @@ use Rattle.casefile.specs.Layout.{mostHours, mostEvents, rowWidth}
 use Rattle.casefile.specs.Case.{Case}
 use Rattle.casefile.specs.Decode.{formatIn, decode}
 use Rattle.casefile.specs.Lookup.{unitOf}
-use Rattle.casefile.specs.Refusal.{refusal}
+use Rattle.limits.specs.Refusal.{refusal}
 use Rattle.conduct.specs.Flags.{tight, sumTogether, timeTotal, groupCapability, groupSum, flagged}
 use Rattle.casefile.specs.Lookup.{bidLevel}
 use Rattle.sanctions.specs.Penalties.{N3, N2}

@@ -5,8 +5,8 @@ use mathlib.Core.Path.{_≡_}
 use lib.ListN.{length}
 use Rattle.casefile.specs.Layout.{longestFile}
 use Rattle.casefile.specs.Decode.{formatIn, sectionOf, FollowOn, decode}
-use Rattle.casefile.specs.Refusal.{refusal}
-use Rattle.casefile.proofs.AcceptedLaws as case
+use Rattle.limits.specs.Refusal.{refusal}
+use Rattle.limits.proofs.AcceptedLaws as case
 use Rattle.sanctions.proofs.AcceptedLaws as sanctions
 use Rattle.sanctions.proofs.PenaltyBounds.{Ranges}
 

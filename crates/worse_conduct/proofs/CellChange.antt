@@ -2,7 +2,7 @@
 use Prim.Native.Nat.{ℕ, _+_, _-_, _*_, _/_, _^_, _≤_, _<_}
 use mathlib.Core.Bool.{Bool, true, false, cond}
 use mathlib.Core.List.{List}
-use mathlib.Core.Logic.{_≢_, _⊎_, inl, inr}
+use mathlib.Core.Logic.{_≢_, _⊎_, inl, inr, ⊎-elim}
 use mathlib.Core.Path.{_≡_, refl, sym, _∙_, ap, ap₂, subst, subst₂}
 use native.Mathlib.Nat.{le-refl}
 use native.Mathlib.Decide.{ℕ-discrete}
@@ -15,7 +15,7 @@ use Rattle.binary.specs.Word.{positivePart, negativePart}
 use Rattle.binary.proofs.Implies.{and-left, and-right, or-cases, true→T}
 use Rattle.binary.proofs.ByteLaws.{value-one, stretch-length}
 use Rattle.casefile.specs.declared.layout.Format.{Format}
-use Rattle.casefile.specs.Layout.{cellsOffset, cellWidth, mostHours, firstWidths, widthsOf, eventWidth, eventUnit, numberWidth, cells}
+use Rattle.casefile.specs.Layout.{cellsOffset, cellWidth, mostHours, eventWidth, eventUnit, numberWidth, cells}
 use Rattle.casefile.specs.Decode.{formatIn, caseIn, offsetOf, lengthOf, sectionOf, FollowOn, recordAt, unitsIn, referencesIn, pastIn, cellAt, cellsFrom, cellsIn, eventsIn, amountsIn, decode}
 use Rattle.casefile.proofs.RecordLaws.{record-end, one-record, fits}
 use Rattle.worse_conduct.specs.Changes.{cell, cellPlace, cellWritten, moreWithheld, lowerBid, movedBid, worseBid, worseAmount, apply, WorseCell}
@@ -94,8 +94,9 @@ worse-than kind component x w t = go (or-cases (moreWithheld kind x w) (worseBid
 
 -- a unit's number stands apart from every a
 number-apart : (format : Format) (h : ℕ) → h < mostHours → (j k : ℕ) → j < numberWidth format → k < 4 → eventUnit format + j ≢ cellAt h + k
-unfolding widthsOf firstWidths
-number-apart format h lh j k lj lk = omega arith
+number-apart format h lh j k lj lk e =
+    ⊎-elim (λ (before : eventUnit format + numberWidth format ≤ cellsOffset). omega arith)
+    (λ (after : cellsOffset + cellWidth * mostHours ≤ eventUnit format). omega arith) (fits format .event-apart)
 
 module _ (format : Format) (s s′ : List ℕ) (i h w : ℕ) (lh : h < mostHours) (z : Stored s s′ (eventWidth format * i + cellAt h) w) where
   other-record : (x : ℕ) → x ≢ i → recordAt (eventWidth format) s′ x ≡ recordAt (eventWidth format) s x

@@ -7,8 +7,8 @@ use mathlib.Core.Path.{_≡_, refl, ap, _∙_}
 use borrow.Author.Tests.{eqb-true, eqb-false, eq-eqb, ne-eqb}
 use lib.Dec.{eqb}
 use lib.ListN.{length}
-use Rattle.casefile.specs.Refusal.{limits, refusal, MeetsAll, LowestBroken}
-use Rattle.casefile.proofs.LimitLaws.{accepted-meets, meets-accepted, refused-lowest, lowest-refused, lowest-number}
+use Rattle.limits.specs.Refusal.{limits, refusal, MeetsAll, LowestBroken}
+use Rattle.limits.proofs.LimitLaws.{accepted-meets, meets-accepted, refused-lowest, lowest-refused, lowest-number}
 use Rattle.settlement.specs.Row.{rowsOf}
 use Rattle.settlement.specs.Settled.{SettlementAnswer, accepted, answerOf, settlementOf, answerOfSettlement, rowsAfter, settled}
 use Rattle.settlement.specs.declared.settle.Settlement.{Settlement}

@@ -14,7 +14,7 @@ use Rattle.casefile.specs.Layout.{longestFile}
 use Rattle.casefile.specs.Case.{References, Case}
 use Rattle.casefile.specs.Decode.{formatIn, FollowOn, decode}
 use Rattle.casefile.specs.Lookup.{correctIn}
-use Rattle.casefile.specs.Refusal.{refusal}
+use Rattle.limits.specs.Refusal.{refusal}
 use Rattle.conduct.specs.Flags.{flagged, flagMask}
 use Rattle.sanctions.proofs.PenaltyBounds.{Ranges, multiplier-bound, penalty-bound}
 use Rattle.settlement.specs.Row.{rowsOf}

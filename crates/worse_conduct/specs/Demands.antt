@@ -10,7 +10,7 @@ use Rattle.casefile.specs.Layout.{rowWidth}
 use Rattle.casefile.specs.Case.{Case}
 use Rattle.casefile.specs.Decode.{formatIn, decode}
 use Rattle.casefile.specs.Lookup.{correctIn}
-use Rattle.casefile.specs.Refusal.{limits, refusal, MeetsAll, LowestBroken}
+use Rattle.limits.specs.Refusal.{limits, refusal, MeetsAll, LowestBroken}
 use Rattle.sanctions.specs.Penalties.{totalPenalty}
 use Rattle.default_bids.specs.Mitigation.{totalMakeUp}
 use Rattle.settlement.specs.Row.{rowOf}

@@ -1,4 +1,3 @@
-use borrow.Author.Needs.{needs}
 use Rattle.casefile.specs.Decode.{pastIn}
 use Rattle.casefile.proofs.past.entry_record.Statement.{statement}
 use Rattle.casefile.proofs.past.entry_record.Tie as tie
@@ -9,4 +8,4 @@ entry-record-spec =
     tie.close
     (tie.spec
     (λ c κs. c .before .pre)
-    (λ c. let r = c .record-at .ensures in (r .0, r .1, search needs)))
+    (λ c. c .record-at .ensures))

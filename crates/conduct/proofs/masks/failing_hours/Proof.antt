@@ -4,15 +4,16 @@ use borrow.Author.Needs.{needs}
 use native.Mathlib.Omega.{arith}
 use Rattle.binary.specs.Bounded.{maskTo}
 use Rattle.binary.proofs.MaskLaws.{MaskTurn, mask-none, mask-turn}
+use Rattle.casefile.specs.Layout.{mostHours}
 use Rattle.conduct.specs.StageMasks.{failsAt}
 use Rattle.conduct.proofs.masks.failing_hours.Statement.{statement}
 use Rattle.conduct.proofs.masks.failing_hours.Tie as tie
 
 abbrev Inv-loop : tie.InvT-loop
-Inv-loop test tight cells sums mask₀ weight₀ h₀ mask weight h = (h ≤ 24) × (weight ≡ 2 ^ h) × (mask ≡ maskTo h (failsAt test tight cells sums))
+Inv-loop test tight cells sums mask₀ weight₀ h₀ mask weight h = (h ≤ mostHours) × (weight ≡ 2 ^ h) × (mask ≡ maskTo h (failsAt test tight cells sums))
 
 abbrev μ-loop : tie.MeasureT-loop
-μ-loop test tight cells sums mask₀ weight₀ h₀ mask weight h = 24 - h
+μ-loop test tight cells sums mask₀ weight₀ h₀ mask weight h = mostHours - h
 
 turn :
     (c : tie.After-choose-u32 Inv-loop μ-loop) →
@@ -44,5 +45,5 @@ failing-hours-spec =
     (λ c. omega arith)
     (λ c. (omega arith, turn c .weight-next, turn c .mask-next))
     (λ c.
-    let e : c .before .loop .h ≡ 24 = omega arith in
+    let e : c .before .loop .h ≡ mostHours = omega arith in
     rw (c .before .loop .inv .2, e)))

@@ -7,6 +7,7 @@ use native.Mathlib.Omega.{arith}
 use lib.Dec.{eqb}
 use lib.ListN.{length, length-set}
 use Rattle.binary.specs.Bounded.{bitOf}
+use Rattle.casefile.specs.Layout.{mostHours}
 use Rattle.casefile.specs.StageRead.{eventAt, cellOf}
 use Rattle.conduct.specs.StageFlags.{Added, counted}
 use Rattle.conduct.proofs.SumLaws.{added-none, row-kept, row-more, uncounted, figure-counts, figures-added}
@@ -15,10 +16,10 @@ use Rattle.conduct.proofs.sums.add_event.Tie as tie
 
 abbrev Inv-loop : tie.InvT-loop
 Inv-loop events j counts kind p cells row₀ h₀ row h =
-    (h ≤ 24) × (length row ≡ 24) × Added h row₀ row (counted counts (λ (x : ℕ). cond (eqb kind 3) (cond (bitOf p x) 1 0) (cellOf cells x .a)))
+    (h ≤ mostHours) × (length row ≡ mostHours) × Added h row₀ row (counted counts (λ (x : ℕ). cond (eqb kind 3) (cond (bitOf p x) 1 0) (cellOf cells x .a)))
 
 abbrev μ-loop : tie.MeasureT-loop
-μ-loop events j counts kind p cells row₀ h₀ row h = 24 - h
+μ-loop events j counts kind p cells row₀ h₀ row h = mostHours - h
 
 pub add-event-spec : {M : Type 1} → statement M
 unfolding eventAt
@@ -57,5 +58,5 @@ add-event-spec =
     let k = c .before .before .before .event-cells .ensures .0 in
     let v = c .before .before .before .before .event-at .ensures in
     let s = c .before .before .before .before .before .before .before .args in
-    let e : l .h ≡ 24 = omega arith in
+    let e : l .h ≡ mostHours = omega arith in
     figures-added (s .format) (s .events .now) (s .j) _ _ _ (rw (k, v, e) at (l .inv .2))))

@@ -3,6 +3,7 @@ use mathlib.Core.List.{[]}
 use mathlib.Core.Path.{_≡_}
 use native.Mathlib.Omega.{arith}
 use lib.ListN.{getD}
+use Rattle.casefile.specs.Layout.{mostHours}
 use Rattle.casefile.specs.Decode.{caseIn}
 use Rattle.conduct.specs.StageFlags.{ledSum, HasRow}
 use Rattle.conduct.proofs.SumLaws.{zeros-at, led-first, led-more, led-last, added-bound, counted-figure-le, figure-le}
@@ -24,7 +25,7 @@ party-sums-spec =
     μ-loop
     (λ c.
     let start = c .before in
-    (omega arith, omega arith, (λ k. omega (arith, zeros-at 24 k)), led-first _ _ _ _ _ (start .pre .1) (omega arith)))
+    (omega arith, omega arith, (λ k. omega (arith, zeros-at mostHours k)), led-first _ _ _ _ _ (start .pre .1) (omega arith)))
     (λ c. omega arith)
     (λ c. omega arith)
     (λ c κs. let l = c .before .before .before .loop in (omega arith, (λ k. omega (arith, l .inv .2 k))))
@@ -40,8 +41,8 @@ party-sums-spec =
       (λ k.
           omega (
             arith,
-            added-bound 24 (4294967295 * l .j) 4294967295 _ _ _ more (l .inv .2)
-                (counted-figure-le _ 4294967295 24 _ (λ h b. figure-le (a .format) [] [] [] (a .events .now) (l .j) h (λ b. known .shared-slice-known .given b .fits))) k,
+            added-bound mostHours (4294967295 * l .j) 4294967295 _ _ _ more (l .inv .2)
+                (counted-figure-le _ 4294967295 mostHours _ (λ h b. figure-le (a .format) [] [] [] (a .events .now) (l .j) h (λ b. known .shared-slice-known .given b .fits))) k,
           )),
       led-more _ _ _ _ _ _ (l .inv .3) more,
     ))

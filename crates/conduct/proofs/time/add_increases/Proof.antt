@@ -4,6 +4,7 @@ use borrow.Author.Needs.{needs}
 use borrow.Author.Tests.{not-true, not-false}
 use native.Mathlib.Omega.{arith}
 use lib.ListN.{length, length-set}
+use Rattle.casefile.specs.Layout.{mostHours}
 use Rattle.casefile.specs.StageRead.{cellOf}
 use Rattle.conduct.specs.StageFlags.{Added}
 use Rattle.conduct.specs.StageTime.{countedIncrease}
@@ -14,10 +15,10 @@ use Rattle.conduct.proofs.time.add_increases.Tie as tie
 
 abbrev Inv-loop : tie.InvT-loop
 Inv-loop row₀ events level j counts cells h₀ row h =
-    (h ≤ 24) × (length row ≡ length row₀) × Added h row₀ row (countedIncrease (λ (_ x : ℕ). cellOf cells x .a) level j counts)
+    (h ≤ mostHours) × (length row ≡ length row₀) × Added h row₀ row (countedIncrease (λ (_ x : ℕ). cellOf cells x .a) level j counts)
 
 abbrev μ-loop : tie.MeasureT-loop
-μ-loop row₀ events level j counts cells h₀ row h = 24 - h
+μ-loop row₀ events level j counts cells h₀ row h = mostHours - h
 
 pub add-increases-spec : {M : Type 1} → statement M
 add-increases-spec =
@@ -53,6 +54,6 @@ add-increases-spec =
     (λ c. c .before .loop .inv .1)
     (λ c.
     let l = c .before .loop in
-    let e : l .h ≡ 24 = omega arith in
+    let e : l .h ≡ mostHours = omega arith in
     let s = c .before .before .before .before .before .before .args in
     increases-added (s .format) (s .events .now) _ (s .j) _ _ _ (rw (c .before .before .event-cells .ensures .0, e) at (l .inv .2))))

@@ -34,7 +34,7 @@ component-increases-spec =
     let second = c .place-before2 .ensures in (
       omega arith,
       refl,
-      increases-none (start .args .format) (start .args .events .now) (start .args .levels .now) (start .args .i) (start .args .component) _ 24
+      increases-none (start .args .format) (start .args .events .now) (start .args .levels .now) (start .args .i) (start .args .component) _ mostHours
           (λ j l.
           far (start .args .format) (start .args .events .now) (start .args .i) (start .args .component) (start .pre .1 .0) (start .pre .0 .0) (start .pre .1 .1) j (omega arith)
           (λ q. let z : ⊥ = omega arith in z)),

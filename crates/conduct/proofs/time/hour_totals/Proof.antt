@@ -6,16 +6,17 @@ use native.Mathlib.Omega.{arith}
 use lib.ListN.{drop, replicate}
 use Rattle.binary.specs.Lists.{listTo}
 use Rattle.binary.proofs.ListLaws.{fill-none, fill-more, holds-fill}
+use Rattle.casefile.specs.Layout.{mostHours}
 use Rattle.conduct.specs.StageTime.{cell}
 use Rattle.conduct.proofs.time.hour_totals.Statement.{statement}
 use Rattle.conduct.proofs.time.hour_totals.Tie as tie
 
 abbrev Inv-loop : tie.InvT-loop
 Inv-loop increases totals₀ h₀ totals h =
-    (h ≤ 24) × (totals ≡ listTo h (λ (k : ℕ). cell increases 0 k + cell increases 1 k + cell increases 2 k) ++ drop h totals₀)
+    (h ≤ mostHours) × (totals ≡ listTo h (λ (k : ℕ). cell increases 0 k + cell increases 1 k + cell increases 2 k) ++ drop h totals₀)
 
 abbrev μ-loop : tie.MeasureT-loop
-μ-loop increases totals₀ h₀ totals h = 24 - h
+μ-loop increases totals₀ h₀ totals h = mostHours - h
 
 pub hour-totals-spec : {M : Type 1} → statement M
 hour-totals-spec =
@@ -50,5 +51,5 @@ hour-totals-spec =
     (omega arith, rw (l .inv .1) (fill-more _ _ _ (c .before .before .before .loop-test .taken))))
     (λ c.
     let l = c .before .loop in
-    let e : l .h ≡ 24 = omega arith in
-    record { each = holds-fill 24 _ _ (replicate 24 0) (rw e at (l .inv .1)) }))
+    let e : l .h ≡ mostHours = omega arith in
+    record { each = holds-fill mostHours _ _ (replicate mostHours 0) (rw e at (l .inv .1)) }))

@@ -1,7 +1,7 @@
 use mathlib.Core.Path.{_∙_, sym}
 use borrow.Author.Needs.{needs}
 use native.Mathlib.Omega.{arith}
-use Rattle.casefile.proofs.AcceptedLaws as case
+use Rattle.limits.proofs.AcceptedLaws as case
 use Rattle.report.proofs.ListingLaws.{counted, short, fine, count, few, rows-long, listed-refusal, listed-settlement, listed-rows}
 use Rattle.report.proofs.case_listing.listing.Statement.{statement}
 use Rattle.report.proofs.case_listing.listing.Tie as tie

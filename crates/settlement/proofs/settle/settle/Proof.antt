@@ -2,9 +2,9 @@ use mathlib.Core.Path.{_≡_, _∙_, sym}
 use borrow.Author.Needs.{needs}
 use native.Mathlib.Omega.{arith}
 use lib.ListN.{length}
-use Rattle.casefile.specs.Refusal.{refusal}
-use Rattle.casefile.proofs.AcceptedLaws as case
-use Rattle.casefile.specs.StageChecked.{AcceptedFile, HandedOn}
+use Rattle.limits.specs.Refusal.{refusal}
+use Rattle.limits.proofs.AcceptedLaws as case
+use Rattle.limits.specs.StageChecked.{AcceptedFile, HandedOn}
 use Rattle.settlement.proofs.RowsLaws.{count-is}
 use Rattle.settlement.proofs.SettleLaws.{refused-answer, refused-told, settled-told, refused-rows, settled-answer, settled-rows}
 use Rattle.settlement.proofs.settle.settle.Statement.{statement}

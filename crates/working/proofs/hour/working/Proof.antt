@@ -1,8 +1,8 @@
 use mathlib.Core.Path.{_≡_, _∙_, sym}
 use native.Mathlib.Omega.{arith}
 use Rattle.casefile.specs.Decode.{decode}
-use Rattle.casefile.specs.Refusal.{refusal}
-use Rattle.casefile.specs.StageChecked.{AcceptedFile}
+use Rattle.limits.specs.Refusal.{refusal}
+use Rattle.limits.specs.StageChecked.{AcceptedFile}
 use Rattle.conduct.proofs.FileLaws.{has-section, header-long}
 use Rattle.working.specs.Working.{mostRows}
 use Rattle.working.proofs.WorkingLaws.{inside, refused-is, count-is, working-is, outside-is}

@@ -1,0 +1,128 @@
+-- What the tests of records and cells say: the ranges of fields, and the strict orders.
+use Prim.Native.Nat.{ℕ, zero, suc, _-_, _≤_, _<_}
+use mathlib.Core.Bool.{Bool, true, false, cond, not, _&&_, _||_}
+use mathlib.Core.List.{List}
+use mathlib.Core.Logic.{⊎-elim}
+use mathlib.Core.Path.{_≡_, sym, ap, subst}
+use native.Mathlib.Nat.{eq-or-lt-of-le, le-of-suc-le-suc, not-suc-le-zero}
+use native.Mathlib.Omega.{arith}
+use lib.Dec.{ltb, leb, eqb}
+use lib.ListN.{length}
+use borrow.Author.Tests.{ltb-true, leb-true, eqb-true, eq-eqb, ne-eqb}
+use Rattle.binary.specs.Word.{positivePart, within}
+use Rattle.binary.proofs.Implies.{and-l, and-r}
+use Rattle.binary.proofs.BoundedLaws.{all-at}
+use Rattle.binary.proofs.WordLaws.{within-positive}
+use Rattle.tariff.specs.Ranges.{highestCapability, highestComponent, highestMarket, highestDay, highestKind, highestPrice, highestRevenue, highestFuelMoney, highestEnergy, highestPriceChange, highestMegawatts, bidInRange}
+use Rattle.casefile.specs.declared.layout.Format.{Format}
+use Rattle.casefile.specs.Case.{Units, Events}
+use Rattle.casefile.specs.Decode.{unitsIn, referencesIn}
+use Rattle.casefile.specs.Lookup.{referenceKey, correctReferences}
+use Rattle.limits.specs.StageLookup.{Rising, UnitsInOrder, InOrder}
+use Rattle.limits.specs.Refusal.{unitsFine, referencesFine, correctionFine, rises, unitFieldsFine, unitFine, referenceFine, quantitiesFine, fieldsFine, cellFine, eventFine}
+
+-- ---- tests
+
+pub or-right : (x y : Bool) → (x || y) ≡ true → x ≡ false → y ≡ true
+or-right true y h e = let z : true ≡ false = e in cc
+or-right false y h e = h
+
+pub of-kind : (k kind : ℕ) (t : Bool) → (not (eqb kind k) || t) ≡ true → kind ≡ k → t ≡ true
+of-kind k kind t h e = or-right (not (eqb kind k)) t h (ap not (eq-eqb kind k e))
+
+-- ---- the ranges that settling a case goes by
+
+pub capability-range : (format : Format) (s : List ℕ) (i : ℕ) → unitFine format s i ≡ true → unitsIn format s .capability i ≤ highestCapability
+unfolding unitFine unitFieldsFine
+capability-range format s i h = leb-true (unitsIn format s .capability i) highestCapability (search (and-l, and-r) depth 10)
+
+pub record EventRange (e : Events) (i : ℕ) : Type 0 where
+  pub kind : e .kind i ≤ highestKind
+  pub market : e .market i ≤ highestMarket
+  pub component : e .component i ≤ highestComponent
+  pub plain : e .kind i < 4 → e .component i ≡ 0
+  pub day : e .day i ≤ highestDay
+  pub guarantee : e .kind i ≡ 3 → positivePart 32 (e .Q i) ≤ highestFuelMoney
+  pub congestion : e .kind i ≡ 3 → positivePart 32 (e .R i) ≤ highestFuelMoney
+
+-- the cell of an hour, by kind
+pub record CellRange (kind a b m : ℕ) : Type 0 where
+  pub withheld : kind ≡ 1 → positivePart 32 b ≤ highestPrice
+  pub dispatch : kind ≡ 2 → b ≤ highestRevenue
+  pub fuel : kind ≡ 3 → (a ≤ highestEnergy) × (positivePart 32 b ≤ highestPriceChange)
+  pub bid : kind ≡ 4 → m ≤ highestMegawatts
+
+pub event-range : (e : Events) (a : ℕ → ℕ → ℕ) (i : ℕ) → eventFine e a i ≡ true → EventRange e i
+unfolding eventFine fieldsFine quantitiesFine
+event-range e a i h =
+    record {
+      kind = leb-true (e .kind i) highestKind (search (and-l, and-r) depth 20);
+      market = leb-true (e .market i) highestMarket (search (and-l, and-r) depth 20);
+      component = leb-true (e .component i) highestComponent (search (and-l, and-r) depth 20);
+      plain = λ k. eqb-true (e .component i) 0
+          (or-right (eqb (e .kind i) 4) (eqb (e .component i) 0) (search (and-l, and-r) depth 20) (ne-eqb (e .kind i) 4 (λ q. omega arith)));
+      day = leb-true (e .day i) highestDay (search (and-l, and-r) depth 20);
+      guarantee = λ k. within-positive 32 highestFuelMoney (e .Q i) (let t = fuel k in search (and-l, and-r));
+      congestion = λ k. within-positive 32 highestFuelMoney (e .R i) (let t = fuel k in search (and-l, and-r));
+    }
+  where
+    fuel : e .kind i ≡ 3
+        → (within 32 highestFuelMoney (e .Q i) && within 32 highestFuelMoney (e .R i) && (eqb (e .market i) 0 || eqb (e .R i) 0)) ≡ true
+    fuel k = of-kind 3 (e .kind i) _ (search (and-l, and-r) depth 20) k
+
+pub cell-range : (kind component a b m : ℕ) → cellFine kind component a b m ≡ true → CellRange kind a b m
+unfolding cellFine
+cell-range kind component a b m h =
+    record {
+      withheld = λ k.
+          let t : (within 32 highestPrice b && eqb m 0) ≡ true = of-kind 1 kind _ (search (and-l, and-r)) k in
+          within-positive 32 highestPrice b (search (and-l, and-r));
+      dispatch = λ k.
+          let t : (leb b highestRevenue && eqb m 0) ≡ true = of-kind 2 kind _ (search (and-l, and-r)) k in
+          leb-true b highestRevenue (search (and-l, and-r));
+      fuel = λ k.
+          let t : (leb a highestEnergy && within 32 highestPriceChange b && eqb m 0) ≡ true = of-kind 3 kind _ (search (and-l, and-r)) k in
+          (leb-true a highestEnergy (search (and-l, and-r)), within-positive 32 highestPriceChange b (search (and-l, and-r)));
+      bid = λ k.
+          let t : (bidInRange component a && within 32 highestPrice b && leb m highestMegawatts) ≡ true = of-kind 4 kind _ (search (and-l, and-r)) k in
+          leb-true m highestMegawatts (search (and-l, and-r));
+    }
+
+-- ---- strict orders
+
+-- a key that rises at each place below n rises from any place to any later one
+pub rising : (key : ℕ → ℕ) (n : ℕ) → ((j : ℕ) → j < n → rises key j ≡ true) → Rising key n
+unfolding rises
+rising key n h i zero l m = absurd (not-suc-le-zero l)
+rising key n h i (suc j) l m =
+    ⊎-elim
+    (λ q. subst (λ (x : ℕ). key x < key (suc j)) (sym q) next)
+    (λ k. let r = rising key n h i j k (omega arith) in omega (arith, next))
+    (eq-or-lt-of-le (le-of-suc-le-suc l))
+  where
+    next : key j < key (suc j)
+    next =
+        let e : suc j - 1 ≡ j = omega arith in
+        ltb-true (key j) (key (suc j))
+        (rw e at (or-right (eqb (suc j) 0) (ltb (key (suc j - 1)) (key (suc j))) (h (suc j) m) (ne-eqb (suc j) 0 (λ q. omega arith))))
+
+pub numbers-in-order : (format : Format) (s : List ℕ) → unitsFine format s ≡ true → UnitsInOrder format s
+unfolding unitsFine unitFine
+numbers-in-order format s h =
+    rising (unitsIn format s .number) (unitsIn format s .count)
+    (λ j l. let t = all-at (unitsIn format s .count) j (unitFine format s) l h in search (and-l, and-r))
+
+pub references-in-order : (format : Format) (u : Units) (s : List ℕ) → referencesFine format u s ≡ true → InOrder format s
+unfolding referencesFine referenceFine
+references-in-order format u s h =
+    rising (referenceKey (referencesIn format s)) (referencesIn format s .count)
+    (λ j l. let t = all-at (referencesIn format s .count) j (referenceFine format u s) l h in search (and-l, and-r))
+
+pub correct-in-order : (format : Format) (u : Units) (correction own : List ℕ) → referencesFine format u own ≡ true
+    → correctionFine format u correction ≡ true → InOrder format (correctReferences correction own)
+unfolding correctReferences correctionFine
+correct-in-order format u correction own h k = go (eqb (length correction) 0)
+  where
+    go : (b : Bool) → InOrder format (cond b own correction)
+    go true = references-in-order format u own h
+    go false = references-in-order format u correction (search (and-l, and-r))

@@ -1,0 +1,5 @@
+pub mod StageLookup
+pub mod Refusal
+pub mod StageRefusal
+pub mod StageReading
+pub mod StageChecked

@@ -1,0 +1,73 @@
+// References and the correction: limits 7 and 8.
+ghost use mathlib.Core.Bool.{true};
+ghost use mathlib.Core.Path.{_≡_};
+ghost use Prim.Native.Nat.{_<_};
+ghost use lib.ListN.{length};
+ghost use Rattle.casefile.specs.Decode.{unitsIn, referencesIn};
+ghost use Rattle.limits.specs.StageLookup.{UnitsInOrder};
+ghost use Rattle.limits.specs.Refusal.{referenceFieldsFine, referencesFine, correctionFine};
+ghost use Rattle.limits.specs.StageReading.{referenceFineWhere};
+use crate::header_limits::size_fine;
+use crate::lookup::next_place;
+use crate::lookup::reference_key;
+use crate::lookup::unit_place;
+use casefile::layout;
+use casefile::layout::Format;
+use casefile::layout::widths_of;
+use casefile::records::place_before;
+use casefile::references::reference_at;
+use casefile::references::reference_count;
+use casefile::references::reference_spare_fine;
+use tariff::ranges;
+
+fn reference_fields_fine(component: u8, value: u32) -> bool
+    ensures { λ r. ⌜ r ≡ referenceFieldsFine component value ⌝ }
+{
+    (component <= ranges::HIGHEST_COMPONENT) & ranges::reference_in_range(component, value)
+}
+
+// Reference i, where it is known whether its unit is listed.
+fn reference_fine(format: Format, references: &[u8], i: usize, listed: bool) -> bool
+    requires { ⌜ i < referencesIn format (now references) .count ⌝ }
+    ensures { λ r. ⌜ r ≡ referenceFineWhere format (now (references .entry)) i listed ⌝ }
+{
+    let reference = reference_at(format, references, i);
+    let fields = reference_fields_fine(reference.component, reference.value);
+    let spare = reference_spare_fine(format, references, i);
+    let last = reference_key(format, references, place_before(i));
+    let key = reference_key(format, references, i);
+    fields & spare & listed & ((i == 0) | (last < key))
+}
+
+pub fn references_fine(format: Format, units: &[u8], references: &[u8]) -> bool
+    requires { ⌜ UnitsInOrder format (now units) ⌝ }
+    ensures { λ r. ⌜ r ≡ referencesFine format (unitsIn format (now (units .entry))) (now (references .entry)) ⌝ }
+{
+    let n = reference_count(format, references);
+    let mut fine = true;
+    let mut last: u32 = 0;
+    let mut place = unit_place(format, units, 0);
+    let mut i = 0;
+    while i < n {
+        let reference = reference_at(format, references, i);
+        let unit = reference.unit;
+        place = next_place(format, units, unit, last, place);
+        last = unit;
+        let listed = place.listed;
+        fine = fine & reference_fine(format, references, i, listed);
+        i += 1;
+    }
+    fine
+}
+
+// The size comes first: a correction may be of any length.
+pub fn correction_fine(format: Format, units: &[u8], correction: &[u8]) -> bool
+    requires { ⌜ UnitsInOrder format (now units) ⌝ }
+    ensures { λ r. ⌜ r ≡ correctionFine format (unitsIn format (now (units .entry))) (now (correction .entry)) ⌝ }
+{
+    let w = widths_of(format);
+    if size_fine(correction.len(), w.reference_width, layout::MOST_REFERENCES) {
+        return references_fine(format, units, correction);
+    }
+    false
+}
