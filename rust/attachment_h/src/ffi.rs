@@ -5,6 +5,8 @@
 
 #![allow(unsafe_code)]
 
+use crate::calls::Times;
+use crate::numbers::{Cents, Mask, Multiplier};
 use crate::{Comparison, Refused, Settled, Working};
 
 /// The refusal's number, or 0 and the figure.
@@ -59,13 +61,27 @@ const _: () = assert!(size_of::<Outcome>() == 32 && align_of::<Outcome>() == 8);
 const _: () = assert!(size_of::<Hour>() == 128 && align_of::<Hour>() == 8);
 
 impl Answer {
-    pub fn figure(self) -> Result<u64, Refused> {
+    fn figure(self) -> Result<u64, Refused> {
         refused(self.number)?;
         Ok(self.figure)
     }
 
     pub fn verdict(self) -> Result<bool, Refused> {
         Ok(self.figure()? != 0)
+    }
+
+    pub fn cents(self) -> Result<Cents, Refused> {
+        Ok(Cents(self.figure()?))
+    }
+
+    /// A multiplier, which has 6 halves at most.
+    pub fn multiplier(self) -> Result<Multiplier, Refused> {
+        Ok(Multiplier(self.figure()? as u8))
+    }
+
+    /// A mask, which stands in the figure as its word.
+    pub fn mask(self) -> Result<Mask, Refused> {
+        Ok(Mask(self.figure()? as u32))
     }
 
     /// A bid, which stands in the figure as its word.
@@ -75,9 +91,13 @@ impl Answer {
 }
 
 impl TimeAnswer {
-    pub fn verdicts(self) -> Result<[bool; 3], Refused> {
+    pub fn times(self) -> Result<Times, Refused> {
         refused(self.number)?;
-        Ok([self.start_up, self.minimum_run, self.minimum_down])
+        Ok(Times {
+            start_up: self.start_up,
+            minimum_run: self.minimum_run,
+            minimum_down: self.minimum_down,
+        })
     }
 }
 
@@ -240,8 +260,8 @@ pub fn settle(file: &[u8], correction: &[u8], rows: &mut [u8]) -> Result<Settled
     refused(outcome.number)?;
     Ok(Settled {
         rows: outcome.rows,
-        penalties: outcome.penalties,
-        make_ups: outcome.make_ups,
+        penalties: Cents(outcome.penalties),
+        make_ups: Cents(outcome.make_ups),
     })
 }
 

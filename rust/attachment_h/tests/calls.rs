@@ -1,7 +1,9 @@
 //! The smaller calls: the pencil sheet, then each against the second implementation's rule, at the
 //! edges of every range and threshold and at random.
 
-use attachment_h::{self as proved, BidHour, Refused};
+use attachment_h::{
+    self as proved, BidHour, Cents, Component, Market, Mask, Multiplier, Refused, Times,
+};
 use cases::Random;
 use second::calls;
 
@@ -132,7 +134,7 @@ fn bid(random: &mut Random, reference: u32) -> i32 {
 
 fn hour(random: &mut Random) -> BidHour {
     BidHour {
-        market: random.pick(&[0, 0, 0, 0, 1, 1, 1, 1, 1, 1, 2, 255]),
+        market: Market(random.pick(&[0, 0, 0, 0, 1, 1, 1, 1, 1, 1, 2, 255])),
         tight: random.chance(1, 2),
         average_price: match random.below(3) {
             0 => word(random, &[0, 5_000, 1_000_000]),
@@ -148,7 +150,7 @@ fn hour(random: &mut Random) -> BidHour {
 
 fn second_hour(hour: BidHour) -> calls::BidHour {
     calls::BidHour {
-        market: hour.market,
+        market: hour.market.0,
         tight: hour.tight,
         constrained_hours: hour.constrained_hours,
         average_price: hour.average_price,
@@ -165,44 +167,94 @@ fn pencil_sheet() {
         proved::withheld_fails(501, 5_000, 501, 20_000, false),
         Ok(true)
     );
-    assert_eq!(proved::withheld_penalty(2, &[501], &[4_005]), Ok(200_651));
-    assert_eq!(proved::withheld_penalty(2, &[501], &[-100]), Ok(0));
-    assert_eq!(proved::multiplier(4, 3), Ok(4));
-    assert_eq!(proved::multiplier(4, 4), Ok(6));
+    assert_eq!(
+        proved::withheld_penalty(Multiplier(2), &[501], &[4_005]),
+        Ok(Cents(200_651))
+    );
+    assert_eq!(
+        proved::withheld_penalty(Multiplier(2), &[501], &[-100]),
+        Ok(Cents(0))
+    );
+    assert_eq!(proved::multiplier(4, 3), Ok(Multiplier(4)));
+    assert_eq!(proved::multiplier(4, 4), Ok(Multiplier(6)));
     let day_ahead = BidHour::default();
-    assert_eq!(proved::bid_fails(0, 625, 2_500, day_ahead), Ok(false));
-    assert_eq!(proved::bid_fails(0, 624, 2_500, day_ahead), Ok(true));
-    assert_eq!(proved::bid_fails(0, 5_000, 15_000, day_ahead), Ok(false));
-    assert_eq!(proved::bid_fails(0, 5_000, 15_001, day_ahead), Ok(true));
+    assert_eq!(
+        proved::bid_fails(Component::ENERGY, 625, 2_500, day_ahead),
+        Ok(false)
+    );
+    assert_eq!(
+        proved::bid_fails(Component::ENERGY, 624, 2_500, day_ahead),
+        Ok(true)
+    );
+    assert_eq!(
+        proved::bid_fails(Component::ENERGY, 5_000, 15_000, day_ahead),
+        Ok(false)
+    );
+    assert_eq!(
+        proved::bid_fails(Component::ENERGY, 5_000, 15_001, day_ahead),
+        Ok(true)
+    );
     let tight = BidHour {
-        market: 1,
+        market: Market::REAL_TIME,
         tight: true,
         average_price: 5_000,
         constrained_hours: 1_000,
     };
-    assert_eq!(proved::bid_fails(0, 2_000, 2_876, tight), Ok(false));
-    assert_eq!(proved::bid_fails(0, 2_000, 2_877, tight), Ok(true));
-    assert_eq!(proved::times_fail(120, 120, 120), Ok([false; 3]));
-    assert_eq!(proved::times_fail(121, 120, 120), Ok([true; 3]));
-    assert_eq!(proved::bid_fails(8, 100, 50, day_ahead), Ok(false));
-    assert_eq!(proved::bid_fails(8, 100, 49, day_ahead), Ok(true));
-    assert_eq!(proved::fuel_penalty(5_000_000, 0, 2), Ok(500_000));
-    assert_eq!(proved::fuel_penalty(4_999_990, 0, 2), Ok(0));
-    assert_eq!(proved::fuel_penalty(4_999_990, 0, 3), Ok(749_999));
     assert_eq!(
-        proved::fuel_penalty(-10_000_000, 2_000_000, 2),
-        Ok(1_000_000)
+        proved::bid_fails(Component::ENERGY, 2_000, 2_876, tight),
+        Ok(false)
     );
-    assert_eq!(proved::fuel_penalty(-10_000_000, 2_000_000, 3), Ok(500_000));
+    assert_eq!(
+        proved::bid_fails(Component::ENERGY, 2_000, 2_877, tight),
+        Ok(true)
+    );
+    assert_eq!(proved::times_fail(120, 120, 120), Ok(Times::default()));
+    let all = Times {
+        start_up: true,
+        minimum_run: true,
+        minimum_down: true,
+    };
+    assert_eq!(proved::times_fail(121, 120, 120), Ok(all));
+    assert_eq!(
+        proved::bid_fails(Component::MAXIMUM_PARAMETER, 100, 50, day_ahead),
+        Ok(false)
+    );
+    assert_eq!(
+        proved::bid_fails(Component::MAXIMUM_PARAMETER, 100, 49, day_ahead),
+        Ok(true)
+    );
+    assert_eq!(
+        proved::fuel_penalty(5_000_000, 0, Multiplier(2)),
+        Ok(Cents(500_000))
+    );
+    assert_eq!(
+        proved::fuel_penalty(4_999_990, 0, Multiplier(2)),
+        Ok(Cents(0))
+    );
+    assert_eq!(
+        proved::fuel_penalty(4_999_990, 0, Multiplier(3)),
+        Ok(Cents(749_999))
+    );
+    assert_eq!(
+        proved::fuel_penalty(-10_000_000, 2_000_000, Multiplier(2)),
+        Ok(Cents(1_000_000))
+    );
+    assert_eq!(
+        proved::fuel_penalty(-10_000_000, 2_000_000, Multiplier(3)),
+        Ok(Cents(500_000))
+    );
     assert_eq!(
         proved::make_up(9_000, 5_000, 1_000, 2_000, 6_000),
-        Ok(100_000)
+        Ok(Cents(100_000))
     );
     for (before, counts) in [(0, false), (1, true), (183, true), (184, false)] {
         assert_eq!(proved::fuel_day_counts(8_000, 8_000 - before), Ok(counts));
     }
-    assert_eq!(proved::mitigated_span(1 << 10, 8), Ok(0x3_FC00));
-    assert_eq!(proved::mitigated_span(1 << 5 | 1 << 10, 8), Ok(0x1FE0));
+    assert_eq!(proved::mitigated_span(Mask(1 << 10), 8), Ok(Mask(0x3_FC00)));
+    assert_eq!(
+        proved::mitigated_span(Mask(1 << 5 | 1 << 10), 8),
+        Ok(Mask(0x1FE0))
+    );
 }
 
 #[test]
@@ -220,7 +272,7 @@ fn bid_fails() {
             bid = (i64::from(reference) + increase + random.between(-1, 2)) as i32;
         }
         answers.same(
-            proved::bid_fails(component, reference, bid, hour),
+            proved::bid_fails(Component(component), reference, bid, hour),
             answer(calls::bid_test(
                 component,
                 second_hour(hour),
@@ -259,7 +311,13 @@ fn times_fail() {
         let [x, y, z] = increases;
         answers.same(
             proved::times_fail(x, y, z),
-            answer(calls::time_increases_test(increases)),
+            answer(calls::time_increases_test(increases)).map(
+                |[start_up, minimum_run, minimum_down]| Times {
+                    start_up,
+                    minimum_run,
+                    minimum_down,
+                },
+            ),
             || format!("{increases:?}"),
         );
     }
@@ -315,7 +373,7 @@ fn multiplier() {
         for n2 in 0..=461 {
             answers.same(
                 proved::multiplier(n3, n2),
-                answer(calls::multiplier(n3 as u16, n2 as u16)).map(u64::from),
+                answer(calls::multiplier(n3 as u16, n2 as u16)).map(Multiplier),
                 || format!("N3 {n3}, N2 {n2}"),
             );
         }
@@ -340,8 +398,8 @@ fn withheld_penalty() {
         let multiplier = random.pick(&multipliers);
         let (a, b) = (word(&mut random, &powers), signed(&mut random, &prices));
         answers.same(
-            proved::withheld_penalty(multiplier, &[a], &[b]),
-            answer(calls::withheld_penalty_of_one_hour(multiplier, a, b)),
+            proved::withheld_penalty(Multiplier(multiplier), &[a], &[b]),
+            answer(calls::withheld_penalty_of_one_hour(multiplier, a, b)).map(Cents),
             || format!("multiplier {multiplier}, a {a}, b {b}"),
         );
     }
@@ -378,19 +436,22 @@ fn withheld_penalty() {
             .sum::<i128>()
             * i128::from(multiplier);
         let expected = if good {
-            Ok(((twentieths + 10) / 20) as u64)
+            Ok(Cents(((twentieths + 10) / 20) as u64))
         } else {
             Err(Refused(10))
         };
         answers.same(
-            proved::withheld_penalty(multiplier, &a, &b),
+            proved::withheld_penalty(Multiplier(multiplier), &a, &b),
             expected,
             || format!("multiplier {multiplier}, a {a:?}, b {b:?}"),
         );
     }
-    let most = proved::withheld_penalty(6, &[50_000; 24], &[1_000_000; 24]);
-    assert_eq!(most, Ok(360_000_000_000));
-    assert_eq!(proved::withheld_penalty(6, &[], &[]), Ok(0));
+    let most = proved::withheld_penalty(Multiplier(6), &[50_000; 24], &[1_000_000; 24]);
+    assert_eq!(most, Ok(Cents(360_000_000_000)));
+    assert_eq!(
+        proved::withheld_penalty(Multiplier(6), &[], &[]),
+        Ok(Cents(0))
+    );
     answers.done("withheld_penalty", false);
 }
 
@@ -402,7 +463,7 @@ fn dispatch_penalty() {
         let b = word(&mut random, &[0, 1, 2, 3, 99_999_999, 100_000_000]);
         answers.same(
             proved::dispatch_penalty(&[b]),
-            answer(calls::dispatch_penalty_of_one_hour(b)),
+            answer(calls::dispatch_penalty_of_one_hour(b)).map(Cents),
             || format!("b {b}"),
         );
     }
@@ -417,7 +478,7 @@ fn dispatch_penalty() {
         let good = hours <= 24 && b.iter().all(|&revenue| revenue <= 100_000_000);
         let revenue: u64 = b.iter().map(|&revenue| u64::from(revenue)).sum();
         let expected = if good {
-            Ok((3 * revenue).div_ceil(2))
+            Ok(Cents((3 * revenue).div_ceil(2)))
         } else {
             Err(Refused(10))
         };
@@ -462,8 +523,8 @@ fn fuel_penalty() {
             _ => random.between(0, 3_000_000) as u64,
         };
         answers.same(
-            proved::fuel_penalty(e, t, m),
-            answer(calls::fuel_penalty(e, t, m)),
+            proved::fuel_penalty(e, t, Multiplier(m)),
+            answer(calls::fuel_penalty(e, t, m)).map(Cents),
             || format!("E {e}, T {t}, M {m}"),
         );
     }
@@ -517,8 +578,8 @@ fn mitigated_span() {
             for run in 0..=26 {
                 let hits = 1 << first | 1 << second;
                 answers.same(
-                    proved::mitigated_span(hits, run),
-                    answer(calls::mitigated_span(1, 0, hits, run)).map(u64::from),
+                    proved::mitigated_span(Mask(hits), run),
+                    answer(calls::mitigated_span(1, 0, hits, run)).map(Mask),
                     || format!("hits {hits:#x}, R {run}"),
                 );
             }
@@ -532,12 +593,12 @@ fn mitigated_span() {
         };
         let run = random.pick(&[0, 1, 2, 3, 8, 12, 22, 23, 24, 25, 24, 0, u32::MAX]);
         answers.same(
-            proved::mitigated_span(hits, run),
-            answer(calls::mitigated_span(1, 0, hits, run)).map(u64::from),
+            proved::mitigated_span(Mask(hits), run),
+            answer(calls::mitigated_span(1, 0, hits, run)).map(Mask),
             || format!("hits {hits:#x}, R {run}"),
         );
     }
-    assert_eq!(proved::mitigated_span(0, 24), Ok(0));
+    assert_eq!(proved::mitigated_span(Mask(0), 24), Ok(Mask(0)));
     answers.done("mitigated_span", false);
 }
 
@@ -557,12 +618,12 @@ fn bids_in_force() {
         let bid = bid(&mut random, near_reference);
         let mitigated = random.chance(2, 3);
         plain.same(
-            proved::bid_in_force(component, bid, r, mitigated),
+            proved::bid_in_force(Component(component), bid, r, mitigated),
             answer(calls::bid_in_force(component, r, bid, mitigated)),
             || format!("component {component}, r {r}, a {bid}, mitigated {mitigated}"),
         );
         corrected.same(
-            proved::corrected_bid_in_force(component, bid, r, c, hour, mitigated),
+            proved::corrected_bid_in_force(Component(component), bid, r, c, hour, mitigated),
             answer(calls::bid_in_force_with_correct_reference(
                 component,
                 second_hour(hour),
@@ -603,7 +664,7 @@ fn make_up() {
         let m = word(&mut random, &[0, 1, 5, 1_000, 50_000]);
         answers.same(
             proved::make_up(a, b, m, r, c),
-            answer(calls::make_up_of_one_hour(r, c, a, b, m)),
+            answer(calls::make_up_of_one_hour(r, c, a, b, m)).map(Cents),
             || format!("a {a}, b {b}, m {m}, r {r}, c {c}"),
         );
     }

@@ -1,12 +1,12 @@
 //! Every limit of a case on and just past its edge. The numbers are written here, from docs/RULES.md;
 //! the second implementation has to agree as well.
 
-use attachment_h::{Refused, check};
+use attachment_h::{Component, Kind, Refused, check};
 use cases::case::{
-    CELL_BYTES, DAY_AHEAD, EVENT_BYTES, EVENT_HEAD_BYTES, PAST_BYTES, REAL_TIME, REFERENCE_BYTES,
-    ROW_BYTES, UNIT_BYTES, file_of, put_u16, put_u32, section_place, sections_of, u32_at,
+    CELL_BYTES, EVENT_BYTES, EVENT_HEAD_BYTES, PAST_BYTES, REFERENCE_BYTES, ROW_BYTES, UNIT_BYTES,
+    file_of, put_u16, put_u32, section_place, sections_of, u32_at,
 };
-use cases::{Case, Conduct, Event, Input, Past, Reference, Size, Unit, Wanted};
+use cases::{Case, Conduct, Event, Input, Market, Past, Reference, Size, Unit, Wanted};
 use second::refusal;
 
 const UNITS: usize = 0;
@@ -126,7 +126,7 @@ fn unit(number: u16) -> Unit {
 fn reference(unit: u16, component: u8) -> Reference {
     Reference {
         unit,
-        component,
+        component: Component(component),
         value: 1_000,
     }
 }
@@ -142,8 +142,8 @@ fn references() -> Vec<Reference> {
 fn past(kind: u8) -> Past {
     Past {
         group: 7,
-        kind,
-        market: DAY_AHEAD,
+        kind: Kind(kind),
+        market: Market::DAY_AHEAD,
         period: 44,
         day: 8_000,
     }
@@ -174,9 +174,9 @@ fn one(event: Event) -> Input {
 /// An event of each kind, market and component, with nothing but zeros in its cells.
 fn plain_events() -> Vec<Event> {
     let mut events = Vec::new();
-    for market in [DAY_AHEAD, REAL_TIME] {
+    for market in [Market::DAY_AHEAD, Market::REAL_TIME] {
         events.push(Event::withheld(8_000, market, 12, &[]));
-        if market == REAL_TIME {
+        if market == Market::REAL_TIME {
             events.push(Event::dispatch(8_000, 12, &[]));
         }
         events.push(Event::fuel(8_000, market, 12, (0, 0, 0), &[]));
@@ -188,7 +188,7 @@ fn plain_events() -> Vec<Event> {
 }
 
 fn name(event: &Event) -> String {
-    let (_, kind, market, _, component) = event.order();
+    let (_, Kind(kind), Market(market), _, Component(component)) = event.order();
     format!("kind {kind}, market {market}, component {component}")
 }
 
@@ -281,7 +281,7 @@ fn lengths_of_the_sections() {
     };
     let with_events = |count: u32| Case {
         events: (0..count)
-            .map(|day| Event::withheld(day, DAY_AHEAD, 0, &[]))
+            .map(|day| Event::withheld(day, Market::DAY_AHEAD, 0, &[]))
             .collect(),
         ..units(1)
     };
@@ -479,7 +479,7 @@ fn fields_of_a_past_entry() {
 
 /// The head of an event: every field up to its hour cells.
 fn head(checks: &mut Checks, input: &Input, at: usize, event: &Event, what: &str) {
-    let (_, kind, market, _, _) = event.order();
+    let (_, Kind(kind), Market(market), _, _) = event.order();
     checks.field(
         input,
         at,
@@ -538,7 +538,7 @@ fn head(checks: &mut Checks, input: &Input, at: usize, event: &Event, what: &str
         3 => {
             let change = signed(1_000_000_000, 10);
             checks.field(input, at + 16, 4, &change, &format!("{what}, Q"));
-            if market == DAY_AHEAD {
+            if event.market == Market::DAY_AHEAD {
                 checks.field(input, at + 20, 4, &change, &format!("{what}, R"));
             } else {
                 checks.zero(input, at + 20, 4, 10, &format!("{what}, R"));
@@ -556,7 +556,7 @@ fn head(checks: &mut Checks, input: &Input, at: usize, event: &Event, what: &str
 
 /// The 24 hour cells of an event.
 fn cells(checks: &mut Checks, input: &Input, at: usize, event: &Event, what: &str) {
-    let (_, kind, _, _, component) = event.order();
+    let (_, Kind(kind), _, _, Component(component)) = event.order();
     let bid = |low: i64, high: i64| {
         vec![
             (low, 0),
@@ -608,10 +608,10 @@ fn fields_of_an_event() {
 fn fields_of_the_first_and_last_of_200_events() {
     let mut checks = Checks::default();
     for event in [
-        Event::withheld(8_000, DAY_AHEAD, 12, &[]),
+        Event::withheld(8_000, Market::DAY_AHEAD, 12, &[]),
         Event::dispatch(8_000, 12, &[]),
-        Event::fuel(8_000, REAL_TIME, 12, (0, 0, 0), &[]),
-        Event::bids(8_000, DAY_AHEAD, 12, 1, 0, &[]),
+        Event::fuel(8_000, Market::REAL_TIME, 12, (0, 0, 0), &[]),
+        Event::bids(8_000, Market::DAY_AHEAD, 12, 1, 0, &[]),
     ] {
         let mut events = vec![event; 200];
         for (place, event) in events.iter_mut().enumerate() {
@@ -632,7 +632,7 @@ fn fields_of_the_first_and_last_of_200_events() {
             checks.field(&input, at + 2, 2, &[(99, 12)], &what);
             checks.field(&input, at + 12, 4, &[(1 << 24, 10)], &what);
             let cell = at + EVENT_HEAD_BYTES + CELL_BYTES * 23;
-            let number = if event.kind() < 3 { 13 } else { 10 };
+            let number = if event.kind() < Kind::FUEL { 13 } else { 10 };
             checks.field(&input, cell, 4, &[(1 << 31, number)], &what);
             checks.field(&input, cell + 4, 4, &[(1 << 31, 10)], &what);
             checks.field(&input, cell + 8, 4, &[(50_001, 10)], &what);
@@ -659,20 +659,20 @@ fn order_of_the_events() {
     let mut checks = Checks::default();
     // Rising, and each with lower numbers in what is compared later.
     let rising = [
-        Event::withheld(1, DAY_AHEAD, 13, &[]),
-        Event::withheld(1, REAL_TIME, 12, &[]),
-        Event::withheld(1, REAL_TIME, 13, &[]),
+        Event::withheld(1, Market::DAY_AHEAD, 13, &[]),
+        Event::withheld(1, Market::REAL_TIME, 12, &[]),
+        Event::withheld(1, Market::REAL_TIME, 13, &[]),
         Event::dispatch(1, 12, &[]),
-        Event::fuel(1, DAY_AHEAD, 12, (0, 0, 0), &[]),
-        Event::fuel(1, REAL_TIME, 12, (0, 0, 0), &[]),
-        Event::bids(1, DAY_AHEAD, 12, 8, 0, &[]),
-        Event::bids(1, DAY_AHEAD, 13, 0, 0, &[]),
-        Event::bids(1, DAY_AHEAD, 13, 1, 0, &[]),
-        Event::bids(1, REAL_TIME, 12, 0, 0, &[]),
-        Event::withheld(2, DAY_AHEAD, 12, &[]),
-        Event::withheld(256, DAY_AHEAD, 12, &[]),
-        Event::withheld(65_536, DAY_AHEAD, 5, &[]),
-        Event::withheld(65_536, DAY_AHEAD, 12, &[]),
+        Event::fuel(1, Market::DAY_AHEAD, 12, (0, 0, 0), &[]),
+        Event::fuel(1, Market::REAL_TIME, 12, (0, 0, 0), &[]),
+        Event::bids(1, Market::DAY_AHEAD, 12, 8, 0, &[]),
+        Event::bids(1, Market::DAY_AHEAD, 13, 0, 0, &[]),
+        Event::bids(1, Market::DAY_AHEAD, 13, 1, 0, &[]),
+        Event::bids(1, Market::REAL_TIME, 12, 0, 0, &[]),
+        Event::withheld(2, Market::DAY_AHEAD, 12, &[]),
+        Event::withheld(256, Market::DAY_AHEAD, 12, &[]),
+        Event::withheld(65_536, Market::DAY_AHEAD, 5, &[]),
+        Event::withheld(65_536, Market::DAY_AHEAD, 12, &[]),
     ];
     let of = |events: Vec<Event>| {
         let mut case = Case {
@@ -700,7 +700,7 @@ fn order_of_the_events() {
         }
     }
     // Another period, impact or cell makes no other event.
-    let mut same = Event::withheld(2, DAY_AHEAD, 12, &[(3, 1, 1)]).in_period(9);
+    let mut same = Event::withheld(2, Market::DAY_AHEAD, 12, &[(3, 1, 1)]).in_period(9);
     same = same.with_impact(0);
     let input = of(vec![rising[10], same]);
     checks.expect(&input, 11, "the same key");
@@ -712,8 +712,8 @@ fn capability_of_the_unit() {
     let mut checks = Checks::default();
     for capability in [1, 4_999, 50_000] {
         for event in [
-            Event::withheld(1, DAY_AHEAD, 12, &[]),
-            Event::withheld(1, REAL_TIME, 12, &[]),
+            Event::withheld(1, Market::DAY_AHEAD, 12, &[]),
+            Event::withheld(1, Market::REAL_TIME, 12, &[]),
             Event::dispatch(1, 12, &[]),
         ] {
             // The other units have another capability.
@@ -749,7 +749,7 @@ fn capability_of_the_unit() {
 #[test]
 fn references_of_bids() {
     let mut checks = Checks::default();
-    for market in [DAY_AHEAD, REAL_TIME] {
+    for market in [Market::DAY_AHEAD, Market::REAL_TIME] {
         for component in 0..9 {
             let of = |references: Vec<Reference>, correction: &[Reference]| {
                 let case = Case {
@@ -783,9 +783,9 @@ fn references_of_bids() {
     }
     // Other kinds read none.
     for event in [
-        Event::withheld(1, DAY_AHEAD, 12, &[]),
+        Event::withheld(1, Market::DAY_AHEAD, 12, &[]),
         Event::dispatch(1, 12, &[]),
-        Event::fuel(1, DAY_AHEAD, 12, (0, 0, 0), &[]),
+        Event::fuel(1, Market::DAY_AHEAD, 12, (0, 0, 0), &[]),
     ] {
         let case = Case {
             units: vec![unit(12)],
@@ -804,7 +804,7 @@ fn length_of_the_rows() {
         let case = Case {
             units: vec![unit(12)],
             events: (0..count)
-                .map(|day| Event::withheld(day, DAY_AHEAD, 12, &[]))
+                .map(|day| Event::withheld(day, Market::DAY_AHEAD, 12, &[]))
                 .collect(),
             ..Case::default()
         };
@@ -846,7 +846,8 @@ fn unreadable_words_of_other_kinds() {
             Conduct::Withheld { .. } | Conduct::Dispatch { .. } => 12,
             // −1 is a bid of components 0 and 1 alone.
             Conduct::Bids {
-                component: 0 | 1, ..
+                component: Component(0 | 1),
+                ..
             } => 12,
             _ => 10,
         };

@@ -1,9 +1,8 @@
 //! The listing against the second implementation's, as text, and what it leaves in its buffers.
 
-use attachment_h::{LISTING_LENGTH, ROWS_LENGTH, list_into, listing};
-use cases::case::DAY_AHEAD;
+use attachment_h::{LISTING_LENGTH, ROWS_LENGTH, TooShort, list_into, listing};
 use cases::generator::{any_case, case, random_bytes};
-use cases::{Case, Event, Random, Size, Unit, Wanted};
+use cases::{Case, Event, Market, Random, Size, Unit, Wanted};
 
 #[test]
 fn shipped_case() {
@@ -15,7 +14,9 @@ fn shipped_case() {
     };
     let case = Case {
         units: vec![unit(12, 5_000), unit(13, 15_000)],
-        events: vec![Event::withheld(8_000, DAY_AHEAD, 12, &[(0, 501, 4_000)]).in_period(44)],
+        events: vec![
+            Event::withheld(8_000, Market::DAY_AHEAD, 12, &[(0, 501, 4_000)]).in_period(44),
+        ],
         ..Case::default()
     };
     assert_eq!(
@@ -54,12 +55,12 @@ fn buffers() {
         let text = second::listing(&file);
         // Too short for the longest listing: nothing is written.
         let (mut rows, mut out) = (vec![0xA5; ROWS_LENGTH], vec![0x5A; LISTING_LENGTH - 1]);
-        assert_eq!(list_into(&file, &mut rows, &mut out), 0);
+        assert_eq!(list_into(&file, &mut rows, &mut out), Err(TooShort));
         assert!(rows.iter().all(|&byte| byte == 0xA5));
         assert!(out.iter().all(|&byte| byte == 0x5A));
         // The text, and after it what was there; the rows as settling leaves them.
         out.extend([0x5A; 9]);
-        let length = list_into(&file, &mut rows, &mut out);
+        let length = list_into(&file, &mut rows, &mut out).expect("a buffer that is long enough");
         assert_eq!(&out[..length], text.as_bytes());
         assert!(out[length..].iter().all(|&byte| byte == 0x5A));
         let mut settled = vec![0xA5; ROWS_LENGTH];

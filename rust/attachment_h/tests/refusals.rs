@@ -144,3 +144,13 @@ fn random_and_cut_bytes() {
     let count: usize = by_number.iter().sum();
     println!("{count} random, cut and changed inputs: {by_number:?}");
 }
+
+#[test]
+fn every_number_has_a_meaning() {
+    let meanings: Vec<&str> = (1..=15).map(|number| Refused(number).meaning()).collect();
+    for (place, text) in meanings.iter().enumerate() {
+        assert!(!meanings[..place].contains(text));
+        assert_ne!(*text, Refused(16).meaning());
+    }
+    assert_eq!(Refused(16).meaning(), "no limit has this number");
+}

@@ -3,7 +3,7 @@
 
 use std::collections::BTreeSet;
 
-use attachment_h::{Refused, Settled, settle};
+use attachment_h::{Cents, Kind, Refused, Settled, settle};
 use cases::faults::{FAULTS, faults_of};
 use cases::generator::{any_case, case, random_bytes};
 use cases::{Event, Input, Random, Size, Wanted, growth};
@@ -22,8 +22,8 @@ fn both(random: &mut Random, input: &Input, what: &str) -> Result<Settled, Refus
             make_ups,
         } => Ok(Settled {
             rows,
-            penalties,
-            make_ups,
+            penalties: Cents(penalties),
+            make_ups: Cents(make_ups),
         }),
     };
     assert_eq!(outcome, expected, "{what}");
@@ -54,8 +54,8 @@ fn accepted_cases() {
             let settled = both(&mut random, &input, &what).expect(&what);
             cases += 1;
             rows += settled.rows;
-            penalties += usize::from(settled.penalties > 0);
-            make_ups += usize::from(settled.make_ups > 0);
+            penalties += usize::from(settled.penalties > Cents(0));
+            make_ups += usize::from(settled.make_ups > Cents(0));
         }
     }
     println!("{cases} cases, {rows} rows; {penalties} with penalties, {make_ups} with make-ups");
@@ -70,7 +70,7 @@ fn cases_of_every_growth_step() {
         for (place, full) in full.iter().enumerate() {
             let what = format!("{events} events of case {place}");
             let generated = growth::with_events(full, events);
-            let kinds: BTreeSet<u8> = generated.case.events.iter().map(Event::kind).collect();
+            let kinds: BTreeSet<Kind> = generated.case.events.iter().map(Event::kind).collect();
             assert_eq!(kinds.len(), 4, "{what}");
             let settled = both(&mut random, &generated.input(), &what).expect(&what);
             assert_eq!(settled.rows, events, "{what}");

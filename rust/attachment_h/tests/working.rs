@@ -21,12 +21,12 @@ fn work(input: &Input, failed: &mut [usize; 5]) {
     let settled = settle(&input.file, &input.correction, &mut rows).expect("accepted");
     let events = &sections_of(&input.file)[3];
     for place in 0..settled.rows {
-        let row = Row::read(&rows, place);
+        let row = Row::of(&rows, place);
         let event = &events[312 * place..][..312];
         for hour in 0..24 {
             let what = format!("event {place}, hour {hour}");
             let worked = working(&input.file, &input.correction, place, hour).expect(&what);
-            assert_eq!(worked.flagged, row.flags >> hour & 1 == 1, "{what}");
+            assert_eq!(worked.flagged, row.flags.0 >> hour & 1 == 1, "{what}");
             assert_eq!(worked.failed, first_failed(&worked), "{what}");
             assert_eq!(worked.failed > 0, worked.flagged, "{what}");
             assert_eq!((worked.n3, worked.n2), (row.n3, row.n2), "{what}");

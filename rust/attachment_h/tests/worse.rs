@@ -2,7 +2,7 @@
 //! multiplier, penalty or total of penalties falls. It is proved of the definitions; this is for what
 //! lies between them and the compiled code.
 
-use attachment_h::{Refused, settle};
+use attachment_h::{Cents, Refused, settle};
 use cases::case::ROW_BYTES;
 use cases::generator::case;
 use cases::worse::random_changes;
@@ -10,13 +10,10 @@ use cases::{Random, Row, Size, Wanted};
 use second::fuel_party_days;
 
 /// The rows and the total of penalties.
-fn settled(file: &[u8], correction: &[u8], held: u8) -> Result<(Vec<Row>, u64), Refused> {
+fn settled(file: &[u8], correction: &[u8], held: u8) -> Result<(Vec<Row>, Cents), Refused> {
     let mut buffer = vec![held; 200 * ROW_BYTES];
     let settled = settle(file, correction, &mut buffer)?;
-    let rows = (0..settled.rows)
-        .map(|place| Row::read(&buffer, place))
-        .collect();
-    Ok((rows, settled.penalties))
+    Ok((Row::first(&buffer, settled.rows), settled.penalties))
 }
 
 #[test]
@@ -49,7 +46,7 @@ fn lists_of_changes() {
             assert_eq!(before.0.len(), after.0.len(), "case {place}");
             assert!(before.1 <= after.1, "case {place}: {list:?}");
             for (before, after) in before.0.iter().zip(&after.0) {
-                assert_eq!(before.flags & !after.flags, 0, "case {place}: {list:?}");
+                assert_eq!(before.flags.0 & !after.flags.0, 0, "case {place}: {list:?}");
                 assert!(
                     before.multiplier <= after.multiplier,
                     "case {place}: {list:?}"

@@ -1,8 +1,8 @@
 //! The single cases: generated ones, the shipped one, and shapes that hold one kind or the longest ways.
 
-use cases::case::{DAY_AHEAD, EVERY_HOUR, LARGEST_FILE};
+use cases::case::{EVERY_HOUR, LARGEST_FILE};
 use cases::growth::STEPS;
-use cases::{Case, Event, Generated, Input, Past, Reference, Unit};
+use cases::{Case, Component, Event, Generated, Input, Kind, Market, Past, Reference, Unit};
 
 /// How many of the generated cases are timed alone.
 const ALONE: usize = 5;
@@ -38,7 +38,12 @@ fn worked_example() -> Input {
         units: vec![unit(12, 5_000), unit(13, 15_000)],
         references: Vec::new(),
         past: Vec::new(),
-        events: vec![Event::withheld(8_000, DAY_AHEAD, 12, &[(0, 501, 4_000)])],
+        events: vec![Event::withheld(
+            8_000,
+            Market::DAY_AHEAD,
+            12,
+            &[(0, 501, 4_000)],
+        )],
     };
     Input::new(&case, &[])
 }
@@ -49,7 +54,7 @@ fn event(kind: u8, day: u32, unit: u16, component: u8) -> Event {
     match kind {
         1 => {
             let cells: Vec<_> = hours.map(|hour| (hour, 501, 4_000)).collect();
-            Event::withheld(day, DAY_AHEAD, unit, &cells)
+            Event::withheld(day, Market::DAY_AHEAD, unit, &cells)
         }
         2 => {
             let cells: Vec<_> = hours.map(|hour| (hour, 501, 4_000)).collect();
@@ -57,11 +62,11 @@ fn event(kind: u8, day: u32, unit: u16, component: u8) -> Event {
         }
         3 => {
             let cells: Vec<_> = hours.map(|hour| (hour, 501, 4_000)).collect();
-            Event::fuel(day, DAY_AHEAD, unit, (EVERY_HOUR, 1_000, 0), &cells)
+            Event::fuel(day, Market::DAY_AHEAD, unit, (EVERY_HOUR, 1_000, 0), &cells)
         }
         _ => {
             let cells: Vec<_> = hours.map(|hour| (hour, 9_001, 100, 10)).collect();
-            Event::bids(day, DAY_AHEAD, unit, component, 0, &cells)
+            Event::bids(day, Market::DAY_AHEAD, unit, component, 0, &cells)
         }
     }
 }
@@ -125,8 +130,8 @@ fn units_of(count: u16, groups: u16) -> Vec<Unit> {
 fn past_of(count: usize) -> Vec<Past> {
     let entry = Past {
         group: 0,
-        kind: 1,
-        market: DAY_AHEAD,
+        kind: Kind::WITHHELD,
+        market: Market::DAY_AHEAD,
         period: 0,
         day: 0,
     };
@@ -138,7 +143,7 @@ fn references_of(count: u16) -> Vec<Reference> {
     (0..count)
         .map(|place| Reference {
             unit: place / 9,
-            component: (place % 9) as u8,
+            component: Component((place % 9) as u8),
             value: 1_000,
         })
         .collect()
@@ -150,7 +155,7 @@ fn bids_of_the_last_unit() -> Input {
     let references = |count: u16| -> Vec<Reference> {
         let reference = |unit, component| Reference {
             unit,
-            component,
+            component: Component(component),
             value: 1_000,
         };
         let last = (0..9).map(|component| reference(63, component));
@@ -170,7 +175,16 @@ fn bids_of_the_last_unit() -> Input {
         references: references(127),
         past: past_of(1),
         events: (0..200)
-            .map(|place| Event::bids(place / 9, DAY_AHEAD, 63, (place % 9) as u8, 1_000, &[]))
+            .map(|place| {
+                Event::bids(
+                    place / 9,
+                    Market::DAY_AHEAD,
+                    63,
+                    (place % 9) as u8,
+                    1_000,
+                    &[],
+                )
+            })
             .collect(),
     };
     let input = Input::new(&case, &references(256));

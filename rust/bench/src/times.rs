@@ -136,8 +136,8 @@ fn assert_alike(input: &Input) {
         second::settle(&input.file, &input.correction, &mut second_rows),
         Outcome::Settled {
             rows: settled.rows,
-            penalties: settled.penalties,
-            make_ups: settled.make_ups,
+            penalties: settled.penalties.0,
+            make_ups: settled.make_ups.0,
         }
     );
     assert_eq!(rows, second_rows);

@@ -2,29 +2,12 @@
 //!
 //! Nothing here is checked: a test may write any case, also one that is to be refused.
 
-/// Bytes before the first section.
-pub const HEADER_BYTES: usize = 36;
-/// Bytes of a unit record.
-pub const UNIT_BYTES: usize = 24;
-/// Bytes of a reference record.
-pub const REFERENCE_BYTES: usize = 8;
-/// Bytes of a past record.
-pub const PAST_BYTES: usize = 12;
-/// Bytes of an event record.
-pub const EVENT_BYTES: usize = 312;
-/// Bytes of an event record before its hour cells.
-pub const EVENT_HEAD_BYTES: usize = 24;
-/// Bytes of an hour cell.
-pub const CELL_BYTES: usize = 12;
-/// Bytes of a row in the rows buffer.
-pub const ROW_BYTES: usize = 128;
-/// The largest file.
-pub const LARGEST_FILE: usize = 65_000;
-
-/// Market 0.
-pub const DAY_AHEAD: u8 = 0;
-/// Market 1.
-pub const REAL_TIME: u8 = 1;
+use attachment_h::layout::pair;
+pub use attachment_h::layout::{
+    CELL_BYTES, EVENT_BYTES, EVENT_HEAD_BYTES, HEADER_BYTES, LARGEST_FILE, PAST_BYTES,
+    REFERENCE_BYTES, ROW_BYTES, Section, UNIT_BYTES, file_of, put_u16, put_u32, u16_at, u32_at,
+};
+use attachment_h::{Component, Kind, Market};
 
 /// A unit record.
 #[derive(Clone, Copy, Debug, Default, PartialEq, Eq)]
@@ -50,8 +33,8 @@ pub struct Unit {
 pub struct Reference {
     /// Unit number.
     pub unit: u16,
-    /// Component number.
-    pub component: u8,
+    /// What it is the reference of.
+    pub component: Component,
     /// The reference level.
     pub value: u32,
 }
@@ -61,10 +44,10 @@ pub struct Reference {
 pub struct Past {
     /// Group number.
     pub group: u16,
-    /// 1 withheld, 3 fuel.
-    pub kind: u8,
-    /// Market number.
-    pub market: u8,
+    /// Withheld or fuel.
+    pub kind: Kind,
+    /// Day-Ahead or Real-Time.
+    pub market: Market,
     /// Capability period number.
     pub period: u16,
     /// Day number.
@@ -143,8 +126,8 @@ pub enum Conduct {
     },
     /// Kind 4.
     Bids {
-        /// Component number.
-        component: u8,
+        /// What is bid for.
+        component: Component,
         /// P, hours with a Shadow Price.
         shadow_price: u32,
         /// Q, hours with impact.
@@ -161,8 +144,8 @@ pub enum Conduct {
 pub struct Event {
     /// Day number; 0 is 1 January 2000.
     pub day: u32,
-    /// Market number.
-    pub market: u8,
+    /// Day-Ahead or Real-Time.
+    pub market: Market,
     /// Unit number.
     pub unit: u16,
     /// Capability period number.
@@ -172,26 +155,26 @@ pub struct Event {
 }
 
 impl Event {
-    /// The kind number.
-    pub fn kind(&self) -> u8 {
+    /// The kind.
+    pub fn kind(&self) -> Kind {
         match self.conduct {
-            Conduct::Withheld { .. } => 1,
-            Conduct::Dispatch { .. } => 2,
-            Conduct::Fuel { .. } => 3,
-            Conduct::Bids { .. } => 4,
+            Conduct::Withheld { .. } => Kind::WITHHELD,
+            Conduct::Dispatch { .. } => Kind::DISPATCH,
+            Conduct::Fuel { .. } => Kind::FUEL,
+            Conduct::Bids { .. } => Kind::BIDS,
         }
     }
 
-    /// The component number; 0 where the kind has none.
-    pub fn component(&self) -> u8 {
+    /// The component; 0 where the kind has none.
+    pub fn component(&self) -> Component {
         match self.conduct {
             Conduct::Bids { component, .. } => component,
-            _ => 0,
+            _ => Component(0),
         }
     }
 
     /// What events are sorted by: (day, kind, market, unit, component).
-    pub fn order(&self) -> (u32, u8, u8, u16, u8) {
+    pub fn order(&self) -> (u32, Kind, Market, u16, Component) {
         (
             self.day,
             self.kind(),
@@ -232,10 +215,10 @@ impl Event {
                 ..
             } => (0, shadow_price, impact, minimum_run_hours),
         };
-        let mut bytes = vec![self.kind(), self.market];
+        let mut bytes = vec![self.kind().0, self.market.0];
         bytes.extend(self.unit.to_le_bytes());
         bytes.extend(self.period.to_le_bytes());
-        bytes.extend([self.component(), impact]);
+        bytes.extend([self.component().0, impact]);
         for word in [self.day, p, q, r] {
             bytes.extend(word.to_le_bytes());
         }
@@ -286,7 +269,7 @@ impl Reference {
     /// The 8 bytes of the record.
     pub fn to_bytes(&self) -> Vec<u8> {
         let mut bytes = self.unit.to_le_bytes().to_vec();
-        bytes.extend([self.component, 0]);
+        bytes.extend([self.component.0, 0]);
         bytes.extend(self.value.to_le_bytes());
         bytes
     }
@@ -296,7 +279,7 @@ impl Past {
     /// The 12 bytes of the record.
     pub fn to_bytes(&self) -> Vec<u8> {
         let mut bytes = self.group.to_le_bytes().to_vec();
-        bytes.extend([self.kind, self.market]);
+        bytes.extend([self.kind.0, self.market.0]);
         bytes.extend(self.period.to_le_bytes());
         bytes.extend([0, 0]);
         bytes.extend(self.day.to_le_bytes());
@@ -339,23 +322,6 @@ pub fn correction_bytes(references: &[Reference]) -> Vec<u8> {
     references.iter().flat_map(Reference::to_bytes).collect()
 }
 
-/// A file of four sections: version 1, the pairs, then the sections one after another.
-pub fn file_of(sections: &[Vec<u8>; 4]) -> Vec<u8> {
-    let mut file = Vec::new();
-    file.extend(1_u16.to_le_bytes());
-    file.extend(4_u16.to_le_bytes());
-    let mut offset = HEADER_BYTES;
-    for section in sections {
-        file.extend((offset as u32).to_le_bytes());
-        file.extend((section.len() as u32).to_le_bytes());
-        offset += section.len();
-    }
-    for section in sections {
-        file.extend(section);
-    }
-    file
-}
-
 /// The sections of a file whose pairs follow on.
 pub fn sections_of(file: &[u8]) -> [Vec<u8>; 4] {
     [0, 1, 2, 3].map(|place| {
@@ -366,28 +332,8 @@ pub fn sections_of(file: &[u8]) -> [Vec<u8>; 4] {
 
 /// Offset and length of a section, from its pair.
 pub fn section_place(file: &[u8], section: usize) -> (usize, usize) {
-    let pair = 4 + 8 * section;
-    (u32_at(file, pair) as usize, u32_at(file, pair + 4) as usize)
-}
-
-/// A little-endian u16.
-pub fn u16_at(bytes: &[u8], at: usize) -> u16 {
-    u16::from_le_bytes([bytes[at], bytes[at + 1]])
-}
-
-/// A little-endian u32.
-pub fn u32_at(bytes: &[u8], at: usize) -> u32 {
-    u32::from_le_bytes([bytes[at], bytes[at + 1], bytes[at + 2], bytes[at + 3]])
-}
-
-/// Writes a little-endian u32.
-pub fn put_u32(bytes: &mut [u8], at: usize, value: u32) {
-    bytes[at..at + 4].copy_from_slice(&value.to_le_bytes());
-}
-
-/// Writes a little-endian u16.
-pub fn put_u16(bytes: &mut [u8], at: usize, value: u16) {
-    bytes[at..at + 2].copy_from_slice(&value.to_le_bytes());
+    let (offset, length) = pair(file, Section::ALL[section]);
+    (offset as usize, length as usize)
 }
 
 /// What a settlement is called with: the file, the correction and the length of the rows buffer.
@@ -417,7 +363,7 @@ pub const EVERY_HOUR: u32 = 0xFF_FFFF;
 
 impl Event {
     /// A withheld event of period 0 with impact 1 and no Shadow Price; hours as (hour, a, b).
-    pub fn withheld(day: u32, market: u8, unit: u16, cells: &[(usize, u32, i32)]) -> Event {
+    pub fn withheld(day: u32, market: Market, unit: u16, cells: &[(usize, u32, i32)]) -> Event {
         let mut hours = [WithheldHour::default(); 24];
         for &(hour, withheld, price) in cells {
             hours[hour] = WithheldHour { withheld, price };
@@ -452,7 +398,7 @@ impl Event {
         };
         Event {
             day,
-            market: REAL_TIME,
+            market: Market::REAL_TIME,
             unit,
             period: 0,
             conduct,
@@ -462,7 +408,7 @@ impl Event {
     /// A fuel event with its P, Q and R; hours as (hour, a, b).
     pub fn fuel(
         day: u32,
-        market: u8,
+        market: Market,
         unit: u16,
         (inaccurate, guarantee_change, tcc_change): (u32, i32, i32),
         cells: &[(usize, u32, i32)],
@@ -493,7 +439,7 @@ impl Event {
     /// and the other hours with bid `elsewhere`.
     pub fn bids(
         day: u32,
-        market: u8,
+        market: Market,
         unit: u16,
         component: u8,
         elsewhere: i32,
@@ -512,7 +458,7 @@ impl Event {
             };
         }
         let conduct = Conduct::Bids {
-            component,
+            component: Component(component),
             shadow_price: 0,
             impact: EVERY_HOUR,
             minimum_run_hours: 0,

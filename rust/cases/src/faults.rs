@@ -3,6 +3,8 @@
 //! Two faults are put into one case from the higher number to the lower: the lower ones break the
 //! layout that the higher ones need to find their place. The case is then refused with the lower.
 
+use attachment_h::Component;
+
 use crate::case::{
     CELL_BYTES, EVENT_BYTES, EVENT_HEAD_BYTES, HEADER_BYTES, Input, LARGEST_FILE, PAST_BYTES,
     REFERENCE_BYTES, ROW_BYTES, UNIT_BYTES, file_of, put_u16, put_u32, section_place, sections_of,
@@ -162,7 +164,7 @@ pub const FAULTS: &[Fault] = &[
     }),
     fault(7, "a reference over its limit", |input, random| {
         let reference = record(input, REFERENCES, random)?;
-        let limit = reference_limit(input.file[reference + 2]) as u32;
+        let limit = reference_limit(Component(input.file[reference + 2])) as u32;
         put_word(input, reference + 4, random.pick(&[limit + 1, u32::MAX]))
     }),
     fault(7, "a reference twice", |input, random| {
@@ -207,7 +209,7 @@ pub const FAULTS: &[Fault] = &[
     }),
     fault(8, "a correct reference over its limit", |input, random| {
         let entry = correction_entry(input, random)?;
-        let limit = reference_limit(input.correction[entry + 2]) as u32;
+        let limit = reference_limit(Component(input.correction[entry + 2])) as u32;
         let value = random.pick(&[limit + 1, u32::MAX]);
         put_u32(&mut input.correction, entry + 4, value);
         Some(())
@@ -324,13 +326,13 @@ pub const FAULTS: &[Fault] = &[
     }),
     fault(10, "a bid over its limit", |input, random| {
         let event = event_of(input, &[4], random)?;
-        let (_, high) = bid_limits(input.file[event + 6]);
+        let (_, high) = bid_limits(Component(input.file[event + 6]));
         let bid = random.pick(&[high as u32 + 1, i32::MAX as u32]);
         put_word(input, event + any_cell(random), bid)
     }),
     fault(10, "a bid under its limit", |input, random| {
         let event = event_of(input, &[4], random)?;
-        let (low, _) = bid_limits(input.file[event + 6]);
+        let (low, _) = bid_limits(Component(input.file[event + 6]));
         let bid = random.pick(&[low as i32 - 1, i32::MIN]);
         put_word(input, event + any_cell(random), bid.cast_unsigned())
     }),

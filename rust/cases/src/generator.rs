@@ -2,9 +2,11 @@
 
 use std::collections::{BTreeMap, BTreeSet, HashMap};
 
+use attachment_h::{Component, Kind, Market};
+
 use crate::case::{
-    BidHour, Case, Conduct, DAY_AHEAD, DispatchHour, Event, FuelHour, Input, LARGEST_FILE, Past,
-    REAL_TIME, ROW_BYTES, Reference, Unit, WithheldHour,
+    BidHour, Case, Conduct, DispatchHour, Event, FuelHour, Input, LARGEST_FILE, Past, ROW_BYTES,
+    Reference, Unit, WithheldHour,
 };
 use crate::random::Random;
 
@@ -83,10 +85,10 @@ pub fn case(random: &mut Random, wanted: Wanted) -> Generated {
 }
 
 /// (day, kind, market, unit, component) of an event.
-type Key = (u32, u8, u8, u16, u8);
+type Key = (u32, Kind, Market, u16, Component);
 
 /// The sums of one group, kind, day and market, hour by hour.
-type PartyDaySums = HashMap<(u16, u8, u32, u8), [i64; 24]>;
+type PartyDaySums = HashMap<(u16, Kind, u32, Market), [i64; 24]>;
 
 struct Maker<'a> {
     random: &'a mut Random,
@@ -202,26 +204,27 @@ impl<'a> Maker<'a> {
         };
         let budget = self.reference_budget();
         // Some cases are about one kind, most about all.
+        let all: &[u8] = &[1, 2, 3, 4, 4];
         let kinds: &[u8] = match self.random.below(10) {
             0 => &[1],
             1 => &[2, 2, 1],
             2 => &[3],
             3 => &[4],
             4 => &[1, 1, 1, 3],
-            _ => &[1, 2, 3, 4, 4],
+            _ => all,
         };
         let kinds = if self.wanted.every_kind || self.wanted.size == Size::Full {
-            &[1, 2, 3, 4, 4]
+            all
         } else {
             kinds
         };
-        let mut referenced: BTreeSet<(u16, u8)> = BTreeSet::new();
+        let mut referenced: BTreeSet<(u16, Component)> = BTreeSet::new();
         if self.wanted.every_kind {
-            for kind in 1..=4 {
-                for component in [0, 1, 3, 5] {
+            for kind in Kind::ALL {
+                for component in [0, 1, 3, 5].map(Component) {
                     let unit = self.random.below(self.case.units.len());
                     let key = self.key(kind, unit, component);
-                    if kind == 4 {
+                    if kind == Kind::BIDS {
                         referenced.insert((key.3, key.4));
                     }
                     self.keys.insert(key);
@@ -232,22 +235,22 @@ impl<'a> Maker<'a> {
             if self.keys.len() >= count {
                 break;
             }
-            let kind = self.random.pick(kinds);
+            let kind = Kind(self.random.pick(kinds));
             let unit = self.random.below(self.case.units.len());
-            let component = self.random.below(9) as u8;
+            let component = Component(self.random.below(9) as u8);
             let (day, kind, market, unit, component) = self.key(kind, unit, component);
             // The time components mostly come together, which their sum needs.
-            let together = kind == 4
-                && (4..=6).contains(&component)
+            let together = kind == Kind::BIDS
+                && component.is_time()
                 && self.keys.len() + 3 <= count
                 && self.random.chance(3, 4);
             let components = if together {
                 4..=6
             } else {
-                component..=component
+                component.0..=component.0
             };
-            for component in components {
-                if kind == 4 {
+            for component in components.map(Component) {
+                if kind == Kind::BIDS {
                     if referenced.len() >= budget && !referenced.contains(&(unit, component)) {
                         continue;
                     }
@@ -259,23 +262,31 @@ impl<'a> Maker<'a> {
     }
 
     /// A key of this kind, with the fields that the kind lacks at 0.
-    fn key(&mut self, kind: u8, unit: usize, component: u8) -> Key {
+    fn key(&mut self, kind: Kind, unit: usize, component: Component) -> Key {
         let day = self.random.pick(&self.days);
-        let market = self.random.pick(&[DAY_AHEAD, REAL_TIME]);
+        let market = self.random.pick(&[Market::DAY_AHEAD, Market::REAL_TIME]);
         (
             day,
             kind,
-            if kind == 2 { REAL_TIME } else { market },
+            if kind == Kind::DISPATCH {
+                Market::REAL_TIME
+            } else {
+                market
+            },
             self.case.units[unit].unit,
-            if kind == 4 { component } else { 0 },
+            if kind == Kind::BIDS {
+                component
+            } else {
+                Component(0)
+            },
         )
     }
 
     fn choose_references(&mut self) {
-        let mut references: BTreeSet<(u16, u8)> = self
+        let mut references: BTreeSet<(u16, Component)> = self
             .keys
             .iter()
-            .filter(|key| key.1 == 4)
+            .filter(|key| key.1 == Kind::BIDS)
             .map(|key| (key.3, key.4))
             .collect();
         let more = match self.wanted.size {
@@ -291,7 +302,7 @@ impl<'a> Maker<'a> {
         {
             let place = self.random.below(self.case.units.len());
             let unit = self.case.units[place].unit;
-            references.insert((unit, self.random.below(9) as u8));
+            references.insert((unit, Component(self.random.below(9) as u8)));
         }
         for (unit, component) in references {
             let value = reference_value(self.random, component);
@@ -304,10 +315,10 @@ impl<'a> Maker<'a> {
     }
 
     fn choose_correction(&mut self) {
-        let read: BTreeSet<(u16, u8)> = self
+        let read: BTreeSet<(u16, Component)> = self
             .keys
             .iter()
-            .filter(|key| key.1 == 4 && matches!(key.4, 0 | 1 | 3))
+            .filter(|key| key.1 == Kind::BIDS && matches!(key.4.0, 0 | 1 | 3))
             .map(|key| (key.3, key.4))
             .collect();
         let random = &mut *self.random;
@@ -315,7 +326,7 @@ impl<'a> Maker<'a> {
             0 | 1 => {}
             2 => self.correction = self.case.references.clone(),
             _ => {
-                let mut entries: BTreeMap<(u16, u8), u32> = BTreeMap::new();
+                let mut entries: BTreeMap<(u16, Component), u32> = BTreeMap::new();
                 for reference in &self.case.references {
                     let key = (reference.unit, reference.component);
                     // Entries that nobody reads may be missing.
@@ -335,7 +346,7 @@ impl<'a> Maker<'a> {
                 }
                 for _ in 0..random.below(4) {
                     let unit = self.case.units[random.below(self.case.units.len())].unit;
-                    let component = random.below(9) as u8;
+                    let component = Component(random.below(9) as u8);
                     if entries.len() < 256 {
                         let value = reference_value(random, component);
                         entries.entry((unit, component)).or_insert(value);
@@ -384,9 +395,9 @@ impl<'a> Maker<'a> {
 
     fn fill_events(&mut self) {
         let mut party_day_sums = PartyDaySums::new();
-        let mut time_sums: HashMap<(u16, u32, u8), [i64; 24]> = HashMap::new();
-        let mut fuel_days: HashMap<(u16, u32, u8), bool> = HashMap::new();
-        let references: HashMap<(u16, u8), i64> = by_key(&self.case.references);
+        let mut time_sums: HashMap<(u16, u32, Market), [i64; 24]> = HashMap::new();
+        let mut fuel_days: HashMap<(u16, u32, Market), bool> = HashMap::new();
+        let references: HashMap<(u16, Component), i64> = by_key(&self.case.references);
         let correct = if self.correction.is_empty() {
             references.clone()
         } else {
@@ -417,9 +428,9 @@ impl<'a> Maker<'a> {
                 .entry((unit.group, kind, day, market))
                 .or_insert([0; 24]);
             let conduct = match kind {
-                1 => withheld(random, &unit, group_capability, impact, sums),
-                2 => dispatch(random, &unit, impact, sums),
-                3 => {
+                Kind::WITHHELD => withheld(random, &unit, group_capability, impact, sums),
+                Kind::DISPATCH => dispatch(random, &unit, impact, sums),
+                Kind::FUEL => {
                     let exact = fuel_days
                         .entry((unit.group, day, market))
                         .or_insert_with(|| random.chance(1, 3));
@@ -449,7 +460,7 @@ impl<'a> Maker<'a> {
     }
 }
 
-fn by_key(references: &[Reference]) -> HashMap<(u16, u8), i64> {
+fn by_key(references: &[Reference]) -> HashMap<(u16, Component), i64> {
     references
         .iter()
         .map(|reference| {
@@ -462,8 +473,8 @@ fn by_key(references: &[Reference]) -> HashMap<(u16, u8), i64> {
 }
 
 /// "value u32, at most 1,000,000 for components 0 to 2, else 1,000,000,000".
-pub fn reference_limit(component: u8) -> i64 {
-    if component <= 2 {
+pub fn reference_limit(component: Component) -> i64 {
+    if component <= Component::RESERVE_OR_REGULATION {
         1_000_000
     } else {
         1_000_000_000
@@ -471,8 +482,8 @@ pub fn reference_limit(component: u8) -> i64 {
 }
 
 /// "±1,000,000 for components 0 and 1, 0 to 1,000,000 for 2, 0 to 1,000,000,000 above".
-pub fn bid_limits(component: u8) -> (i64, i64) {
-    match component {
+pub fn bid_limits(component: Component) -> (i64, i64) {
+    match component.0 {
         0 | 1 => (-1_000_000, 1_000_000),
         2 => (0, 1_000_000),
         _ => (0, 1_000_000_000),
@@ -480,8 +491,8 @@ pub fn bid_limits(component: u8) -> (i64, i64) {
 }
 
 /// A reference level, often one where two parts of a test meet.
-fn reference_value(random: &mut Random, component: u8) -> u32 {
-    let value = match (component, random.below(3)) {
+fn reference_value(random: &mut Random, component: Component) -> u32 {
+    let value = match (component.0, random.below(3)) {
         (0..=2, 0) => random.pick(&[
             0, 1, 124, 125, 499, 500, 624, 625, 1_666, 1_667, 3_333, 3_334, 999_999, 1_000_000,
         ]),
@@ -517,8 +528,8 @@ fn past_entry(random: &mut Random, groups: &[u16], days: &[u32], first_period: u
     };
     Past {
         group,
-        kind: random.pick(&[1, 1, 3]),
-        market: random.pick(&[DAY_AHEAD, REAL_TIME]),
+        kind: random.pick(&[Kind::WITHHELD, Kind::WITHHELD, Kind::FUEL]),
+        market: random.pick(&[Market::DAY_AHEAD, Market::REAL_TIME]),
         period: period as u16,
         day: day as u32,
     }
@@ -613,7 +624,13 @@ fn price(random: &mut Random) -> i32 {
     }
 }
 
-fn fuel(random: &mut Random, market: u8, exact: bool, first: bool, not_negative: bool) -> Conduct {
+fn fuel(
+    random: &mut Random,
+    market: Market,
+    exact: bool,
+    first: bool,
+    not_negative: bool,
+) -> Conduct {
     let mut inaccurate = random.hours();
     let mut hours = [FuelHour::default(); 24];
     let (mut guarantee_change, mut tcc_change) = (0, 0);
@@ -629,7 +646,7 @@ fn fuel(random: &mut Random, market: u8, exact: bool, first: bool, not_negative:
             price_change: (e % 10) as i32,
         };
         guarantee_change = e / 10;
-        if market == DAY_AHEAD && e <= 10 {
+        if market == Market::DAY_AHEAD && e <= 10 {
             // 3 × 10 + 20 × 499,999 = 10,000,010; 2 × 0 + 20 × 499,999 = 9,999,980.
             tcc_change = random.pick(&[499_998, 499_999, 500_000, 500_001]);
         }
@@ -641,7 +658,7 @@ fn fuel(random: &mut Random, market: u8, exact: bool, first: bool, not_negative:
             2 if large => random.pick(&[-1_000_000_000, 1_000_000_000]),
             _ => random.between(300_000, 900_000),
         };
-        if market == DAY_AHEAD {
+        if market == Market::DAY_AHEAD {
             tcc_change = match random.below(4) {
                 0 => 0,
                 1 if large => random.pick(&[-1_000_000_000, 1_000_000_000]),
@@ -679,7 +696,7 @@ fn fuel(random: &mut Random, market: u8, exact: bool, first: bool, not_negative:
 fn bids(
     random: &mut Random,
     unit: &Unit,
-    component: u8,
+    component: Component,
     r: i64,
     c: i64,
     time_sums: &mut [i64; 24],
@@ -699,7 +716,7 @@ fn bids(
                 _ => random.between(0, (r + 100).min(limits.1)),
             }
         };
-        if (4..=6).contains(&component) {
+        if component.is_time() {
             *time_sum += (bid - r).max(0);
         }
         let price = match random.below(6) {
@@ -735,8 +752,8 @@ fn bids(
 }
 
 /// The largest bids that pass each test of a component, with r and with c.
-fn bid_lines(unit: &Unit, component: u8, r: i64, c: i64, time_sum: i64) -> Vec<i64> {
-    match component {
+fn bid_lines(unit: &Unit, component: Component, r: i64, c: i64, time_sum: i64) -> Vec<i64> {
+    match component.0 {
         0 | 1 => {
             let mut lines = vec![
                 2_499,

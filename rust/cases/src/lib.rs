@@ -1,7 +1,6 @@
 //! Cases for tests and benchmarks of the Attachment H settlement.
 //!
 //! - [`case`]: a case as typed records, and its bytes.
-//! - [`row`]: a row of the rows buffer, read back.
 //! - [`generator`]: random cases that break nothing, and random bytes.
 //! - [`growth`]: the cases that the benchmark times in turn, by their number of events.
 //! - [`faults`]: faults of every number, as functions on bytes.
@@ -13,11 +12,10 @@ pub mod faults;
 pub mod generator;
 pub mod growth;
 pub mod random;
-pub mod row;
 pub mod worse;
 
+pub use attachment_h::{Component, Kind, Market, Row};
 pub use case::{Case, Conduct, Event, Input, Past, Reference, Unit};
 pub use generator::{Generated, Size, Wanted};
 pub use random::Random;
-pub use row::Row;
 pub use worse::Change;

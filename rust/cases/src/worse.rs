@@ -1,5 +1,7 @@
 //! Worse conduct: the changes of demand 3, as functions on the bytes of a file.
 
+use attachment_h::{Component, Kind, Market};
+
 use crate::case::{
     CELL_BYTES, EVENT_BYTES, EVENT_HEAD_BYTES, PAST_BYTES, Past, UNIT_BYTES, put_u32,
     section_place, u16_at, u32_at,
@@ -117,7 +119,7 @@ pub fn random_change(file: &[u8], random: &mut Random) -> Option<Change> {
             }
         }
         4 => {
-            let (low, high) = bid_limits(component);
+            let (low, high) = bid_limits(Component(component));
             let old = i64::from(old.cast_signed());
             let step = match random.below(4) {
                 0 => 1,
@@ -178,18 +180,18 @@ fn random_entry(file: &[u8], random: &mut Random) -> Option<Change> {
         u16_at(file, units_offset + UNIT_BYTES * random.below(units) + 2)
     };
     let kind = if random.chance(1, 100) {
-        2
+        Kind::DISPATCH
     } else {
-        random.pick(&[1, 3])
+        random.pick(&[Kind::WITHHELD, Kind::FUEL])
     };
     let entry = Past {
         group,
         kind,
-        market: if random.chance(1, 3) {
+        market: Market(if random.chance(1, 3) {
             1 - market.min(1)
         } else {
             market
-        },
+        }),
         period: (period - random.between(-1, 3)).clamp(0, 65_535) as u16,
         day: (day - random.pick(&[-1, 0, 1, 90, 182, 183, 184])).clamp(0, 1_000_000) as u32,
     };

@@ -2,7 +2,7 @@
 
 use cases::case::{LARGEST_FILE, ROW_BYTES};
 use cases::generator::{any_case, case, random_bytes};
-use cases::{Random, Row, Size, Wanted};
+use cases::{Component, Kind, Market, Random, Row, Size, Wanted};
 use second::{Outcome, listing, refusal, settle};
 
 #[test]
@@ -98,13 +98,16 @@ fn listings_say_what_the_rows_say() {
         };
         let mut expected = String::new();
         for (place, event) in generated.case.events.iter().enumerate() {
-            let row = Row::read(&buffer, place);
+            let row = Row::of(&buffer, place);
             // Without a correction c = r, so the make-up column is 0.
-            assert_eq!(row.make_up, 0);
-            let (day, kind, market, unit, component) = event.order();
-            let (flags, mitigated) = (row.flags, row.mitigated);
+            assert_eq!(row.make_up.0, 0);
+            let (day, Kind(kind), Market(market), unit, Component(component)) = event.order();
+            let (flags, mitigated) = (row.flags.0, row.mitigated.0);
             expected += &format!("{day} {kind} {unit} {market} {component} {flags} {mitigated}");
-            expected += &format!(" {} {} {}\n", row.multiplier, row.penalty, row.make_up);
+            expected += &format!(
+                " {} {} {}\n",
+                row.multiplier.0, row.penalty.0, row.make_up.0
+            );
         }
         expected += &format!("total {penalties} {make_ups}\n");
         assert_eq!(listing(&input.file), expected);

@@ -3,9 +3,8 @@
 
 use std::collections::{BTreeMap, BTreeSet, HashMap};
 
-use cases::case::{DAY_AHEAD, REAL_TIME};
 use cases::generator::{any_case, case};
-use cases::{Conduct, Generated, Random, Row, Size, Unit, Wanted};
+use cases::{Component, Conduct, Generated, Kind, Market, Random, Row, Size, Unit, Wanted};
 use second::{Outcome, fuel_party_days, settle};
 
 /// Counts by what was reached.
@@ -40,7 +39,7 @@ fn unit_of(generated: &Generated, number: u16) -> &Unit {
 }
 
 /// By (kind, day, market, group): the number of events and the sum of a in each hour.
-type PartyDaySums = HashMap<(u8, u32, u8, u16), (usize, [i64; 24])>;
+type PartyDaySums = HashMap<(Kind, u32, Market, u16), (usize, [i64; 24])>;
 
 /// The sums of a over kind 1 and kind 2 events.
 fn sums(generated: &Generated) -> PartyDaySums {
@@ -67,16 +66,14 @@ fn reach(reached: &mut Reached, generated: &Generated) {
     let mut buffer = vec![0; input.rows_len];
     let outcome = settle(&input.file, &input.correction, &mut buffer);
     assert!(matches!(outcome, Outcome::Settled { .. }));
-    let rows: Vec<Row> = (0..generated.case.events.len())
-        .map(|place| Row::read(&buffer, place))
-        .collect();
-    let references: HashMap<(u16, u8), i64> = generated
+    let rows = Row::first(&buffer, generated.case.events.len());
+    let references: HashMap<(u16, Component), i64> = generated
         .case
         .references
         .iter()
         .map(|entry| ((entry.unit, entry.component), i64::from(entry.value)))
         .collect();
-    let corrections: HashMap<(u16, u8), i64> = generated
+    let corrections: HashMap<(u16, Component), i64> = generated
         .correction
         .iter()
         .map(|entry| ((entry.unit, entry.component), i64::from(entry.value)))
@@ -111,12 +108,12 @@ fn reach(reached: &mut Reached, generated: &Generated) {
     reached.add_if(generated.case.events.is_empty(), "no events");
 
     let sums = sums(generated);
-    let mut time_sums: HashMap<(u16, u32, u8), [i64; 24]> = HashMap::new();
+    let mut time_sums: HashMap<(u16, u32, Market), [i64; 24]> = HashMap::new();
     for event in &generated.case.events {
         if let Conduct::Bids {
             component, hours, ..
         } = &event.conduct
-            && (4..=6).contains(component)
+            && component.is_time()
         {
             let r = references[&(event.unit, *component)];
             let sum = time_sums
@@ -130,13 +127,13 @@ fn reach(reached: &mut Reached, generated: &Generated) {
 
     for (event, row) in generated.case.events.iter().zip(&rows) {
         let unit = unit_of(generated, event.unit);
-        let kind = event.kind();
-        let (events, sum) = &sums[&(kind, event.day, event.market, unit.group)];
-        let market = ["Day-Ahead", "Real-Time"][usize::from(event.market)];
+        let (events, sum) = &sums[&(event.kind(), event.day, event.market, unit.group)];
+        let Kind(kind) = event.kind();
+        let market = ["Day-Ahead", "Real-Time"][usize::from(event.market.0)];
         reached.add(format!("kind {kind} {market}"));
         reached.add_if(*events > 1, &format!("kind {kind}: shared party-day"));
-        reached.add_if(row.flags != 0, &format!("kind {kind}: flagged"));
-        reached.add_if(row.flags == 0, &format!("kind {kind}: not flagged"));
+        reached.add_if(row.flags.0 != 0, &format!("kind {kind}: flagged"));
+        reached.add_if(row.flags.0 == 0, &format!("kind {kind}: not flagged"));
         let (p, impact) = match event.conduct {
             Conduct::Withheld {
                 shadow_price,
@@ -163,7 +160,7 @@ fn reach(reached: &mut Reached, generated: &Generated) {
                     .sum();
                 for hour in 0..24 {
                     let a = i64::from(hours[hour].withheld);
-                    let flagged = row.flags >> hour & 1 == 1;
+                    let flagged = row.flags.0 >> hour & 1 == 1;
                     reached.line(a, i64::from(unit.capability) / 10, "withheld, 10 × a");
                     reached.line(sum[hour], g / 20, "withheld, 20 × S");
                     if tight(hour) {
@@ -179,16 +176,16 @@ fn reach(reached: &mut Reached, generated: &Generated) {
                         "withheld: negative price in a flagged hour",
                     );
                 }
-                reached.add(format!("withheld: multiplier {}", row.multiplier));
-                reached.add_if(impact == 1 && row.flags == 0, "withheld: impact, no flag");
-                reached.add_if(impact == 0 && row.flags != 0, "withheld: flag, no impact");
+                reached.add(format!("withheld: multiplier {}", row.multiplier.0));
+                reached.add_if(impact == 1 && row.flags.0 == 0, "withheld: impact, no flag");
+                reached.add_if(impact == 0 && row.flags.0 != 0, "withheld: flag, no impact");
                 reached.add_if(row.n3 >= 4 && row.n2 < 4, "withheld: N3 4, N2 below");
                 reached.add_if(row.n3 == 3, "withheld: N3 3");
                 reached.add_if(row.n2 == 4, "withheld: N2 4");
                 reached.add_if(row.n2 == 3, "withheld: N2 3");
                 if row.n3 > 0 {
                     for entry in &generated.case.past {
-                        if entry.kind == 1
+                        if entry.kind == Kind::WITHHELD
                             && entry.group == unit.group
                             && entry.market == event.market
                         {
@@ -229,25 +226,28 @@ fn reach(reached: &mut Reached, generated: &Generated) {
                         reached.line(a, 1_000, "dispatch, a");
                         reached.line(sum[hour], 2_000, "dispatch, S");
                     }
-                    let flagged = row.flags >> hour & 1 == 1;
+                    let flagged = row.flags.0 >> hour & 1 == 1;
                     reached.add_if(flagged && a == 0, "dispatch: flagged with a = 0");
                 }
-                reached.add(format!("dispatch: multiplier {}", row.multiplier));
-                reached.add_if(row.penalty > 0, "dispatch: penalty");
+                reached.add(format!("dispatch: multiplier {}", row.multiplier.0));
+                reached.add_if(row.penalty.0 > 0, "dispatch: penalty");
             }
             Conduct::Fuel { .. } => {
-                reached.add(format!("fuel: multiplier {}", row.multiplier));
-                reached.add_if(row.penalty > 0 && row.flags == 0, "fuel: penalty, no flag");
-                reached.add_if(row.penalty > 0, "fuel: penalty");
+                reached.add(format!("fuel: multiplier {}", row.multiplier.0));
                 reached.add_if(
-                    row.multiplier > 0 && row.penalty == 0,
+                    row.penalty.0 > 0 && row.flags.0 == 0,
+                    "fuel: penalty, no flag",
+                );
+                reached.add_if(row.penalty.0 > 0, "fuel: penalty");
+                reached.add_if(
+                    row.multiplier.0 > 0 && row.penalty.0 == 0,
                     "fuel: M, no penalty",
                 );
-                if row.multiplier == 0 {
+                if row.multiplier.0 == 0 {
                     continue;
                 }
                 for entry in &generated.case.past {
-                    if entry.kind == 3 && entry.group == unit.group {
+                    if entry.kind == Kind::FUEL && entry.group == unit.group {
                         let before = i64::from(event.day) - i64::from(entry.day);
                         reached.add_if(
                             [-1, 0, 1, 183, 184].contains(&before),
@@ -256,13 +256,13 @@ fn reach(reached: &mut Reached, generated: &Generated) {
                     }
                 }
                 for (other, other_row) in generated.case.events.iter().zip(&rows) {
-                    if other.kind() == 3
-                        && other_row.multiplier > 0
+                    if other.kind() == Kind::FUEL
+                        && other_row.multiplier.0 > 0
                         && unit_of(generated, other.unit).group == unit.group
                         && (other.day, other.market) != (event.day, event.market)
                     {
                         let before = i64::from(event.day) - i64::from(other.day);
-                        let what = if other_row.penalty > 0 {
+                        let what = if other_row.penalty.0 > 0 {
                             "penalty"
                         } else {
                             "cut penalty"
@@ -281,19 +281,19 @@ fn reach(reached: &mut Reached, generated: &Generated) {
                 minimum_run_hours,
                 ..
             } => {
-                let component = *component;
-                let key = (event.unit, component);
+                let key = (event.unit, *component);
+                let Component(component) = *component;
                 let r = references[&key];
                 let c = corrections.get(&key).copied().unwrap_or(r);
                 let name = format!("component {component}");
                 reached.add(format!("{name} {market}"));
-                reached.add_if(row.flags != 0, &format!("{name}: flagged"));
-                reached.add_if(row.mitigated != 0, &format!("{name}: mitigated"));
+                reached.add_if(row.flags.0 != 0, &format!("{name}: flagged"));
+                reached.add_if(row.mitigated.0 != 0, &format!("{name}: mitigated"));
                 for hour in 0..24 {
                     let a = i64::from(hours[hour].bid);
                     let d = a - r;
-                    let flagged = row.flags >> hour & 1 == 1;
-                    let mitigated = row.mitigated >> hour & 1 == 1;
+                    let flagged = row.flags.0 >> hour & 1 == 1;
+                    let mitigated = row.mitigated.0 >> hour & 1 == 1;
                     match component {
                         0 | 1 => {
                             if a >= 2_500 && 3 * r < 10_000 {
@@ -305,7 +305,7 @@ fn reach(reached: &mut Reached, generated: &Generated) {
                             if d > (3 * r).min(10_000) && !tight(hour) {
                                 reached.line(a, 2_499, &format!("{name}, floor"));
                             }
-                            if event.market == REAL_TIME
+                            if event.market == Market::REAL_TIME
                                 && tight(hour)
                                 && unit.constrained_hours > 0
                             {
@@ -318,7 +318,7 @@ fn reach(reached: &mut Reached, generated: &Generated) {
                                 );
                             }
                             reached.add_if(
-                                event.market == REAL_TIME
+                                event.market == Market::REAL_TIME
                                     && tight(hour)
                                     && unit.constrained_hours == 0,
                                 &format!("{name}: tight, no Constrained Hours"),
@@ -364,12 +364,12 @@ fn reach(reached: &mut Reached, generated: &Generated) {
                         "bids: flagged without impact",
                     );
                 }
-                if component == 1 && event.market == DAY_AHEAD && row.mitigated != 0 {
-                    let first = row.mitigated.trailing_zeros();
-                    let last_hit = 31 - (row.flags & impact).leading_zeros();
-                    let last = 31 - row.mitigated.leading_zeros();
+                if component == 1 && event.market == Market::DAY_AHEAD && row.mitigated.0 != 0 {
+                    let first = row.mitigated.0.trailing_zeros();
+                    let last_hit = 31 - (row.flags.0 & impact).leading_zeros();
+                    let last = 31 - row.mitigated.0.leading_zeros();
                     reached.add_if(
-                        row.mitigated & !row.flags != 0,
+                        row.mitigated.0 & !row.flags.0 != 0,
                         "span: unflagged hours inside",
                     );
                     reached.add_if(last > last_hit && last < 23, "span: ends by R");
@@ -384,10 +384,10 @@ fn reach(reached: &mut Reached, generated: &Generated) {
                     );
                 }
                 if component == 0 {
-                    reached.add_if(row.make_up > 0, "make-up");
-                    reached.add_if(row.make_up > 0 && c < r, "make-up with c below r");
+                    reached.add_if(row.make_up.0 > 0, "make-up");
+                    reached.add_if(row.make_up.0 > 0 && c < r, "make-up with c below r");
                     reached.add_if(
-                        c != r && row.mitigated != 0 && row.make_up == 0,
+                        c != r && row.mitigated.0 != 0 && row.make_up.0 == 0,
                         "make-up of 0",
                     );
                 }
@@ -401,10 +401,10 @@ fn reach(reached: &mut Reached, generated: &Generated) {
         reached.add_if(day.t == 0, "fuel: T 0");
         for m in [2, 3] {
             let place = generated.case.events.iter().zip(&rows).any(|(event, row)| {
-                event.kind() == 3
-                    && (event.day, event.market) == (day.day, day.market)
+                event.kind() == Kind::FUEL
+                    && (event.day, event.market) == (day.day, Market(day.market))
                     && unit_of(generated, event.unit).group == day.group
-                    && row.multiplier == m
+                    && row.multiplier.0 == m
             });
             let x = i64::from(m) * day.e + 20 * day.t;
             if place {

@@ -1,10 +1,10 @@
 //! Demand 3 on the second implementation: worse conduct never lowers a flag, a multiplier, a
 //! penalty or the total of penalties.
 
-use cases::case::{DAY_AHEAD, REAL_TIME, ROW_BYTES, section_place, u32_at};
+use cases::case::{ROW_BYTES, section_place, u32_at};
 use cases::generator::case;
 use cases::worse::{Change, apply, is_worse, random_changes};
-use cases::{Case, Event, Past, Random, Row, Size, Unit, Wanted};
+use cases::{Case, Component, Event, Kind, Market, Past, Random, Row, Size, Unit, Wanted};
 use second::{Outcome, fuel_party_days, settle};
 
 /// The rows and the total of penalties, or None if the case is refused.
@@ -15,7 +15,7 @@ fn settled(file: &[u8], correction: &[u8], held: u8) -> Option<(Vec<Row>, u64)> 
         Outcome::Settled {
             rows, penalties, ..
         } => Some((
-            (0..rows).map(|place| Row::read(&buffer, place)).collect(),
+            (0..rows).map(|place| Row::of(&buffer, place)).collect(),
             penalties,
         )),
     }
@@ -26,9 +26,9 @@ fn keeps_demand_3(before: &(Vec<Row>, u64), after: &(Vec<Row>, u64)) -> bool {
     before.0.len() == after.0.len()
         && before.1 <= after.1
         && before.0.iter().zip(&after.0).all(|(before, after)| {
-            before.flags & !after.flags == 0
-                && before.multiplier <= after.multiplier
-                && before.penalty <= after.penalty
+            before.flags.0 & !after.flags.0 == 0
+                && before.multiplier.0 <= after.multiplier.0
+                && before.penalty.0 <= after.penalty.0
         })
 }
 
@@ -104,15 +104,21 @@ fn with_event(event: Event) -> Case {
 #[test]
 fn the_premise_is_needed() {
     // E −10,000,000 and T 2,000,000: 1,000,000 cents with M 2, 500,000 with M 3.
-    let event = Event::fuel(8_000, DAY_AHEAD, 12, (0, -1_000_000, 2_000_000), &[]);
+    let event = Event::fuel(
+        8_000,
+        Market::DAY_AHEAD,
+        12,
+        (0, -1_000_000, 2_000_000),
+        &[],
+    );
     let file = with_event(event).to_bytes();
     assert_eq!(fuel_party_days(&file, &[]).unwrap()[0].e, -10_000_000);
     let change = Change::PastEntry {
         place: 0,
         entry: Past {
             group: 7,
-            kind: 3,
-            market: REAL_TIME,
+            kind: Kind::FUEL,
+            market: Market::REAL_TIME,
             period: 0,
             day: 7_999,
         },
@@ -127,11 +133,12 @@ fn the_premise_is_needed() {
 fn demand_3_leaves_out_mitigated_hours() {
     // Hour 10 with R 8 is mitigated from 10 to 17; hour 5 failing too, from 5 to 12.
     let mut case = with_event(
-        Event::bids(8_000, DAY_AHEAD, 12, 1, 0, &[(10, 9_000, 0, 0)]).with_minimum_run_hours(8),
+        Event::bids(8_000, Market::DAY_AHEAD, 12, 1, 0, &[(10, 9_000, 0, 0)])
+            .with_minimum_run_hours(8),
     );
     case.references = vec![cases::Reference {
         unit: 12,
-        component: 1,
+        component: Component(1),
         value: 2_000,
     }];
     let file = case.to_bytes();
@@ -143,8 +150,8 @@ fn demand_3_leaves_out_mitigated_hours() {
     let before = settled(&file, &[], 0).unwrap();
     let after = settled(&apply(&file, &change).unwrap(), &[], 0).unwrap();
     assert!(keeps_demand_3(&before, &after));
-    assert_eq!(before.0[0].mitigated, 0b11_1111_1100_0000_0000);
-    assert_eq!(after.0[0].mitigated, 0b00_0001_1111_1110_0000);
+    assert_eq!(before.0[0].mitigated.0, 0b11_1111_1100_0000_0000);
+    assert_eq!(after.0[0].mitigated.0, 0b00_0001_1111_1110_0000);
 }
 
 #[test]
@@ -174,8 +181,8 @@ fn a_past_entry_moves_the_events() {
         let file = generated.case.to_bytes();
         let entry = Past {
             group: 3,
-            kind: 1,
-            market: 0,
+            kind: Kind::WITHHELD,
+            market: Market::DAY_AHEAD,
             period: 9,
             day: 77,
         };
@@ -194,7 +201,13 @@ fn a_past_entry_moves_the_events() {
 
 #[test]
 fn an_hour_change_is_made_against_what_stands_there() {
-    let file = with_event(Event::withheld(8_000, DAY_AHEAD, 12, &[(3, 500, 0)])).to_bytes();
+    let file = with_event(Event::withheld(
+        8_000,
+        Market::DAY_AHEAD,
+        12,
+        &[(3, 500, 0)],
+    ))
+    .to_bytes();
     let hour = |a| Change::Hour {
         event: 0,
         hour: 3,
@@ -203,11 +216,16 @@ fn an_hour_change_is_made_against_what_stands_there() {
     assert_eq!(apply(&file, &hour(500)), None);
     assert_eq!(apply(&file, &hour(499)), None);
     let once = apply(&file, &hour(501)).unwrap();
-    let expected = with_event(Event::withheld(8_000, DAY_AHEAD, 12, &[(3, 501, 0)]));
+    let expected = with_event(Event::withheld(
+        8_000,
+        Market::DAY_AHEAD,
+        12,
+        &[(3, 501, 0)],
+    ));
     assert_eq!(once, expected.to_bytes());
     assert_eq!(apply(&once, &hour(501)), None);
     assert!(apply(&once, &hour(502)).is_some());
     // A fuel event has no such change.
-    let fuel = with_event(Event::fuel(8_000, DAY_AHEAD, 12, (0, 0, 0), &[])).to_bytes();
+    let fuel = with_event(Event::fuel(8_000, Market::DAY_AHEAD, 12, (0, 0, 0), &[])).to_bytes();
     assert_eq!(apply(&fuel, &hour(1)), None);
 }

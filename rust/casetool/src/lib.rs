@@ -3,36 +3,17 @@
 //!
 //! Every figure comes from the proved library, `attachment_h`. This crate reads and writes text.
 
-pub mod amounts;
-pub mod arguments;
-pub mod blocks;
-pub mod calendar;
-mod commands;
-pub mod event;
-pub mod field;
-pub mod fields;
-pub mod files;
-pub mod help;
-pub mod hours;
-pub mod layout;
-pub mod needs;
-mod notes;
-pub mod output;
+pub mod command;
+pub mod format;
 pub mod place;
-pub mod refusal;
-pub mod row;
-pub mod text_line;
-mod text_needs;
-pub mod text_show;
-pub mod text_write;
-pub mod words;
-pub mod working;
+pub mod record;
+pub mod text;
 
 use std::ffi::OsString;
 use std::io::{Read, Write};
 
-use arguments::{Misuse, Request};
-use commands::{Done, Failure};
+use command::arguments::{self, Misuse, Request};
+use command::{Done, Failure, files, output};
 
 /// Runs casetool on its arguments without the name of the program; the exit status: 0 done, 1
 /// refused, unreadable or no text of a case, 2 misuse. A command that fails leaves no old file where
@@ -82,7 +63,7 @@ fn answered(
         Request::Help(topic) => text(topic.text()),
         Request::Version => text(&format!("casetool {}\n", env!("CARGO_PKG_VERSION"))),
         Request::Run(topic, given) => {
-            commands::run(topic, &given, input, output).map_err(|failure| match failure {
+            command::run(topic, &given, input, output).map_err(|failure| match failure {
                 Failure::Message(message) => (message, 1),
                 Failure::Misuse(problem) => misused(Misuse { problem, topic }),
             })

@@ -5,7 +5,7 @@ mod support;
 use std::io::{self, ErrorKind, Read, Write};
 use std::process::{Command, Stdio};
 
-use casetool::help::Topic;
+use casetool::command::help::Topic;
 use support::{casetool, file_with, repository, written};
 
 #[test]

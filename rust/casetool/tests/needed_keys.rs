@@ -3,7 +3,7 @@
 
 mod support;
 
-use casetool::text_write::case_file;
+use casetool::text::write::case_file;
 use support::{casetool, written};
 
 /// A text that has its needed keys alone, each with the line that it stands on.

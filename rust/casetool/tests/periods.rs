@@ -2,7 +2,7 @@
 
 mod support;
 
-use casetool::calendar::{date, day_of, period};
+use casetool::text::calendar::{date, day_of, period};
 use support::{casetool, file_with, written};
 
 #[test]

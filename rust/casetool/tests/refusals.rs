@@ -3,14 +3,14 @@
 
 mod support;
 
+use attachment_h::layout::Section;
 use attachment_h::{ROWS_LENGTH, Refused, check};
 use cases::Random;
 use cases::case::{Input, file_of, section_place, sections_of};
 use cases::faults::{FAULTS, Fault};
 use cases::generator::{Generated, Size, Wanted, case, random_bytes};
-use casetool::layout::Section;
+use casetool::place::refusal::describe;
 use casetool::place::{Part, Place, find};
-use casetool::refusal::{describe, meaning};
 
 /// Where the fields of a unit, a reference, a past entry and an event's head begin: docs/FORMAT.md.
 const FIELDS: [&[usize]; 4] = [
@@ -133,7 +133,11 @@ fn found(input: &Input) -> Option<(u8, Place)> {
         &input.correction,
         input.rows_len,
     );
-    let start = format!("refused {number}: {}\n{}", meaning(number), place.sentence);
+    let start = format!(
+        "refused {number}: {}\n{}",
+        Refused(number).meaning(),
+        place.sentence
+    );
     assert_eq!(text.trim_end(), start);
     Some((number, place))
 }
@@ -383,14 +387,4 @@ fn the_first_of_many_events_is_named() {
     }
     println!("{without_correct} cases without correct references");
     assert!(without_correct > 20);
-}
-
-#[test]
-fn every_number_has_a_meaning() {
-    let meanings: Vec<&str> = (1..=15).map(meaning).collect();
-    for (place, text) in meanings.iter().enumerate() {
-        assert!(!meanings[..place].contains(text));
-        assert!(!text.contains("no such number"));
-    }
-    assert_eq!(meaning(16), "no limit has this number");
 }

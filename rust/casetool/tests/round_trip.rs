@@ -3,13 +3,13 @@
 
 mod support;
 
+use attachment_h::layout::Sections;
 use cases::Random;
 use cases::case::{Input, file_of, section_place};
 use cases::faults::FAULTS;
 use cases::generator::{Generated, Size, Wanted, case, random_bytes};
-use casetool::layout::Sections;
-use casetool::text_show::{case_text, correction_text};
-use casetool::text_write::{case_file, correction};
+use casetool::text::show::{case_text, correction_text};
+use casetool::text::write::{case_file, correction};
 use support::{casetool, repository, written};
 
 /// Shows a file and writes it again, if it has sections to show; whether it has.

@@ -3,12 +3,13 @@
 
 mod support;
 
+use attachment_h::Cents;
 use cases::Random;
-use cases::Row;
 use cases::case::{Input, sections_of, u32_at};
 use cases::generator::any_case;
-use casetool::amounts::{Measure, dollars};
-use casetool::{calendar, hours};
+use cases::{Component, Kind, Row};
+use casetool::text::amounts::{Measure, dollars};
+use casetool::text::{calendar, hours};
 use support::{casetool, file_with, repository};
 
 fn example(name: &str) -> Vec<u8> {
@@ -122,7 +123,7 @@ fn bids_of(list: &str, component: u8) -> Vec<(u32, i32)> {
 
 fn mitigated_bids(row: &Row) -> Vec<(u32, i32)> {
     (0..24)
-        .filter(|hour| row.mitigated >> hour & 1 == 1)
+        .filter(|hour| row.mitigated.0 >> hour & 1 == 1)
         .map(|hour| (hour, row.bids[hour as usize]))
         .collect()
 }
@@ -142,7 +143,9 @@ fn restored(input: &Input, event: usize, row: &Row) -> u32 {
     let r = u32_at(reference, 4) as i32;
     let a = |hour: usize| u32_at(record, 24 + 12 * hour) as i32;
     (0..24)
-        .filter(|&hour| row.mitigated >> hour & 1 == 1 && row.bids[hour] == a(hour) && a(hour) > r)
+        .filter(|&hour| {
+            row.mitigated.0 >> hour & 1 == 1 && row.bids[hour] == a(hour) && a(hour) > r
+        })
         .fold(0, |mask, hour| mask | 1 << hour)
 }
 
@@ -182,19 +185,19 @@ fn generated_cases_beside_the_second_implementation() {
         let text = ran.text();
         assert_eq!(text.matches("\nUnit ").count(), generated.case.units.len());
         for (event, record) in generated.case.events.iter().enumerate() {
-            let row = Row::read(&rows, event);
+            let row = Row::of(&rows, event);
             let lines = paragraph(text, event);
             assert_eq!(
                 figure(&lines, "flagged hours").map(mask_of),
-                Some(row.flags)
+                Some(row.flags.0)
             );
-            let bids = record.kind() == 4;
-            let energy = bids && record.component() == 0;
-            assert!(energy || row.make_up == 0);
+            let bids = record.kind() == Kind::BIDS;
+            let energy = bids && record.component() == Component::ENERGY;
+            assert!(energy || row.make_up.0 == 0);
             let figures = [
-                ("mitigated hours", bids, u64::from(row.mitigated)),
-                ("penalty", !bids, row.penalty),
-                ("make-up", energy, row.make_up),
+                ("mitigated hours", bids, u64::from(row.mitigated.0)),
+                ("penalty", !bids, row.penalty.0),
+                ("make-up", energy, row.make_up.0),
             ];
             for (name, there, value) in figures {
                 let read = |text| match name {
@@ -204,10 +207,10 @@ fn generated_cases_beside_the_second_implementation() {
                 assert_eq!(figure(&lines, name).map(read), there.then_some(value));
             }
             let multiplier = figure(&lines, "multiplier").map(multiplier_of);
-            let expected = (u16::from(row.multiplier), row.n3, row.n2);
+            let expected = (u16::from(row.multiplier.0), row.n3, row.n2);
             assert_eq!(multiplier, (!bids).then_some(expected));
             if let Some(list) = figure(&lines, "bids in force") {
-                assert_eq!(bids_of(list, record.component()), mitigated_bids(&row));
+                assert_eq!(bids_of(list, record.component().0), mitigated_bids(&row));
                 mitigated += 1;
             }
             let expected = restored(&input, event, &row);
@@ -233,7 +236,7 @@ fn figures_in_words() {
         (100_000, "$1,000.00"),
         (u64::MAX, "$184,467,440,737,095,516.15"),
     ] {
-        assert_eq!(dollars(cents), text);
+        assert_eq!(dollars(Cents(cents)), text);
     }
     assert_eq!(Measure::Dollars.spoken(-123_456_789_i64), "-$1,234,567.89");
     assert_eq!(Measure::Minutes.spoken(1_000_i64), "1,000 minutes");

@@ -3,11 +3,11 @@
 
 mod support;
 
+use attachment_h::layout::Sections;
 use cases::Random;
 use cases::generator::{Size, Wanted, case, random_bytes};
-use casetool::layout::Sections;
-use casetool::text_show::case_text;
-use casetool::text_write::{Written, case_file, correction};
+use casetool::text::show::case_text;
+use casetool::text::write::{Written, case_file, correction};
 use support::casetool;
 
 const UNIT: &str = "unit 12 group 7 capability 500.0 MW";

@@ -291,7 +291,7 @@ fn generated_cases_beside_the_second_implementation() {
         second::settle(&input.file, &input.correction, &mut rows);
         let path = file_with("working.correction", &input.correction);
         for event in 0..rows.len() / 128 {
-            let row = Row::read(&rows, event);
+            let row = Row::of(&rows, event);
             let hour = random.below(24);
             let (event, hour_word) = (event.to_string(), hour.to_string());
             let mut arguments = vec!["working", "--event", &event, "--hour", &hour_word];
@@ -314,7 +314,7 @@ fn generated_cases_beside_the_second_implementation() {
                         .expect("a number")
                 })
                 .collect();
-            let is_flagged = row.flags >> hour & 1 == 1;
+            let is_flagged = row.flags.0 >> hour & 1 == 1;
             let expected = match exceeded.first() {
                 Some(step) => format!("Step {step} failed: hour {hour} is flagged"),
                 None => format!("No step is exceeded: hour {hour} is not flagged"),

@@ -2,14 +2,13 @@
 
 mod common;
 
-use cases::case::{DAY_AHEAD, REAL_TIME};
-use cases::{Case, Event, Unit};
+use cases::{Case, Event, Market, Unit};
 use common::{past_fuel, past_withheld, reference, rows_of, unit};
 use second::calls::{self, BidHour};
 
 /// Day-Ahead, not tight.
 const PLAIN: BidHour = BidHour {
-    market: DAY_AHEAD,
+    market: Market::DAY_AHEAD.0,
     tight: false,
     constrained_hours: 0,
     average_price: 0,
@@ -25,7 +24,7 @@ fn withheld_row(a: u32, b: i32) -> cases::Row {
                 ..unit(13, 7)
             },
         ],
-        events: vec![Event::withheld(8_000, DAY_AHEAD, 12, &[(0, a, b)])],
+        events: vec![Event::withheld(8_000, Market::DAY_AHEAD, 12, &[(0, a, b)])],
         ..Case::default()
     };
     rows_of(&case, &[]).remove(0)
@@ -41,8 +40,8 @@ fn withheld_500_of_5000_passes_and_501_fails() {
         calls::withheld_test(501, 5_000, 501, 20_000, false),
         Ok(true)
     );
-    assert_eq!(withheld_row(500, 4_005).flags, 0);
-    assert_eq!(withheld_row(501, 4_005).flags, 1);
+    assert_eq!(withheld_row(500, 4_005).flags.0, 0);
+    assert_eq!(withheld_row(501, 4_005).flags.0, 1);
 }
 
 #[test]
@@ -52,14 +51,14 @@ fn withheld_501_at_4005_is_200651() {
         calls::withheld_penalty_of_one_hour(2, 501, 4_005),
         Ok(200_651)
     );
-    assert_eq!(withheld_row(501, 4_005).penalty, 200_651);
+    assert_eq!(withheld_row(501, 4_005).penalty.0, 200_651);
 }
 
 #[test]
 fn negative_price_is_no_penalty() {
     assert_eq!(calls::withheld_penalty_of_one_hour(2, 501, -100), Ok(0));
     let row = withheld_row(501, -100);
-    assert_eq!((row.flags, row.multiplier, row.penalty), (1, 2, 0));
+    assert_eq!((row.flags.0, row.multiplier.0, row.penalty.0), (1, 2, 0));
 }
 
 #[test]
@@ -78,22 +77,24 @@ fn a_fourth_instance_is_counted_over_two_periods() {
     let mut case = Case {
         units: vec![unit(12, 7)],
         past: vec![
-            past_withheld(7, DAY_AHEAD, 42),
-            past_withheld(7, DAY_AHEAD, 44),
-            past_withheld(7, DAY_AHEAD, 44),
+            past_withheld(7, Market::DAY_AHEAD, 42),
+            past_withheld(7, Market::DAY_AHEAD, 44),
+            past_withheld(7, Market::DAY_AHEAD, 44),
         ],
-        events: vec![Event::withheld(8_000, DAY_AHEAD, 12, &[(0, 501, 4_000)]).in_period(44)],
+        events: vec![
+            Event::withheld(8_000, Market::DAY_AHEAD, 12, &[(0, 501, 4_000)]).in_period(44),
+        ],
         ..Case::default()
     };
     let row = rows_of(&case, &[]).remove(0);
-    assert_eq!((row.n3, row.n2, row.multiplier), (4, 3, 4));
+    assert_eq!((row.n3, row.n2, row.multiplier.0), (4, 3, 4));
     // 4 × 501 × 4,000 / 20
-    assert_eq!(row.penalty, 400_800);
+    assert_eq!(row.penalty.0, 400_800);
     // The first entry one period later: N2 4.
     case.past[0].period = 43;
     let row = rows_of(&case, &[]).remove(0);
-    assert_eq!((row.n3, row.n2, row.multiplier), (4, 4, 6));
-    assert_eq!(row.penalty, 601_200);
+    assert_eq!((row.n3, row.n2, row.multiplier.0), (4, 4, 6));
+    assert_eq!(row.penalty.0, 601_200);
 }
 
 #[test]
@@ -113,7 +114,7 @@ fn energy_bids_against_three_references_or_100_dollars() {
 #[test]
 fn constrained_hours_test_of_energy_bids() {
     let hour = BidHour {
-        market: REAL_TIME,
+        market: Market::REAL_TIME.0,
         tight: true,
         constrained_hours: 1_000,
         average_price: 5_000,
@@ -121,7 +122,7 @@ fn constrained_hours_test_of_energy_bids() {
     assert_eq!(calls::bid_test(0, hour, 2_000, 2_876), Ok(false));
     assert_eq!(calls::bid_test(0, hour, 2_000, 2_877), Ok(true));
     let day_ahead = BidHour {
-        market: DAY_AHEAD,
+        market: Market::DAY_AHEAD.0,
         ..hour
     };
     let not_tight = BidHour {
@@ -155,7 +156,7 @@ fn constrained_hours_test_in_a_case() {
             // Hour 2 has no Shadow Price.
             Event::bids(
                 8_000,
-                REAL_TIME,
+                Market::REAL_TIME,
                 12,
                 0,
                 0,
@@ -166,7 +167,7 @@ fn constrained_hours_test_in_a_case() {
         ..Case::default()
     };
     let row = rows_of(&case, &[]).remove(0);
-    assert_eq!(row.flags, 0b010);
+    assert_eq!(row.flags.0, 0b010);
     assert_eq!(row.bids[..3], [2_876, 2_000, 2_877]);
 }
 
@@ -192,7 +193,15 @@ fn time_increases() {
 #[test]
 fn time_increases_in_a_case() {
     let bids = |component, bid| {
-        Event::bids(8_000, DAY_AHEAD, 12, component, 0, &[(5, bid, 0, 0)]).with_impact(0)
+        Event::bids(
+            8_000,
+            Market::DAY_AHEAD,
+            12,
+            component,
+            0,
+            &[(5, bid, 0, 0)],
+        )
+        .with_impact(0)
     };
     let mut case = Case {
         units: vec![unit(12, 7)],
@@ -204,9 +213,9 @@ fn time_increases_in_a_case() {
         events: vec![bids(4, 180), bids(5, 180), bids(6, 180)],
         ..Case::default()
     };
-    assert!(rows_of(&case, &[]).iter().all(|row| row.flags == 0));
+    assert!(rows_of(&case, &[]).iter().all(|row| row.flags.0 == 0));
     case.events[0] = bids(4, 181);
-    assert!(rows_of(&case, &[]).iter().all(|row| row.flags == 1 << 5));
+    assert!(rows_of(&case, &[]).iter().all(|row| row.flags.0 == 1 << 5));
 }
 
 #[test]
@@ -255,19 +264,34 @@ fn fuel_penalties() {
 fn fuel_penalties_in_a_case() {
     let mut case = Case {
         units: vec![unit(12, 7)],
-        events: vec![Event::fuel(8_000, DAY_AHEAD, 12, (1, 499_999, 0), &[])],
+        events: vec![Event::fuel(
+            8_000,
+            Market::DAY_AHEAD,
+            12,
+            (1, 499_999, 0),
+            &[],
+        )],
         ..Case::default()
     };
     // E = 10 × 499,999 = 4,999,990.
     let row = rows_of(&case, &[]).remove(0);
-    assert_eq!((row.flags, row.multiplier, row.penalty), (1, 2, 0));
-    case.past = vec![past_fuel(7, REAL_TIME, 7_999)];
+    assert_eq!((row.flags.0, row.multiplier.0, row.penalty.0), (1, 2, 0));
+    case.past = vec![past_fuel(7, Market::REAL_TIME, 7_999)];
     let row = rows_of(&case, &[]).remove(0);
-    assert_eq!((row.multiplier, row.penalty), (3, 749_999));
+    assert_eq!((row.multiplier.0, row.penalty.0), (3, 749_999));
     case.past.clear();
-    case.events = vec![Event::fuel(8_000, DAY_AHEAD, 12, (0, 500_000, 0), &[])];
+    case.events = vec![Event::fuel(
+        8_000,
+        Market::DAY_AHEAD,
+        12,
+        (0, 500_000, 0),
+        &[],
+    )];
     let row = rows_of(&case, &[]).remove(0);
-    assert_eq!((row.flags, row.multiplier, row.penalty), (0, 2, 500_000));
+    assert_eq!(
+        (row.flags.0, row.multiplier.0, row.penalty.0),
+        (0, 2, 500_000)
+    );
 }
 
 #[test]
@@ -286,7 +310,7 @@ fn make_up_of_1000_at_a_difference_of_1000() {
         references: vec![reference(12, 0, 2_000)],
         events: vec![Event::bids(
             8_000,
-            DAY_AHEAD,
+            Market::DAY_AHEAD,
             12,
             0,
             0,
@@ -295,8 +319,8 @@ fn make_up_of_1000_at_a_difference_of_1000() {
         ..Case::default()
     };
     let row = rows_of(&case, &[reference(12, 0, 6_000)]).remove(0);
-    assert_eq!((row.mitigated, row.make_up), (1 << 3, 100_000));
-    assert_eq!(rows_of(&case, &[])[0].make_up, 0);
+    assert_eq!((row.mitigated.0, row.make_up.0), (1 << 3, 100_000));
+    assert_eq!(rows_of(&case, &[])[0].make_up.0, 0);
 }
 
 #[test]
@@ -309,11 +333,11 @@ fn fuel_days_183_before_count() {
     for (day, m) in [(7_817, 3), (7_816, 2), (8_000, 2), (7_999, 3), (8_001, 2)] {
         let case = Case {
             units: vec![unit(12, 7)],
-            past: vec![past_fuel(7, DAY_AHEAD, day)],
-            events: vec![Event::fuel(8_000, DAY_AHEAD, 12, (1, 0, 0), &[])],
+            past: vec![past_fuel(7, Market::DAY_AHEAD, day)],
+            events: vec![Event::fuel(8_000, Market::DAY_AHEAD, 12, (1, 0, 0), &[])],
             ..Case::default()
         };
-        assert_eq!(rows_of(&case, &[])[0].multiplier, m, "entry of day {day}");
+        assert_eq!(rows_of(&case, &[])[0].multiplier.0, m, "entry of day {day}");
     }
 }
 
@@ -321,27 +345,33 @@ fn fuel_days_183_before_count() {
 fn spans_of_minimum_generation() {
     let hours = |first: u32, last: u32| (first..=last).fold(0, |mask, hour| mask | 1 << hour);
     assert_eq!(
-        calls::mitigated_span(1, DAY_AHEAD, 1 << 10, 8),
+        calls::mitigated_span(1, Market::DAY_AHEAD.0, 1 << 10, 8),
         Ok(hours(10, 17))
     );
     assert_eq!(
-        calls::mitigated_span(1, DAY_AHEAD, 1 << 5 | 1 << 10, 8),
+        calls::mitigated_span(1, Market::DAY_AHEAD.0, 1 << 5 | 1 << 10, 8),
         Ok(hours(5, 12))
     );
     // The last hit is later than first + R − 1.
     assert_eq!(
-        calls::mitigated_span(1, DAY_AHEAD, 1 << 5 | 1 << 20, 8),
+        calls::mitigated_span(1, Market::DAY_AHEAD.0, 1 << 5 | 1 << 20, 8),
         Ok(hours(5, 20))
     );
     assert_eq!(
-        calls::mitigated_span(1, DAY_AHEAD, 1 << 20, 8),
+        calls::mitigated_span(1, Market::DAY_AHEAD.0, 1 << 20, 8),
         Ok(hours(20, 23))
     );
-    assert_eq!(calls::mitigated_span(1, DAY_AHEAD, 0, 24), Ok(0));
-    assert_eq!(calls::mitigated_span(1, DAY_AHEAD, 1, 0), Ok(1));
+    assert_eq!(calls::mitigated_span(1, Market::DAY_AHEAD.0, 0, 24), Ok(0));
+    assert_eq!(calls::mitigated_span(1, Market::DAY_AHEAD.0, 1, 0), Ok(1));
     // No span in Real-Time or for other components.
-    assert_eq!(calls::mitigated_span(1, REAL_TIME, 1 << 10, 8), Ok(1 << 10));
-    assert_eq!(calls::mitigated_span(3, DAY_AHEAD, 1 << 10, 8), Ok(1 << 10));
+    assert_eq!(
+        calls::mitigated_span(1, Market::REAL_TIME.0, 1 << 10, 8),
+        Ok(1 << 10)
+    );
+    assert_eq!(
+        calls::mitigated_span(3, Market::DAY_AHEAD.0, 1 << 10, 8),
+        Ok(1 << 10)
+    );
 }
 
 #[test]

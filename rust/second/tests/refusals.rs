@@ -2,8 +2,8 @@
 
 mod common;
 
-use cases::case::{DAY_AHEAD, REAL_TIME, ROW_BYTES, put_u32, section_place};
-use cases::{Case, Event, Past, Unit};
+use cases::case::{ROW_BYTES, put_u32, section_place};
+use cases::{Case, Component, Event, Kind, Market, Past, Unit};
 use common::{number, past_withheld, reference, unit};
 use second::calls::{self, BidHour};
 use second::{Outcome, listing, refusal, settle};
@@ -18,7 +18,9 @@ fn example() -> Case {
                 ..unit(13, 7)
             },
         ],
-        events: vec![Event::withheld(8_000, DAY_AHEAD, 12, &[(0, 501, 4_000)]).in_period(44)],
+        events: vec![
+            Event::withheld(8_000, Market::DAY_AHEAD, 12, &[(0, 501, 4_000)]).in_period(44),
+        ],
         ..Case::default()
     }
 }
@@ -27,9 +29,15 @@ fn example() -> Case {
 fn full() -> Case {
     let mut case = example();
     case.references = vec![reference(12, 0, 2_000)];
-    case.past = vec![past_withheld(7, DAY_AHEAD, 44)];
-    case.events
-        .push(Event::bids(8_000, DAY_AHEAD, 12, 0, 0, &[(0, 9_000, 0, 0)]));
+    case.past = vec![past_withheld(7, Market::DAY_AHEAD, 44)];
+    case.events.push(Event::bids(
+        8_000,
+        Market::DAY_AHEAD,
+        12,
+        0,
+        0,
+        &[(0, 9_000, 0, 0)],
+    ));
     case
 }
 
@@ -132,9 +140,9 @@ fn examples_of_the_table() {
     assert_eq!(number(&case, &[]), 12);
     // 13: 5,001 of 5,000
     let mut case = full();
-    case.events[0] = Event::withheld(8_000, DAY_AHEAD, 12, &[(0, 5_000, 0)]);
+    case.events[0] = Event::withheld(8_000, Market::DAY_AHEAD, 12, &[(0, 5_000, 0)]);
     assert_eq!(number(&case, &[]), 0);
-    case.events[0] = Event::withheld(8_000, DAY_AHEAD, 12, &[(0, 5_001, 0)]);
+    case.events[0] = Event::withheld(8_000, Market::DAY_AHEAD, 12, &[(0, 5_001, 0)]);
     assert_eq!(number(&case, &[]), 13);
     // 14: no references
     let mut case = full();
@@ -203,13 +211,13 @@ fn most_records() {
     assert_eq!(number(&units(64), &references(256)), 0);
     assert_eq!(number(&units(64), &references(257)), 8);
     let past = |count: usize| Case {
-        past: vec![past_withheld(3, DAY_AHEAD, 0); count],
+        past: vec![past_withheld(3, Market::DAY_AHEAD, 0); count],
         ..Case::default()
     };
     assert_eq!((number(&past(256), &[]), number(&past(257), &[])), (0, 5));
     let events = |count: u32| Case {
         events: (0..count)
-            .map(|day| Event::withheld(day, DAY_AHEAD, 0, &[]))
+            .map(|day| Event::withheld(day, Market::DAY_AHEAD, 0, &[]))
             .collect(),
         ..units(1)
     };
@@ -337,17 +345,38 @@ fn past_ranges() {
         case.past.push(past);
         number(&case, &[])
     };
-    let good = past_withheld(7, REAL_TIME, 65_535);
+    let good = past_withheld(7, Market::REAL_TIME, 65_535);
     assert_eq!(entry(good), 0);
     assert_eq!(entry(Past { group: 999, ..good }), 0);
     for kind in [0, 2, 4, 255] {
-        assert_eq!(entry(Past { kind, ..good }), 9);
+        assert_eq!(
+            entry(Past {
+                kind: Kind(kind),
+                ..good
+            }),
+            9
+        );
     }
-    assert_eq!(entry(Past { kind: 3, ..good }), 0);
-    assert_eq!(entry(Past { market: 2, ..good }), 9);
+    assert_eq!(
+        entry(Past {
+            kind: Kind::FUEL,
+            ..good
+        }),
+        0
+    );
+    assert_eq!(
+        entry(Past {
+            market: Market(2),
+            ..good
+        }),
+        9
+    );
     // A kind 1 entry's day is checked and not used; a kind 3 entry's period likewise.
     for kind in [1, 3] {
-        let good = Past { kind, ..good };
+        let good = Past {
+            kind: Kind(kind),
+            ..good
+        };
         assert_eq!(
             entry(Past {
                 day: 1_000_000,
@@ -398,14 +427,14 @@ fn of_event_with_byte(event: Event, at: usize, value: u8) -> u8 {
 #[test]
 fn event_ranges_of_every_kind() {
     let kinds = [
-        Event::withheld(0, REAL_TIME, 12, &[]).with_impact(0),
+        Event::withheld(0, Market::REAL_TIME, 12, &[]).with_impact(0),
         Event::dispatch(0, 12, &[]).with_impact(0),
-        Event::fuel(0, REAL_TIME, 12, (0, 0, 0), &[]),
-        Event::bids(0, REAL_TIME, 12, 0, 0, &[]),
+        Event::fuel(0, Market::REAL_TIME, 12, (0, 0, 0), &[]),
+        Event::bids(0, Market::REAL_TIME, 12, 0, 0, &[]),
     ];
     for event in kinds {
         assert_eq!(of_event(event), 0);
-        let kind = event.kind();
+        let Kind(kind) = event.kind();
         assert_eq!(of_event_with_byte(event, 0, 0), 10, "kind 0");
         assert_eq!(of_event_with_byte(event, 0, 5), 10, "kind 5");
         assert_eq!(of_event_with_byte(event, 1, 2), 10, "market 2");
@@ -491,14 +520,14 @@ fn money_and_quantity_ranges() {
         (-1_000_001, 10),
     ] {
         assert_eq!(
-            of_event(Event::withheld(0, DAY_AHEAD, 12, &[(23, 0, price)])),
+            of_event(Event::withheld(0, Market::DAY_AHEAD, 12, &[(23, 0, price)])),
             expected
         );
-        let fuel = Event::fuel(0, DAY_AHEAD, 12, (0, 0, 0), &[(23, 0, price)]);
+        let fuel = Event::fuel(0, Market::DAY_AHEAD, 12, (0, 0, 0), &[(23, 0, price)]);
         assert_eq!(of_event(fuel), expected);
         // b of kind 4 is checked for every component.
         for component in 0..9 {
-            let bids = Event::bids(0, DAY_AHEAD, 12, component, 0, &[(23, 0, price, 0)]);
+            let bids = Event::bids(0, Market::DAY_AHEAD, 12, component, 0, &[(23, 0, price, 0)]);
             assert_eq!(of_event(bids), expected);
         }
     }
@@ -509,10 +538,17 @@ fn money_and_quantity_ranges() {
         );
     }
     for (quantity, expected) in [(50_000, 0), (50_001, 10), (u32::MAX, 10)] {
-        let fuel = Event::fuel(0, DAY_AHEAD, 12, (0, 0, 0), &[(0, quantity, 0)]);
+        let fuel = Event::fuel(0, Market::DAY_AHEAD, 12, (0, 0, 0), &[(0, quantity, 0)]);
         assert_eq!(of_event(fuel), expected);
         for component in 0..9 {
-            let bids = Event::bids(0, REAL_TIME, 12, component, 0, &[(0, 0, 0, quantity)]);
+            let bids = Event::bids(
+                0,
+                Market::REAL_TIME,
+                12,
+                component,
+                0,
+                &[(0, 0, 0, quantity)],
+            );
             assert_eq!(of_event(bids), expected);
         }
     }
@@ -523,14 +559,20 @@ fn money_and_quantity_ranges() {
         (-1_000_000_001, 10),
         (i32::MIN, 10),
     ] {
-        let q = Event::fuel(0, REAL_TIME, 12, (0, change, 0), &[]);
+        let q = Event::fuel(0, Market::REAL_TIME, 12, (0, change, 0), &[]);
         assert_eq!(of_event(q), expected);
-        let r = Event::fuel(0, DAY_AHEAD, 12, (0, 0, change), &[]);
+        let r = Event::fuel(0, Market::DAY_AHEAD, 12, (0, 0, change), &[]);
         assert_eq!(of_event(r), expected);
     }
     // R is 0 in Real-Time.
-    assert_eq!(of_event(Event::fuel(0, REAL_TIME, 12, (0, 0, -1), &[])), 10);
-    assert_eq!(of_event(Event::fuel(0, REAL_TIME, 12, (0, 0, 1), &[])), 10);
+    assert_eq!(
+        of_event(Event::fuel(0, Market::REAL_TIME, 12, (0, 0, -1), &[])),
+        10
+    );
+    assert_eq!(
+        of_event(Event::fuel(0, Market::REAL_TIME, 12, (0, 0, 1), &[])),
+        10
+    );
 }
 
 #[test]
@@ -539,7 +581,7 @@ fn bid_ranges() {
         let bid = |bid| {
             of_event(Event::bids(
                 0,
-                DAY_AHEAD,
+                Market::DAY_AHEAD,
                 12,
                 component,
                 0,
@@ -556,7 +598,7 @@ fn bid_ranges() {
             [0, 10, 0, 10],
             "component {component}"
         );
-        for market in [DAY_AHEAD, REAL_TIME] {
+        for market in [Market::DAY_AHEAD, Market::REAL_TIME] {
             for (run, expected) in [(0, 0), (24, 0), (25, 10), (u32::MAX, 10)] {
                 let event = Event::bids(0, market, 12, component, 0, &[]);
                 assert_eq!(of_event(event.with_minimum_run_hours(run)), expected);
@@ -567,14 +609,14 @@ fn bid_ranges() {
 
 #[test]
 fn withheld_mw_has_no_limit_of_its_own_in_10() {
-    let largest = Event::withheld(8_000, DAY_AHEAD, 12, &[(0, u32::MAX, 0)]);
+    let largest = Event::withheld(8_000, Market::DAY_AHEAD, 12, &[(0, u32::MAX, 0)]);
     assert_eq!(of_event(largest), 13);
     assert_eq!(of_event(Event::dispatch(0, 12, &[(0, u32::MAX, 0)])), 13);
     // 11 and 12 come before.
     let mut case = full();
     case.events = vec![largest, largest];
     assert_eq!(number(&case, &[]), 11);
-    case.events = vec![largest, Event::withheld(8_000, DAY_AHEAD, 99, &[])];
+    case.events = vec![largest, Event::withheld(8_000, Market::DAY_AHEAD, 99, &[])];
     assert_eq!(number(&case, &[]), 12);
 }
 
@@ -587,27 +629,27 @@ fn each_number_over_everything_before_the_next() {
     assert_eq!(number(&case, &[]), 10);
     // 13 in the first event, 12 in the second: 12.
     case.events = vec![
-        Event::withheld(0, DAY_AHEAD, 12, &[(0, 5_001, 0)]),
-        Event::withheld(1, DAY_AHEAD, 99, &[]),
+        Event::withheld(0, Market::DAY_AHEAD, 12, &[(0, 5_001, 0)]),
+        Event::withheld(1, Market::DAY_AHEAD, 99, &[]),
     ];
     assert_eq!(number(&case, &[]), 12);
     // 12 in the first event, 11 later: 11.
     case.events = vec![
-        Event::withheld(1, DAY_AHEAD, 99, &[]),
-        Event::withheld(0, DAY_AHEAD, 12, &[]),
+        Event::withheld(1, Market::DAY_AHEAD, 99, &[]),
+        Event::withheld(0, Market::DAY_AHEAD, 12, &[]),
     ];
     assert_eq!(number(&case, &[]), 11);
     // 14 in the first event, 13 in the second: 13.
     case.events = vec![
-        Event::bids(0, DAY_AHEAD, 12, 1, 0, &[]),
-        Event::withheld(1, DAY_AHEAD, 12, &[(0, 5_001, 0)]),
+        Event::bids(0, Market::DAY_AHEAD, 12, 1, 0, &[]),
+        Event::withheld(1, Market::DAY_AHEAD, 12, &[(0, 5_001, 0)]),
     ];
     assert_eq!(number(&case, &[]), 13);
     // 8 comes before 9, and 7 before 8.
     let mut case = full();
-    case.past[0].kind = 2;
+    case.past[0].kind = Kind(2);
     assert_eq!(number(&case, &[reference(12, 9, 0)]), 8);
-    case.references[0].component = 9;
+    case.references[0].component = Component(9);
     assert_eq!(number(&case, &[reference(12, 9, 0)]), 7);
     // 5 of the events comes before 6 of the units; 15 is last.
     let mut case = full();
@@ -615,7 +657,7 @@ fn each_number_over_everything_before_the_next() {
     assert_eq!(refusal(&case.to_bytes(), &[], 0), 14);
     case.units[0].area = 2;
     assert_eq!(refusal(&case.to_bytes(), &[], 0), 6);
-    case.past = vec![past_withheld(0, 0, 0); 257];
+    case.past = vec![past_withheld(0, Market::DAY_AHEAD, 0); 257];
     assert_eq!(refusal(&case.to_bytes(), &[], 0), 5);
 }
 
@@ -626,7 +668,7 @@ fn missing_references() {
         references: (0..9)
             .map(|component| reference(12, component, 1))
             .collect(),
-        events: vec![Event::bids(0, DAY_AHEAD, 12, component, 0, &[]).with_impact(0)],
+        events: vec![Event::bids(0, Market::DAY_AHEAD, 12, component, 0, &[]).with_impact(0)],
         ..Case::default()
     };
     for component in 0..9_u8 {
@@ -644,29 +686,29 @@ fn missing_references() {
         let mut without = case.clone();
         without
             .references
-            .retain(|reference| reference.component != component);
+            .retain(|reference| reference.component.0 != component);
         assert_eq!(number(&without, &[reference(12, component, 1)]), 14);
     }
 }
 
 #[test]
 fn event_order_by_each_field() {
-    let base = Event::bids(5, REAL_TIME, 12, 3, 0, &[]);
-    let withheld = Event::withheld(5, REAL_TIME, 13, &[]);
+    let base = Event::bids(5, Market::REAL_TIME, 12, 3, 0, &[]);
+    let withheld = Event::withheld(5, Market::REAL_TIME, 13, &[]);
     let rising = [
         // A smaller day outweighs every later field.
         (Event { day: 4, ..base }, withheld),
         (withheld, base),
         (
             Event {
-                market: DAY_AHEAD,
+                market: Market::DAY_AHEAD,
                 unit: 13,
                 ..base
             },
             base,
         ),
-        (base, Event::bids(5, REAL_TIME, 13, 0, 0, &[])),
-        (Event::bids(5, REAL_TIME, 12, 2, 0, &[]), base),
+        (base, Event::bids(5, Market::REAL_TIME, 13, 0, 0, &[])),
+        (Event::bids(5, Market::REAL_TIME, 12, 2, 0, &[]), base),
     ];
     for (first, second) in rising {
         let mut case = Case {
@@ -693,7 +735,7 @@ fn event_order_by_each_field() {
 #[test]
 fn refusals_of_the_smaller_calls() {
     let hour = BidHour {
-        market: REAL_TIME,
+        market: Market::REAL_TIME.0,
         tight: true,
         constrained_hours: 8_784,
         average_price: 1_000_000,

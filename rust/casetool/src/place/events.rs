@@ -1,11 +1,14 @@
 //! Numbers 10 to 15: the events, and the rows that they need.
 
 use super::{Part, Place, broken_field, field_sentence, value_words};
-use crate::amounts;
-use crate::event::Event;
-use crate::fields;
-use crate::layout::{CELL_BYTES, CELLS_AT, HOURS, Section, Sections, cell, u16_at, u32_at};
-use crate::words;
+use crate::record::event::Event;
+use crate::record::fields;
+use crate::text::amounts;
+use crate::text::words;
+use attachment_h::layout::{
+    CELL_BYTES, EVENT_HEAD_BYTES, HOURS, ROW_BYTES, Section, Sections, cell, u16_at, u32_at,
+};
+use attachment_h::{Component, Kind};
 
 /// The events of a case with their numbers.
 fn events<'a>(sections: &Sections<'a>) -> impl Iterator<Item = (usize, Event<'a>)> {
@@ -41,7 +44,7 @@ fn in_hours(number: usize, event: &Event<'_>) -> Option<Place> {
         let cell = cell(event.record, hour);
         let field = broken_field(&fields, cell)?;
         let broken = format!(", hour {hour}: {}", field_sentence(&field, cell));
-        let at = CELLS_AT + CELL_BYTES * hour + field.at;
+        let at = EVENT_HEAD_BYTES + CELL_BYTES * hour + field.at;
         Some(place(number, at, event, &broken))
     })
 }
@@ -81,7 +84,7 @@ pub fn units(sections: &Sections<'_>) -> Option<Place> {
 /// Number 13: the first hour of kind 1 or 2 with an a above the capability.
 pub fn capability(sections: &Sections<'_>) -> Option<Place> {
     events(sections)
-        .filter(|(_, event)| matches!(event.kind, 1 | 2))
+        .filter(|(_, event)| matches!(event.kind, Kind::WITHHELD | Kind::DISPATCH))
         .find_map(|(number, event)| {
             let capability = u32_at(sections.unit(event.unit)?, 8);
             let hour = (0..HOURS).find(|&hour| u32_at(cell(event.record, hour), 0) > capability)?;
@@ -93,7 +96,7 @@ pub fn capability(sections: &Sections<'_>) -> Option<Place> {
                 value_words(a.form, value),
                 value_words(a.form, i64::from(capability))
             );
-            let at = CELLS_AT + CELL_BYTES * hour;
+            let at = EVENT_HEAD_BYTES + CELL_BYTES * hour;
             Some(place(number, at, &event, &above))
         })
 }
@@ -104,12 +107,14 @@ pub fn references(sections: &Sections<'_>, correction: &[u8]) -> Option<Place> {
     let listed = |references: &[u8], event: &Event<'_>| {
         references
             .chunks_exact(Section::References.record_bytes())
-            .any(|record| (u16_at(record, 0), record[2]) == (event.unit, event.component))
+            .any(|record| {
+                (u16_at(record, 0), Component(record[2])) == (event.unit, event.component)
+            })
     };
     events(sections)
-        .filter(|(_, event)| event.kind == 4)
+        .filter(|(_, event)| event.kind == Kind::BIDS)
         .find_map(|(number, event)| {
-            let reads_correct = matches!(event.component, 0 | 1 | 3) && !correction.is_empty();
+            let reads_correct = matches!(event.component.0, 0 | 1 | 3) && !correction.is_empty();
             let lacking = if !listed(own, &event) {
                 "the references have none"
             } else if reads_correct && !listed(correction, &event) {
@@ -126,12 +131,12 @@ pub fn references(sections: &Sections<'_>, correction: &[u8]) -> Option<Place> {
 /// Number 15: the rows buffer is too short for the events.
 pub fn rows(sections: &Sections<'_>, rows_length: usize) -> Option<Place> {
     let count = sections.count(Section::Events);
-    let needed = 128 * count;
+    let needed = ROW_BYTES * count;
     let sentence = format!(
         "the rows buffer: its length is {}; expected at least {} for {}",
         amounts::bytes(rows_length),
         amounts::number(needed as u64),
-        Section::Events.count(count)
+        words::count(Section::Events, count)
     );
     (rows_length < needed).then_some(Place {
         part: Part::Rows,

@@ -1,10 +1,11 @@
 //! Numbers 6 to 9: units, references, the correction and past entries.
 
 use super::{Part, Place, broken_field, field_sentence};
-use crate::amounts;
-use crate::fields;
-use crate::layout::{Section, Sections, u16_at};
-use crate::words;
+use crate::record::fields;
+use crate::text::amounts;
+use crate::text::words;
+use attachment_h::layout::{Section, Sections, u16_at};
+use attachment_h::{Component, Kind, Market};
 
 /// Number 6: the first unit with a field out of its limits, or out of order.
 pub fn units(sections: &Sections<'_>) -> Option<Place> {
@@ -92,7 +93,7 @@ fn in_references(
         let broken = in_reference(bytes, sections)
             .or_else(|| out_of_order(before.filter(|&before| before >= key)?, key));
         if let Some((at, broken)) = broken {
-            let component = words::component(key.1);
+            let component = words::component(Component(key.1));
             let sentence = format!(
                 "{name}, record {record} (unit {}, {component}): {broken}",
                 key.0
@@ -116,7 +117,7 @@ fn in_reference(bytes: &[u8], sections: &Sections<'_>) -> Option<(usize, String)
         let unlisted = format!("unit is {number}; no unit of this number is listed");
         return Some((0, unlisted));
     }
-    let field = broken_field(&fields::reference(bytes[2]), bytes)?;
+    let field = broken_field(&fields::reference(Component(bytes[2])), bytes)?;
     Some((field.at, field_sentence(&field, bytes)))
 }
 
@@ -126,7 +127,7 @@ fn out_of_order(before: (u16, u8), key: (u16, u8)) -> Option<(usize, String)> {
     let order = format!(
         "{field} is out of order after unit {}, {}; references have to rise strictly by unit and component",
         before.0,
-        words::component(before.1)
+        words::component(Component(before.1))
     );
     Some((at, order))
 }
@@ -141,8 +142,8 @@ pub fn past(sections: &Sections<'_>) -> Option<Place> {
             let sentence = format!(
                 "past, record {record} (group {}, {}, {}): {}",
                 u16_at(bytes, 0),
-                words::kind(bytes[2]),
-                words::market(bytes[3]),
+                words::kind(Kind(bytes[2])),
+                words::market(Market(bytes[3])),
                 field_sentence(&field, bytes)
             );
             Some(Place {

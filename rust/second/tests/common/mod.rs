@@ -3,7 +3,7 @@
 #![allow(dead_code)]
 
 use cases::case::{ROW_BYTES, correction_bytes};
-use cases::{Case, Past, Reference, Row, Unit};
+use cases::{Case, Component, Kind, Market, Past, Reference, Row, Unit};
 use second::{Outcome, refusal, settle};
 
 /// A unit of capability 5,000 and rate 1,000, outside a Constrained Area.
@@ -20,16 +20,16 @@ pub fn unit(unit: u16, group: u16) -> Unit {
 pub fn reference(unit: u16, component: u8, value: u32) -> Reference {
     Reference {
         unit,
-        component,
+        component: Component(component),
         value,
     }
 }
 
 /// A kind 1 past entry, whose day is of no account.
-pub fn past_withheld(group: u16, market: u8, period: u16) -> Past {
+pub fn past_withheld(group: u16, market: Market, period: u16) -> Past {
     Past {
         group,
-        kind: 1,
+        kind: Kind::WITHHELD,
         market,
         period,
         day: 0,
@@ -37,10 +37,10 @@ pub fn past_withheld(group: u16, market: u8, period: u16) -> Past {
 }
 
 /// A kind 3 past entry, whose period is of no account.
-pub fn past_fuel(group: u16, market: u8, day: u32) -> Past {
+pub fn past_fuel(group: u16, market: Market, day: u32) -> Past {
     Past {
         group,
-        kind: 3,
+        kind: Kind::FUEL,
         market,
         period: 0,
         day,
@@ -61,18 +61,18 @@ pub fn rows_of(case: &Case, correction: &[Reference]) -> Vec<Row> {
     let beyond = 77;
     let mut buffer = vec![0xA5; ROW_BYTES * case.events.len() + beyond];
     let outcome = settle(&case.to_bytes(), &correction_bytes(correction), &mut buffer);
-    let rows: Vec<Row> = (0..case.events.len())
-        .map(|place| Row::read(&buffer, place))
-        .collect();
+    let rows = Row::first(&buffer, case.events.len());
     assert_eq!(
         outcome,
         Outcome::Settled {
             rows: rows.len(),
-            penalties: rows.iter().map(|row| row.penalty).sum(),
-            make_ups: rows.iter().map(|row| row.make_up).sum(),
+            penalties: rows.iter().map(|row| row.penalty.0).sum(),
+            make_ups: rows.iter().map(|row| row.make_up.0).sum(),
         }
     );
-    assert!(rows.iter().all(|row| row.zeros == [0; 3]));
+    for row in buffer.chunks_exact(ROW_BYTES) {
+        assert_eq!([row[25], row[30], row[31]], [0; 3]);
+    }
     assert!(
         buffer[ROW_BYTES * rows.len()..]
             .iter()

@@ -1,9 +1,9 @@
 //! What the lines of a text need of each other: an event of its unit's line, and an event in a
 //! Constrained Area of its own. Units may stand after their events, so that this is looked at last.
 
-use crate::fields;
-use crate::needs::Shape;
-use crate::text_line::{TextError, Word};
+use crate::record::fields;
+use crate::record::needs::Shape;
+use crate::text::line::{TextError, Word};
 
 /// The line of a unit.
 pub struct UnitLine<'a> {

@@ -1,10 +1,10 @@
 //! A field of a record: where it stands, what docs/FORMAT.md calls it, how it stands in text, and its
 //! limits.
 
-use crate::amounts::Measure;
-use crate::calendar;
-use crate::hours;
-use crate::words::Names;
+use crate::text::amounts::Measure;
+use crate::text::calendar;
+use crate::text::hours;
+use crate::text::words::Names;
 
 /// How a field stands in text.
 #[derive(Clone, Copy, Debug, PartialEq, Eq)]

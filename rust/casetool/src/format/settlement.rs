@@ -2,17 +2,16 @@
 //!
 //! Every figure is one of the rows or of the result; none is worked out here.
 
-use attachment_h::Settled;
+use attachment_h::{Component, Kind, Mask, Row, Settled};
 
-use crate::amounts::dollars;
-use crate::calendar;
-use crate::event::Event;
-use crate::fields;
-use crate::hours;
-use crate::layout::{Section, Sections, u16_at};
-use crate::notes::{self, Correction};
-use crate::row::Row;
-use crate::words;
+use crate::format::notes::{self, Correction};
+use crate::record::event::Event;
+use crate::record::fields;
+use crate::text::amounts::dollars;
+use crate::text::calendar;
+use crate::text::hours;
+use crate::text::words;
+use attachment_h::layout::{Section, Sections, u16_at};
 
 /// A case that was settled.
 pub struct Settlement<'a> {
@@ -38,7 +37,7 @@ impl Settlement<'_> {
             text.push_str(&self.block(unit));
             text.push('\n');
         }
-        let count = Section::Events.count(settled.rows);
+        let count = words::count(Section::Events, settled.rows);
         text.push_str(&format!("Totals of {count}\n"));
         text.push_str(&line("penalties", &dollars(settled.penalties)));
         text.push_str(&line("make-ups", &dollars(settled.make_ups)));
@@ -72,14 +71,14 @@ impl Settlement<'_> {
             words::kind(event.kind),
             words::market(event.market)
         );
-        if event.kind == 4 {
+        if event.kind == Kind::BIDS {
             text.push_str(&format!(", {}", words::component(event.component)));
         }
         text.push('\n');
         let row = Row::of(self.rows, place);
-        text += &line("flagged hours", &hours::spoken(row.flags));
+        text += &line("flagged hours", &hours::spoken(row.flags.0));
         text + &match event.kind {
-            4 => self.bids(place, event, &row),
+            Kind::BIDS => self.bids(place, event, &row),
             _ => self.sanction(event, &row),
         }
     }
@@ -92,17 +91,17 @@ impl Settlement<'_> {
 
     /// The figures of bids. Energy alone can have a make-up.
     fn bids(&self, place: usize, event: &Event<'_>, row: &Row) -> String {
-        let mut text = line("mitigated hours", &hours::spoken(row.mitigated));
-        if row.mitigated != 0 {
+        let mut text = line("mitigated hours", &hours::spoken(row.mitigated.0));
+        if row.mitigated != Mask(0) {
             text += &line("bids in force", &bids_in_force(event.component, row));
         }
         let restored = self
             .correction
-            .map_or(0, |correction| correction.restored(place, event, row));
-        if restored != 0 {
+            .map_or(Mask(0), |correction| correction.restored(place, event, row));
+        if restored != Mask(0) {
             text += &line("restored", &notes::restored(restored));
         }
-        if event.component == 0 {
+        if event.component == Component::ENERGY {
             text += &line("make-up", &dollars(row.make_up));
         }
         text
@@ -110,13 +109,13 @@ impl Settlement<'_> {
 }
 
 /// The bids in force in the mitigated hours, neighbours that are alike together.
-fn bids_in_force(component: u8, row: &Row) -> String {
-    let [bid, _, _] = fields::cell(4, component);
+fn bids_in_force(component: Component, row: &Row) -> String {
+    let [bid, _, _] = fields::cell(Kind::BIDS, component);
     let mut runs: Vec<(u32, i32)> = Vec::new();
     for (hour, &value) in row.bids.iter().enumerate() {
         let bit = 1 << hour;
         match runs.last_mut() {
-            _ if row.mitigated & bit == 0 => {}
+            _ if row.mitigated.0 & bit == 0 => {}
             Some((mask, same)) if *same == value && *mask & bit >> 1 != 0 => *mask |= bit,
             _ => runs.push((bit, value)),
         }

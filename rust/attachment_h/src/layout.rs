@@ -1,15 +1,25 @@
-//! The case file as four sections of records: docs/FORMAT.md.
+//! The case file as four sections of records, and the widths of all that stands in it: docs/FORMAT.md.
 
 /// Bytes before the first section.
 pub const HEADER_BYTES: usize = 36;
 /// Bytes of the largest file.
 pub const LARGEST_FILE: usize = 65_000;
-/// Where the hour cells begin in an event.
-pub const CELLS_AT: usize = 24;
+/// Bytes of a unit.
+pub const UNIT_BYTES: usize = 24;
+/// Bytes of a reference, of the case or of a correction.
+pub const REFERENCE_BYTES: usize = 8;
+/// Bytes of a past entry.
+pub const PAST_BYTES: usize = 12;
+/// Bytes of an event.
+pub const EVENT_BYTES: usize = 312;
+/// Bytes of an event before its hour cells.
+pub const EVENT_HEAD_BYTES: usize = 24;
 /// Bytes of an hour cell.
 pub const CELL_BYTES: usize = 12;
 /// Hours of a day.
 pub const HOURS: usize = 24;
+/// Bytes of a row in the rows buffer.
+pub const ROW_BYTES: usize = 128;
 
 /// A section of the case file.
 #[derive(Clone, Copy, Debug, PartialEq, Eq)]
@@ -34,17 +44,17 @@ impl Section {
     ];
 
     /// Bytes of one record.
-    pub fn record_bytes(self) -> usize {
+    pub const fn record_bytes(self) -> usize {
         match self {
-            Section::Units => 24,
-            Section::References => 8,
-            Section::Past => 12,
-            Section::Events => 312,
+            Section::Units => UNIT_BYTES,
+            Section::References => REFERENCE_BYTES,
+            Section::Past => PAST_BYTES,
+            Section::Events => EVENT_BYTES,
         }
     }
 
     /// The most records that it may have.
-    pub fn most(self) -> usize {
+    pub const fn most(self) -> usize {
         match self {
             Section::Units => 64,
             Section::References | Section::Past => 256,
@@ -60,17 +70,6 @@ impl Section {
             Section::Past => "past",
             Section::Events => "events",
         }
-    }
-
-    /// So many of its records, in words.
-    pub fn count(self, records: usize) -> String {
-        let (one, many) = match self {
-            Section::Units => ("unit", "units"),
-            Section::References => ("reference", "references"),
-            Section::Past => ("past entry", "past entries"),
-            Section::Events => ("event", "events"),
-        };
-        format!("{records} {}", if records == 1 { one } else { many })
     }
 }
 
@@ -151,7 +150,7 @@ pub fn file_of(sections: &[Vec<u8>; 4]) -> Vec<u8> {
 
 /// The hour cell of an event.
 pub fn cell(event: &[u8], hour: usize) -> &[u8] {
-    let at = CELLS_AT + CELL_BYTES * hour;
+    let at = EVENT_HEAD_BYTES + CELL_BYTES * hour;
     &event[at..at + CELL_BYTES]
 }
 
@@ -168,4 +167,14 @@ pub fn u32_at(bytes: &[u8], at: usize) -> u32 {
 /// A little-endian u64.
 pub fn u64_at(bytes: &[u8], at: usize) -> u64 {
     u64::from(u32_at(bytes, at)) | u64::from(u32_at(bytes, at + 4)) << 32
+}
+
+/// Writes a little-endian u16.
+pub fn put_u16(bytes: &mut [u8], at: usize, value: u16) {
+    bytes[at..at + 2].copy_from_slice(&value.to_le_bytes());
+}
+
+/// Writes a little-endian u32.
+pub fn put_u32(bytes: &mut [u8], at: usize, value: u32) {
+    bytes[at..at + 4].copy_from_slice(&value.to_le_bytes());
 }

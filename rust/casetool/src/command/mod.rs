@@ -1,23 +1,26 @@
 //! The commands.
 
+pub mod arguments;
+pub mod files;
+pub mod help;
+pub mod output;
+
 use std::io::{Read, Write};
 
+use attachment_h::layout::{Section, Sections};
 use attachment_h::{ROWS_LENGTH, check, settle, working};
 
-use crate::amounts;
-use crate::arguments::Given;
-use crate::blocks::Settlement;
-use crate::event::Event;
-use crate::files;
-use crate::help::Topic;
-use crate::layout::{Section, Sections};
-use crate::notes::Correction;
-use crate::output;
+use arguments::Given;
+use help::Topic;
+
+use crate::format::notes::Correction;
+use crate::format::settlement::Settlement;
+use crate::format::working::Hour;
 use crate::place;
-use crate::refusal::describe;
-use crate::text_show;
-use crate::text_write;
-use crate::working::Hour;
+use crate::place::refusal::describe;
+use crate::record::event::Event;
+use crate::text::amounts;
+use crate::text::{show as text_show, words, write as text_write};
 
 /// Why a command has no answer.
 pub enum Failure {
@@ -178,7 +181,10 @@ fn checked(file: &[u8], correction: &[u8]) -> Answer {
     match check(file, correction, ROWS_LENGTH) {
         Ok(()) => {
             let events = Sections::of(file).map_or(0, |sections| sections.count(Section::Events));
-            Answer::done(format!("accepted, {}\n", Section::Events.count(events)))
+            Answer::done(format!(
+                "accepted, {}\n",
+                words::count(Section::Events, events)
+            ))
         }
         Err(refused) => Answer {
             bytes: describe(refused, file, correction, ROWS_LENGTH).into(),

@@ -1,11 +1,11 @@
 //! What stands beside the figures of a settlement in words: why there is no multiplier or no penalty,
 //! and what a correction changed. All of it is told from the rows.
 
-use crate::amounts::dollars;
-use crate::event::Event;
-use crate::hours;
-use crate::layout::{HOURS, Section, Sections, cell, u16_at, u32_at};
-use crate::row::Row;
+use crate::record::event::Event;
+use crate::text::amounts::{self, dollars};
+use crate::text::{hours, words};
+use attachment_h::layout::{HOURS, Section, Sections, cell, u16_at, u32_at};
+use attachment_h::{Kind, Market, Mask, Multiplier, Row};
 
 /// The correction that a case was settled with.
 pub struct Correction {
@@ -26,34 +26,37 @@ impl Correction {
                 name, references, ..
             }) => format!(
                 "Correction: {name}, {}\n",
-                Section::References.count(*references)
+                words::count(Section::References, *references)
             ),
         }
     }
 
     /// The hours in which the entered bid is in force and would not be without this correction.
-    pub fn restored(&self, place: usize, event: &Event<'_>, row: &Row) -> u32 {
+    pub fn restored(&self, place: usize, event: &Event<'_>, row: &Row) -> Mask {
         let without = Row::of(&self.rows_without, place);
         (0..HOURS)
             .filter(|&hour| {
                 let entered = u32_at(cell(event.record, hour), 0).cast_signed();
                 row.bids[hour] == entered && without.bids[hour] != entered
             })
-            .fold(0, |mask, hour| mask | 1 << hour)
+            .collect()
     }
 }
 
 /// A multiplier from its halves, with the instances behind it, or why there is none.
 pub fn multiplier(sections: &Sections<'_>, rows: &[u8], event: &Event<'_>, row: &Row) -> String {
-    let half = if row.multiplier % 2 == 1 { ".5" } else { "" };
     let without_impact = event.record[7] == 0;
-    let note = match (event.kind, row.multiplier) {
-        (1, 0) if row.flags == 0 => " (no instance: no hour is flagged)".to_string(),
-        (1, 0) => " (no instance: without impact)".to_string(),
-        (1, _) => format!(" (N3 {}, N2 {})", row.n3, row.n2),
-        (2, 0) if without_impact => " (without impact there is no penalty)".to_string(),
-        (2, 0) => " (no hour is flagged)".to_string(),
-        (3, 0) => match bearer(sections, rows, event) {
+    let note = match (event.kind, row.multiplier.0) {
+        (Kind::WITHHELD, 0) if row.flags == Mask(0) => {
+            " (no instance: no hour is flagged)".to_string()
+        }
+        (Kind::WITHHELD, 0) => " (no instance: without impact)".to_string(),
+        (Kind::WITHHELD, _) => format!(" (N3 {}, N2 {})", row.n3, row.n2),
+        (Kind::DISPATCH, 0) if without_impact => {
+            " (without impact there is no penalty)".to_string()
+        }
+        (Kind::DISPATCH, 0) => " (no hour is flagged)".to_string(),
+        (Kind::FUEL, 0) => match bearer(sections, rows, event) {
             Some((place, unit)) => {
                 format!(" (this fuel day's penalty stands on event {place}, unit {unit})")
             }
@@ -61,7 +64,7 @@ pub fn multiplier(sections: &Sections<'_>, rows: &[u8], event: &Event<'_>, row: 
         },
         _ => String::new(),
     };
-    format!("{}{half}{note}", row.multiplier / 2)
+    format!("{}{note}", amounts::halves(row.multiplier))
 }
 
 /// The event, with its unit, that bears the multiplier and the penalty of the fuel day of another: of
@@ -73,27 +76,29 @@ fn bearer(sections: &Sections<'_>, rows: &[u8], of: &Event<'_>) -> Option<(usize
         .records(Section::Events)
         .map(Event::of)
         .enumerate()
-        .find(|(place, event)| day(event) == day(of) && Row::of(rows, *place).multiplier != 0)
+        .find(|(place, event)| {
+            day(event) == day(of) && Row::of(rows, *place).multiplier != Multiplier(0)
+        })
         .map(|(place, event)| (place, event.unit))
 }
 
 /// A penalty, and what is to be known of one of a fuel day.
 pub fn penalty(event: &Event<'_>, row: &Row) -> String {
-    let note = match (event.kind, row.multiplier, row.penalty, row.flags) {
-        (3, 1.., 0, _) => " (X, what this fuel day comes to, is below $5,000)",
-        (3, _, 1.., 0) if event.market == 0 => {
+    let note = match (event.kind, row.multiplier.0, row.penalty.0, row.flags.0) {
+        (Kind::FUEL, 1.., 0, _) => " (X, what this fuel day comes to, is below $5,000)",
+        (Kind::FUEL, _, 1.., 0) if event.market == Market::DAY_AHEAD => {
             " (no hour is flagged: it comes from guarantee payments and TCC changes alone)"
         }
-        (3, _, 1.., 0) => " (no hour is flagged: it comes from guarantee payments alone)",
+        (Kind::FUEL, _, 1.., 0) => " (no hour is flagged: it comes from guarantee payments alone)",
         _ => "",
     };
     format!("{}{note}", dollars(row.penalty))
 }
 
 /// Hours in which a correction put the entered bid back in force.
-pub fn restored(mask: u32) -> String {
+pub fn restored(mask: Mask) -> String {
     format!(
         "{}: by the correction, the bid entered is in force again",
-        hours::named(mask)
+        hours::named(mask.0)
     )
 }

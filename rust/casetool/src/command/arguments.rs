@@ -4,7 +4,7 @@ use std::ffi::{OsStr, OsString};
 use std::fmt;
 use std::path::PathBuf;
 
-use crate::help::Topic;
+use crate::command::help::Topic;
 
 /// A command line that casetool does not take: what is wrong, and whose help to read.
 #[derive(Clone, Debug, PartialEq, Eq)]

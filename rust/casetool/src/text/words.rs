@@ -1,4 +1,7 @@
-//! The words for kinds, markets and components.
+//! The words for kinds, markets and components, and for counts of records.
+
+use attachment_h::layout::Section;
+use attachment_h::{Component, Kind, Market};
 
 /// Words that stand for the numbers from `first` on.
 #[derive(Clone, Copy, Debug, PartialEq, Eq)]
@@ -56,22 +59,22 @@ impl Names {
 }
 
 /// A kind in a sentence.
-pub fn kind(number: u8) -> String {
-    spoken(&KINDS, "kind", number)
+pub fn kind(kind: Kind) -> String {
+    spoken(&KINDS, "kind", kind.0)
 }
 
 /// A market in a sentence, as the tariff writes it.
-pub fn market(number: u8) -> String {
-    match number {
-        0 => "Day-Ahead".to_string(),
-        1 => "Real-Time".to_string(),
-        _ => format!("market {number}"),
+pub fn market(market: Market) -> String {
+    match market {
+        Market::DAY_AHEAD => "Day-Ahead".to_string(),
+        Market::REAL_TIME => "Real-Time".to_string(),
+        Market(number) => format!("market {number}"),
     }
 }
 
 /// A component in a sentence.
-pub fn component(number: u8) -> String {
-    spoken(&COMPONENTS, "component", number)
+pub fn component(component: Component) -> String {
+    spoken(&COMPONENTS, "component", component.0)
         .replace('-', " ")
         .replace("start up", "start-up")
 }
@@ -80,4 +83,15 @@ fn spoken(names: &Names, what: &str, number: u8) -> String {
     names
         .word(i64::from(number))
         .map_or_else(|| format!("{what} {number}"), str::to_string)
+}
+
+/// So many records of a section, in words.
+pub fn count(section: Section, records: usize) -> String {
+    let (one, many) = match section {
+        Section::Units => ("unit", "units"),
+        Section::References => ("reference", "references"),
+        Section::Past => ("past entry", "past entries"),
+        Section::Events => ("event", "events"),
+    };
+    format!("{records} {}", if records == 1 { one } else { many })
 }

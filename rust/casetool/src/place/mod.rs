@@ -5,10 +5,11 @@
 mod events;
 mod header;
 mod records;
+pub mod refusal;
 
-use crate::amounts::Measure;
-use crate::field::{Field, Form, Limit};
-use crate::layout::{Section, Sections};
+use crate::record::field::{Field, Form, Limit};
+use crate::text::amounts::Measure;
+use attachment_h::layout::{Section, Sections};
 
 /// What a place is in.
 #[derive(Clone, Copy, Debug, PartialEq, Eq)]

@@ -2,15 +2,16 @@
 
 use std::fmt::Write;
 
-use crate::calendar;
-use crate::event::Event;
-use crate::field::Field;
-use crate::fields;
-use crate::layout::{HOURS, Section, Sections, cell, u16_at, u32_at};
+use crate::record::event::Event;
+use crate::record::field::Field;
+use crate::record::fields;
+use crate::text::{calendar, words};
+use attachment_h::Component;
+use attachment_h::layout::{HOURS, Section, Sections, cell, u16_at, u32_at};
 
 /// The text of a case.
 pub fn case_text(sections: &Sections<'_>) -> String {
-    let counts = Section::ALL.map(|section| section.count(sections.count(section)));
+    let counts = Section::ALL.map(|section| words::count(section, sections.count(section)));
     let mut text = format!("# case: {}\n", counts.join(", "));
     for section in Section::ALL {
         if sections.count(section) > 0 {
@@ -31,7 +32,7 @@ pub fn case_text(sections: &Sections<'_>) -> String {
 /// The text of a correction of whole records.
 pub fn correction_text(correction: &[u8]) -> String {
     let records = correction.chunks_exact(Section::References.record_bytes());
-    let count = Section::References.count(records.len());
+    let count = words::count(Section::References, records.len());
     let mut text = format!("# correction: {count}\n");
     if !correction.is_empty() {
         text.push('\n');
@@ -44,11 +45,11 @@ pub fn correction_text(correction: &[u8]) -> String {
 
 /// A line with the fields of a record or of an hour cell.
 fn line(text: &mut String, start: &str, fields: &[Field], record: &[u8]) {
-    words(text, start, fields, record);
+    put_words(text, start, fields, record);
     text.push('\n');
 }
 
-fn words(text: &mut String, start: &str, fields: &[Field], record: &[u8]) {
+fn put_words(text: &mut String, start: &str, fields: &[Field], record: &[u8]) {
     text.push_str(start);
     let mut gap = if start.is_empty() { "" } else { " " };
     for field in fields {
@@ -83,11 +84,16 @@ fn unit(text: &mut String, sections: &Sections<'_>, record: &[u8]) {
 }
 
 fn reference(text: &mut String, record: &[u8]) {
-    line(text, "reference", &fields::reference(record[2]), record);
+    line(
+        text,
+        "reference",
+        &fields::reference(Component(record[2])),
+        record,
+    );
 }
 
 fn past(text: &mut String, record: &[u8]) {
-    words(text, "past", &fields::PAST, record);
+    put_words(text, "past", &fields::PAST, record);
     put(
         text,
         format_args!("  # {}\n", calendar::date(u32_at(record, 8))),
@@ -106,7 +112,7 @@ fn event(text: &mut String, sections: &Sections<'_>, place: usize, record: &[u8]
         let asked = |&area: &u8| event.shape().area_needs(area, &field);
         field.needed_where(field.needed || areas.iter().any(asked))
     });
-    words(text, "event", &fields, record);
+    put_words(text, "event", &fields, record);
     let date = calendar::date(event.day);
     put(text, format_args!("  # event {place}, {date}\n"));
     hours(text, &event);

@@ -4,8 +4,8 @@ use std::fs::{self, File};
 use std::io::{self, Read};
 use std::path::Path;
 
-use crate::amounts;
-use crate::arguments::Source;
+use crate::command::arguments::Source;
+use crate::text::amounts;
 
 /// The most bytes that are read: far more than a case or its text can have.
 const MOST_BYTES: u64 = 16 << 20;

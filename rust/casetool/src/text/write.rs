@@ -1,15 +1,17 @@
 //! From text to the bytes of a case file or of a correction.
 
-use crate::calendar;
-use crate::field::Field;
-use crate::fields;
-use crate::hours;
-use crate::layout::{
-    self, CELL_BYTES, CELLS_AT, HEADER_BYTES, HOURS, LARGEST_FILE, Section, u16_at, u32_at,
+use attachment_h::{Component, Kind, Market};
+
+use crate::record::field::Field;
+use crate::record::fields;
+use crate::record::needs::Shape;
+use crate::text::hours;
+use crate::text::line::{Pair, TextError, Word, pairs, text_of, words};
+use crate::text::needs::{EventLine, UnitLine, units_and_events};
+use crate::text::{self, calendar};
+use attachment_h::layout::{
+    self, CELL_BYTES, EVENT_HEAD_BYTES, HEADER_BYTES, HOURS, LARGEST_FILE, Section, u16_at, u32_at,
 };
-use crate::needs::Shape;
-use crate::text_line::{Pair, TextError, Word, pairs, text_of, words};
-use crate::text_needs::{EventLine, UnitLine, units_and_events};
 
 /// What a text gives.
 #[derive(Clone, Debug, PartialEq, Eq)]
@@ -104,7 +106,7 @@ impl<'a> Writer<'a> {
     }
 
     fn reference(&mut self, first: Word<'a>, pairs: &[Pair<'a>]) -> Result<(), TextError> {
-        let component = early_value(first, pairs, &fields::COMPONENT_OF_REFERENCE)?;
+        let component = Component(early_value(first, pairs, &fields::COMPONENT_OF_REFERENCE)?);
         let record = record(first, pairs, &fields::reference(component))?;
         self.add(Section::References, first, &record)
     }
@@ -116,12 +118,20 @@ impl<'a> Writer<'a> {
     }
 
     fn event(&mut self, first: Word<'a>, pairs: &[Pair<'a>]) -> Result<(), TextError> {
-        let kind = early_value(first, pairs, &fields::KIND)?;
+        let kind = Kind(early_value(first, pairs, &fields::KIND)?);
         let shape = Shape {
             kind,
-            component: early_value(first, pairs, &fields::component_of_event(kind))?,
+            component: Component(early_value(
+                first,
+                pairs,
+                &fields::component_of_event(kind),
+            )?),
             // Where it is missing, that is said in its turn.
-            market: early_value(first, pairs, &fields::MARKET.needed_where(false))?,
+            market: Market(early_value(
+                first,
+                pairs,
+                &fields::MARKET.needed_where(false),
+            )?),
         };
         let mut event = record(first, pairs, &fields::event(shape))?;
         self.look_at_period(pairs, &event);
@@ -177,7 +187,7 @@ impl<'a> Writer<'a> {
     fn add(&mut self, section: Section, first: Word<'_>, record: &[u8]) -> Result<(), TextError> {
         let most = section.most();
         if self.sections[section as usize].len() / section.record_bytes() == most {
-            return Err(first.wrong(format!("at most {} fit", section.count(most))));
+            return Err(first.wrong(format!("at most {} fit", text::words::count(section, most))));
         }
         self.sections[section as usize].extend(record);
         let length: usize = self.sections.iter().map(Vec::len).sum();
@@ -203,7 +213,7 @@ impl<'a> Writer<'a> {
         let fields = fields::cell(event.shape.kind, event.shape.component);
         let cell = record(which, &pairs(&words[1..])?, &fields)?;
         let events = &mut self.sections[Section::Events as usize];
-        let cells = events.len() - Section::Events.record_bytes() + CELLS_AT;
+        let cells = events.len() - Section::Events.record_bytes() + EVENT_HEAD_BYTES;
         for hour in (0..HOURS).filter(|hour| mask >> hour & 1 == 1) {
             let at = cells + CELL_BYTES * hour;
             events[at..at + CELL_BYTES].copy_from_slice(&cell);

@@ -1,13 +1,13 @@
 //! The pencil working of one hour: the comparisons of its conduct test in the words of docs/RULES.md, with the
 //! figures of the proved library.
 
-use attachment_h::{Comparison, Working};
+use attachment_h::{Comparison, Component, Kind, Working};
 
-use crate::amounts::{Measure, Signed, number};
-use crate::calendar;
-use crate::event::Event;
-use crate::fields;
-use crate::words;
+use crate::record::event::Event;
+use crate::record::fields;
+use crate::text::amounts::{Measure, Signed, number};
+use crate::text::calendar;
+use crate::text::words;
 
 /// An hour of an event.
 #[derive(Clone, Copy, Debug)]
@@ -75,7 +75,7 @@ impl Hour<'_> {
             words::market(event.market),
             event.unit
         );
-        if event.kind == 4 {
+        if event.kind == Kind::BIDS {
             text += &format!(", {}", words::component(event.component));
         }
         text + &format!("\nHour {}\n", self.hour)
@@ -90,14 +90,14 @@ impl Hour<'_> {
         let own = ("a", sum(u64::from(working.a), a.key));
         let s = ("S", sum(working.s, "the group's a of this hour, added"));
         let mut found = match self.event.kind {
-            1 => vec![
+            Kind::WITHHELD => vec![
                 own,
                 s,
                 ("G", sum(working.g, "the group's listed capability")),
                 ("N3", working.n3.to_string()),
                 ("N2", working.n2.to_string()),
             ],
-            4 => {
+            Kind::BIDS => {
                 let bid = i64::from(working.a.cast_signed());
                 vec![
                     ("a", amount(bid.into(), a.key)),
@@ -105,14 +105,14 @@ impl Hour<'_> {
                     ("d", amount(increase(working), "a − r")),
                 ]
             }
-            2 => vec![own, s],
+            Kind::DISPATCH => vec![own, s],
             _ => vec![own],
         };
-        if self.event.kind == 4 && (4..=6).contains(&self.event.component) {
+        if self.event.kind == Kind::BIDS && self.event.component.is_time() {
             let added = sum(working.total, "the positive d of the three times, added");
             found.push(("sum", added));
         }
-        if self.event.kind != 3 {
+        if self.event.kind != Kind::FUEL {
             let tight = if working.tight { "yes" } else { "no" };
             found.push(("tight", tight.to_string()));
         }
@@ -126,14 +126,14 @@ impl Hour<'_> {
             step(format!("{what} > {right}"))
         };
         match self.event.kind {
-            1 => vec![
+            Kind::WITHHELD => vec![
                 step("10 × a > capability"),
                 above("a", 1),
                 step("20 × S > G"),
                 above("S", 3),
             ],
-            2 => vec![step("a > 15 × rate"), above("a", 1), above("S", 2)],
-            3 => vec![step("events of the party-day with this hour in P > 0")],
+            Kind::DISPATCH => vec![step("a > 15 × rate"), above("a", 1), above("S", 2)],
+            Kind::FUEL => vec![step("events of the party-day with this hour in P > 0")],
             _ => bid_steps(self.event.component),
         }
     }
@@ -164,8 +164,8 @@ fn increase(working: &Working) -> Signed {
 }
 
 /// The comparisons of a bid.
-fn bid_steps(component: u8) -> Vec<Step> {
-    match component {
+fn bid_steps(component: Component) -> Vec<Step> {
+    match component.0 {
         0 | 1 => vec![
             step_of_d("d > the lower of 3 × r and 10,000").unless("a is below 2,500"),
             step_of_d("10 × d × H > 1,752 × Average Price")

@@ -1,5 +1,7 @@
 //! Amounts of the file as people write them: tenths of MW as MW, cents as dollars, exactly.
 
+use attachment_h::{Cents, Multiplier};
+
 /// What an amount is counted in.
 #[derive(Clone, Copy, Debug, PartialEq, Eq)]
 pub enum Measure {
@@ -160,6 +162,12 @@ pub fn bytes(count: usize) -> String {
 }
 
 /// Cents as dollars, such as `$2,004.00`.
-pub fn dollars(cents: u64) -> String {
-    format!("${}.{:02}", number(cents / 100), cents % 100)
+pub fn dollars(cents: Cents) -> String {
+    Measure::Dollars.spoken(cents.0)
+}
+
+/// A multiplier from its halves, such as `1.5`.
+pub fn halves(multiplier: Multiplier) -> String {
+    let half = if multiplier.0 % 2 == 1 { ".5" } else { "" };
+    format!("{}{half}", multiplier.0 / 2)
 }

@@ -2,9 +2,11 @@
 
 use std::fmt;
 
-use crate::layout::{u16_at, u32_at};
-use crate::needs::Shape;
-use crate::words;
+use attachment_h::layout::{u16_at, u32_at};
+use attachment_h::{Component, Kind, Market};
+
+use crate::record::needs::Shape;
+use crate::text::words;
 
 /// An event record with the fields that events are sorted by.
 #[derive(Clone, Copy, Debug)]
@@ -13,14 +15,14 @@ pub struct Event<'a> {
     pub record: &'a [u8],
     /// The day number.
     pub day: u32,
-    /// The kind number.
-    pub kind: u8,
-    /// The market number.
-    pub market: u8,
+    /// The kind.
+    pub kind: Kind,
+    /// The market.
+    pub market: Market,
     /// The unit number.
     pub unit: u16,
-    /// The component number.
-    pub component: u8,
+    /// The component.
+    pub component: Component,
 }
 
 impl<'a> Event<'a> {
@@ -29,10 +31,10 @@ impl<'a> Event<'a> {
         Event {
             record,
             day: u32_at(record, 8),
-            kind: record[0],
-            market: record[1],
+            kind: Kind(record[0]),
+            market: Market(record[1]),
             unit: u16_at(record, 2),
-            component: record[6],
+            component: Component(record[6]),
         }
     }
 
@@ -46,7 +48,7 @@ impl<'a> Event<'a> {
     }
 
     /// What events rise strictly by.
-    pub fn order(&self) -> (u32, u8, u8, u16, u8) {
+    pub fn order(&self) -> (u32, Kind, Market, u16, Component) {
         (self.day, self.kind, self.market, self.unit, self.component)
     }
 
@@ -75,7 +77,7 @@ impl fmt::Display for Event<'_> {
             "day {}, {kind}, {market}, unit {}",
             self.day, self.unit
         )?;
-        if self.kind == 4 || self.component != 0 {
+        if self.kind == Kind::BIDS || self.component != Component(0) {
             write!(formatter, ", {}", words::component(self.component))?;
         }
         Ok(())

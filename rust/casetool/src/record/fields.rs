@@ -1,9 +1,11 @@
 //! The fields of every record. What shows, writes and checks a case goes by this one table.
 
-use crate::amounts::Measure;
-use crate::field::{Field, Form, Limit};
-use crate::needs::Shape;
-use crate::words::{COMPONENTS, KINDS, MARKETS};
+use attachment_h::{Component, Kind, Market};
+
+use crate::record::field::{Field, Form, Limit};
+use crate::record::needs::Shape;
+use crate::text::amounts::Measure;
+use crate::text::words::{COMPONENTS, KINDS, MARKETS};
 
 const PLAIN: Form = Form::Amount(Measure::Plain);
 const DOLLARS: Form = Form::Amount(Measure::Dollars);
@@ -59,17 +61,19 @@ pub const PAST: [Field; 7] = [
 ];
 
 /// What a component is counted in.
-pub fn measure_of(component: u8) -> Measure {
-    match component {
-        0..=3 => Measure::Dollars,
-        4..=6 => Measure::Minutes,
-        _ => Measure::Plain,
+pub fn measure_of(component: Component) -> Measure {
+    if component.is_money() {
+        Measure::Dollars
+    } else if component.is_time() {
+        Measure::Minutes
+    } else {
+        Measure::Plain
     }
 }
 
 /// The fields of a reference of this component.
-pub fn reference(component: u8) -> [Field; 4] {
-    let most = if component <= 2 {
+pub fn reference(component: Component) -> [Field; 4] {
+    let most = if component <= Component::RESERVE_OR_REGULATION {
         LARGEST_PRICE
     } else {
         LARGEST_CHANGE
@@ -107,8 +111,16 @@ pub const MARKET: Field = Field::new(("market", "market"), (1, 1), Form::Name(MA
 /// the text. Needed are those that the kind reads; its unit's area may ask for more.
 pub fn event(shape: Shape) -> [Field; 10] {
     let kind = shape.kind;
-    let markets = if kind == 2 { (1, 1) } else { (0, 1) };
-    let most_impact = if matches!(kind, 3 | 4) { 0 } else { 1 };
+    let markets = if kind == Kind::DISPATCH {
+        (1, 1)
+    } else {
+        (0, 1)
+    };
+    let most_impact = if matches!(kind, Kind::FUEL | Kind::BIDS) {
+        0
+    } else {
+        1
+    };
     let [p, q, r] = words_of_event(shape);
     [
         DAY,
@@ -118,7 +130,7 @@ pub fn event(shape: Shape) -> [Field; 10] {
         Field::new(("period", "period"), (4, 2), PLAIN).needed(),
         component_of_event(kind),
         Field::new(("impact", "impact"), (7, 1), PLAIN)
-            .needed_where(matches!(kind, 1 | 2))
+            .needed_where(matches!(kind, Kind::WITHHELD | Kind::DISPATCH))
             .within(0, most_impact),
         p,
         q,
@@ -127,8 +139,8 @@ pub fn event(shape: Shape) -> [Field; 10] {
 }
 
 /// The component of an event of this kind: "0 to 8 in kind 4, else 0".
-pub fn component_of_event(kind: u8) -> Field {
-    if kind == 4 {
+pub fn component_of_event(kind: Kind) -> Field {
+    if kind == Kind::BIDS {
         COMPONENT.needed().within(0, 8)
     } else {
         COMPONENT
@@ -137,13 +149,14 @@ pub fn component_of_event(kind: u8) -> Field {
 
 /// P, Q and R. A kind that lacks one has it under its letter, as a plain number.
 fn words_of_event(shape: Shape) -> [Field; 3] {
-    let day_ahead = shape.market == 0;
+    let day_ahead = shape.market == Market::DAY_AHEAD;
     let p = |key| Field::new(("P", key), (12, 4), Form::Hours).limited(Limit::Mask);
     let q = |key, form| Field::new(("Q", key), (16, 4), form);
     let r = |key, form| Field::new(("R", key), (20, 4), form);
     match shape.kind {
-        3 => {
-            let tcc_change = if shape.market == 1 { 0 } else { LARGEST_CHANGE };
+        Kind::FUEL => {
+            let real_time = shape.market == Market::REAL_TIME;
+            let tcc_change = if real_time { 0 } else { LARGEST_CHANGE };
             [
                 p("inaccurate-hours").needed(),
                 q("guarantee-change", SIGNED_DOLLARS)
@@ -154,15 +167,15 @@ fn words_of_event(shape: Shape) -> [Field; 3] {
                     .within(-tcc_change, tcc_change),
             ]
         }
-        4 => [
+        Kind::BIDS => [
             p("shadow-price-hours"),
             q("impact-hours", Form::Hours).needed().limited(Limit::Mask),
             r("minimum-run-hours", PLAIN)
-                .needed_where(shape.component == 1 && day_ahead)
+                .needed_where(shape.component == Component::MINIMUM_GENERATION && day_ahead)
                 .within(0, 24),
         ],
         _ => [
-            p(if matches!(shape.kind, 1 | 2) {
+            p(if matches!(shape.kind, Kind::WITHHELD | Kind::DISPATCH) {
                 "shadow-price-hours"
             } else {
                 "P"
@@ -175,35 +188,35 @@ fn words_of_event(shape: Shape) -> [Field; 3] {
 
 /// a, b and m of an hour cell, by the kind and the component of its event. A kind that lacks m has
 /// it under its letter, as a plain number.
-pub fn cell(kind: u8, component: u8) -> [Field; 3] {
+pub fn cell(kind: Kind, component: Component) -> [Field; 3] {
     let a = |key, form| Field::new(("a", key), (0, 4), form);
     let b = |key, form| Field::new(("b", key), (4, 4), form);
     let m = |key, form| Field::new(("m", key), (8, 4), form);
     let no_m = m("m", PLAIN).within(0, 0);
     let price = |key| b(key, SIGNED_DOLLARS).within(-LARGEST_PRICE, LARGEST_PRICE);
     match kind {
-        1 => [a("withheld", POWER).needed(), price("price").needed(), no_m],
-        2 => [
+        Kind::WITHHELD => [a("withheld", POWER).needed(), price("price").needed(), no_m],
+        Kind::DISPATCH => [
             a("undelivered", POWER).needed(),
             b("added-revenue", DOLLARS).needed().within(0, 100_000_000),
             no_m,
         ],
-        3 => [
+        Kind::FUEL => [
             a("energy", Form::Amount(Measure::Energy))
                 .needed()
                 .within(0, LARGEST_POWER),
             price("price-change").needed(),
             no_m,
         ],
-        4 => {
+        Kind::BIDS => {
             let (low, high) = bids(component);
             [
                 a("bid", Form::Signed(measure_of(component)))
                     .needed()
                     .within(low, high),
-                price("price").needed_where(component == 0),
+                price("price").needed_where(component == Component::ENERGY),
                 m("quantity", POWER)
-                    .needed_where(component == 0)
+                    .needed_where(component == Component::ENERGY)
                     .within(0, LARGEST_POWER),
             ]
         }
@@ -212,10 +225,10 @@ pub fn cell(kind: u8, component: u8) -> [Field; 3] {
 }
 
 /// The least and the greatest bid of a component.
-fn bids(component: u8) -> (i64, i64) {
+fn bids(component: Component) -> (i64, i64) {
     match component {
-        0 | 1 => (-LARGEST_PRICE, LARGEST_PRICE),
-        2 => (0, LARGEST_PRICE),
+        Component::ENERGY | Component::MINIMUM_GENERATION => (-LARGEST_PRICE, LARGEST_PRICE),
+        Component::RESERVE_OR_REGULATION => (0, LARGEST_PRICE),
         _ => (0, LARGEST_CHANGE),
     }
 }
