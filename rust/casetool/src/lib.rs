@@ -24,7 +24,7 @@ pub fn run(
     output: &mut dyn Write,
     errors: &mut dyn Write,
 ) -> u8 {
-    let (problem, status) = match answered(arguments, input, output) {
+    let (problems, status) = match answered(arguments, input, output) {
         Ok(done) => {
             for warning in &done.warnings {
                 say(errors, &format!("warning: {warning}"));
@@ -33,7 +33,9 @@ pub fn run(
         }
         Err(failed) => failed,
     };
-    say(errors, &problem);
+    for problem in problems {
+        say(errors, &problem);
+    }
     let (outputs, others) = arguments::outputs(arguments);
     for path in outputs {
         if others.iter().any(|source| files::is(source, &path)) {
@@ -46,25 +48,29 @@ pub fn run(
     status
 }
 
-/// Does what is asked for; otherwise a message and the exit status.
+/// Does what is asked for; otherwise messages and the exit status.
 fn answered(
     arguments: &[OsString],
     input: &mut dyn Read,
     output: &mut dyn Write,
-) -> Result<Done, (String, u8)> {
+) -> Result<Done, (Vec<String>, u8)> {
     let misused =
-        |Misuse { problem, topic }| (format!("{problem}; see {}", topic.help_command()), 2);
+        |Misuse { problem, topic }| (vec![format!("{problem}; see {}", topic.help_command())], 2);
     let mut text = |text: &str| {
         output::write(text.as_bytes(), None, output)
             .map(|()| Done::default())
-            .map_err(|message| (message, 1))
+            .map_err(|message| (vec![message], 1))
     };
     match arguments::read(arguments).map_err(misused)? {
         Request::Help(topic) => text(topic.text()),
         Request::Version => text(&format!("casetool {}\n", env!("CARGO_PKG_VERSION"))),
         Request::Run(topic, given) => {
             command::run(topic, &given, input, output).map_err(|failure| match failure {
-                Failure::Message(message) => (message, 1),
+                Failure::Message(message) => (vec![message], 1),
+                Failure::Mistakes(name, mistakes) => {
+                    let lines = mistakes.lines().into_iter();
+                    (lines.map(|line| format!("{name}: {line}")).collect(), 1)
+                }
                 Failure::Misuse(problem) => misused(Misuse { problem, topic }),
             })
         }

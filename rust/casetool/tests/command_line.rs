@@ -246,60 +246,6 @@ fn a_refused_case_is_described_by_every_command() {
     );
 }
 
-const CASE_HINT: &str = "this file looks like text: casetool write makes a case file of it\n";
-const CORRECTION_HINT: &str =
-    "the correction looks like text: casetool write --correction makes a correction of it\n";
-
-#[test]
-fn a_text_given_as_a_case_or_a_correction() {
-    let example = std::fs::read(repository("examples/two-plants.txt")).expect("the example");
-    for text in [
-        b"unit 12".to_vec(),
-        b"# caf\xC3\xA9\n".repeat(9),
-        "\u{feff}unit 12 group 7 capability 500.0 MW\r\n"
-            .as_bytes()
-            .to_vec(),
-        example.repeat(40),
-        example,
-    ] {
-        for name in ["check", "settle", "show"] {
-            let ran = casetool(&[name], &text);
-            let said = [ran.text(), ran.errors.as_str()].concat();
-            assert_eq!((ran.status, said.ends_with(CASE_HINT)), (1, true), "{said}");
-        }
-    }
-    let case = written("unit 12 group 7 capability 1 MW");
-    let reference = "reference unit 12 component energy value $1.00\n";
-    assert_eq!(reference.len(), 47);
-    for text in [
-        reference.to_string(),
-        format!("{reference}\n"),
-        format!("# é\n{}", reference.repeat(50)),
-    ] {
-        let path = file_with("command-line.text-correction", text.as_bytes());
-        let ran = casetool(&["check", "--correction", &path], &case);
-        assert_eq!(ran.status, 1);
-        assert!(ran.text().starts_with("refused 8: "));
-        assert!(ran.text().ends_with(CORRECTION_HINT), "{}", ran.text());
-    }
-    let ran = casetool(&["show", "--correction"], reference.as_bytes());
-    assert_eq!(
-        (ran.status, ran.errors),
-        (
-            1,
-            format!(
-                "casetool: standard input: no correction: it has 47 bytes; expected a multiple of 8, at most 2,048\n{CORRECTION_HINT}"
-            )
-        )
-    );
-    // Bytes that are no text get no hint.
-    let path = file_with("command-line.no-text", &[0; 7]);
-    for file in [&[][..], &[1; 35], &[0xC3; 40], &case] {
-        let ran = casetool(&["check", "--correction", &path], file);
-        assert_eq!((ran.status, ran.text().contains("looks like")), (1, false));
-    }
-}
-
 /// An output that takes some bytes and then fails.
 struct Failing(usize, ErrorKind);
 
@@ -364,12 +310,12 @@ fn the_program_itself() {
     );
     let (status, answer, _) = program(&["check"], &case[..59]);
     assert_eq!((status, answer.starts_with(b"refused 4: ")), (1, true));
-    let (status, _, errors) = program(&["write"], b"unit 12 group\n");
+    let (status, _, errors) = program(&["write"], b"unit 12 capability 1 group\n");
     assert_eq!(
         (status, errors.as_str()),
         (
             1,
-            "casetool: standard input: line 1, column 14: expected a value for group\n"
+            "casetool: standard input: line 1, column 27: expected a value for group\n"
         )
     );
     assert_eq!(program(&["--help"], b"").0, 0);

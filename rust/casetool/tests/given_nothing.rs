@@ -91,7 +91,18 @@ fn a_text_with_no_event() {
             let ran = casetool(&[command], text.as_bytes());
             assert_eq!(ran.status, 1, "{command}: {text}");
             let said = [ran.text(), ran.errors.as_str()].concat();
-            assert!(said.contains("refused "), "{said}");
+            // No bytes are no text, and as a case file too short.
+            let expected = match text.as_str() {
+                "" => "refused 1: ",
+                _ => {
+                    "standard input: this text has no event; with --allow-empty it is taken all the same\n"
+                }
+            };
+            assert!(said.contains(expected), "{said}");
+        }
+        if !text.is_empty() {
+            let ran = casetool(&["check", "--allow-empty"], text.as_bytes());
+            assert_eq!((ran.status, ran.text()), (0, "accepted, 0 events\n"));
         }
         let ran = casetool(&["write", "--allow-empty"], text.as_bytes());
         assert_eq!((ran.status, ran.errors.as_str()), (0, ""));
@@ -107,7 +118,8 @@ fn a_text_with_no_event() {
 fn what_else_is_wrong_in_a_text_with_no_event() {
     // What is wrong in a line is said first.
     let ran = casetool(&["write"], b"unit 12");
-    let message = "casetool: standard input: line 1, column 8: expected the key group\n";
+    let message =
+        "casetool: standard input: line 1, column 8: expected the keys group, capability\n";
     assert_eq!((ran.status, ran.errors.as_str()), (1, message));
     // A file has its name in the message.
     let path = file_with("given-nothing.text", UNIT.as_bytes());
@@ -129,7 +141,8 @@ fn a_correction_with_no_reference() {
     let bytes = written("past group 7 kind fuel market day-ahead period 0 day 1");
     assert_eq!(bytes.len(), 48);
     let shown = casetool(&["show", "--correction"], &bytes);
-    assert!(shown.text().starts_with("# correction: 6 references\n"));
+    let start = "order as-written\n# correction: 6 references\n";
+    assert!(shown.text().starts_with(start));
     let ran = casetool(&["write", "--correction"], &shown.output);
     assert_eq!((ran.status, ran.output), (0, bytes));
 }

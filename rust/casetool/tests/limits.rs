@@ -41,10 +41,13 @@ fn numbers_1_to_5() {
         "refused 1: the file's length is outside 36 to 65,000 bytes\n\
          the file: its length is 35 bytes; expected 36 to 65,000\n",
     );
-    refused_bytes(
-        &good[..1],
+    // One byte without a zero is a text, unless it is said to be a case.
+    let ran = casetool(&["check", "--as", "case"], &good[..1]);
+    assert_eq!(
+        text_of(&ran),
         "refused 1: the file's length is outside 36 to 65,000 bytes\n\
-         the file: its length is 1 byte; expected 36 to 65,000\n",
+         the file: its length is 1 byte; expected 36 to 65,000\n\
+         this file looks like text: casetool write makes a case file of it\n"
     );
     refused_bytes(
         &vec![0; 70_000],
@@ -168,6 +171,7 @@ fn number_7_and_8() {
         ),
     ] {
         refused(7, text, &format!("references, {place}"));
+        let text = format!("order as-written\n{text}");
         let correction = casetool(&["write", "--correction"], text.as_bytes()).output;
         refused_correction(&correction, &format!("correction, {place}"));
     }

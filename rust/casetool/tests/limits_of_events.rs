@@ -191,7 +191,7 @@ fn number_15() {
     ));
     let refused = attachment_h::check(&file, &[], 127).expect_err("127 bytes are no row");
     assert_eq!(
-        casetool::place::refusal::describe(refused, &file, &[], 127),
+        casetool::place::refusal::Refusal::of(refused, &file, &[], 127).to_string(),
         "refused 15: the rows buffer has fewer than 128 bytes for each event\n\
          the rows buffer: its length is 127 bytes; expected at least 128 for 1 event\n"
     );

@@ -207,9 +207,14 @@ fn a_unit_after_its_events_and_a_unit_that_is_not_listed() {
     );
     assert_eq!(
         ran.errors,
-        "casetool: standard input: line 1, column 73: expected the key shadow-price-hours, none for no hours: unit 12 is in a Constrained Area (line 3)\n"
+        "casetool: standard input: line 1, column 73: expected the key shadow-price-hours, none for no hours: unit 12 is in a Constrained Area (line 3)\n\
+         casetool: standard input: line 3, column 39: expected the key response-rate, which the event of line 1 reads\n"
     );
-    let text = format!("{event} shadow-price-hours none\n\n{unit}  # late\n");
+    // What two events read is missing once.
+    let text = format!(
+        "{event} shadow-price-hours none\n{} shadow-price-hours none\n{unit}  # late\n",
+        event.replace("8000", "8001")
+    );
     let ran = casetool(&["write"], text.as_bytes());
     assert_eq!(
         ran.errors,
@@ -266,7 +271,7 @@ fn what_is_needed_is_shown_where_it_is_0() {
     let shown = casetool(&["show"], &file);
     assert_eq!((shown.status, shown.text()), (0, ZEROS));
     // Two units of one number, which are refused, each ask for what they need.
-    let twice = ZEROS
+    let twice = format!("order as-written\n{ZEROS}")
         .replace("2 units", "3 units")
         .replace(
             "\nunit 13",

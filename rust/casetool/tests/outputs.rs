@@ -82,7 +82,8 @@ fn a_failed_write_leaves_no_old_file() {
         (vec!["write", "one", "two", "-o", &case], GOOD, 2),
         (vec!["write", "-o", &case, "-o"], GOOD, 2),
         (vec!["write", &joined], GOOD, 2),
-        (vec!["settle", "-o", &case], GOOD, 1),
+        (vec!["settle", "-o", &case], BAD, 1),
+        (vec!["settle", "--as", "case", "-o", &case], GOOD, 1),
         (vec!["show", &missing, "-o", &case], "", 1),
         (vec!["working", "-o", &case, "--event", "0"], "", 2),
     ] {

@@ -9,7 +9,7 @@ use cases::Random;
 use cases::case::{Input, file_of, section_place, sections_of};
 use cases::faults::{FAULTS, Fault};
 use cases::generator::{Generated, Size, Wanted, case, random_bytes};
-use casetool::place::refusal::describe;
+use casetool::place::refusal::Refusal;
 use casetool::place::{Part, Place, find};
 
 /// Where the fields of a unit, a reference, a past entry and an event's head begin: docs/FORMAT.md.
@@ -127,18 +127,15 @@ fn found(input: &Input) -> Option<(u8, Place)> {
     };
     let place = find(number, &input.file, &input.correction, input.rows_len);
     let place = place.unwrap_or_else(|| panic!("no place for {number}"));
-    let text = describe(
+    let refusal = Refusal::of(
         Refused(number),
         &input.file,
         &input.correction,
         input.rows_len,
     );
-    let start = format!(
-        "refused {number}: {}\n{}",
-        Refused(number).meaning(),
-        place.sentence
-    );
-    assert_eq!(text.trim_end(), start);
+    let meaning = Refused(number).meaning();
+    let start = format!("refused {number}: {meaning}\n{}\n", place.sentence);
+    assert!(refusal.to_string().starts_with(&start), "{refusal}");
     Some((number, place))
 }
 

@@ -156,6 +156,7 @@ fn fixed_point() {
 #[test]
 fn every_key_out_of_the_ordinary() {
     let text = "\
+order as-written
 # case: 1 unit, 2 references, 1 past entry, 4 events
 
 unit 65535 group 0 area 255 spare-5 1 spare-6 2 spare-7 3 capability 429496729.5 MW response-rate 0.1 MW/min average-price $42949672.95 constrained-hours 65535 spare-22 4 spare-23 255

@@ -13,27 +13,33 @@ use support::casetool;
 const UNIT: &str = "unit 12 group 7 capability 500.0 MW";
 const EVENT: &str = "event day 8000 kind bids market day-ahead unit 12 period 44 component energy impact-hours none";
 
-/// That a text is turned away with this message.
-fn wrong(text: &str, message: &str) {
+/// That a text is turned away with these messages.
+fn wrong_all(text: &str, messages: &[&str]) {
     let ran = casetool(&["write"], text.as_bytes());
     assert_eq!((ran.status, ran.output.len()), (1, 0), "{text}");
-    assert_eq!(ran.errors, format!("casetool: standard input: {message}\n"));
+    let said = |message: &&str| format!("casetool: standard input: {message}\n");
+    assert_eq!(ran.errors, messages.iter().map(said).collect::<String>());
+}
+
+/// That a text is turned away with this message alone.
+fn wrong(text: &str, message: &str) {
+    wrong_all(text, &[message]);
 }
 
 #[test]
 fn records_and_keys() {
     for (text, message) in [
         (
-            "# nothing\n\n  plant 12",
-            "line 3, column 3, 'plant': expected unit, reference, past, event, hour or hours",
+            "# nothing\n\n  powerhouse 12",
+            "line 3, column 3, 'powerhouse': expected unit, reference, past, event, hour or hours",
         ),
         (
-            "unit 12 group 7 color 3",
-            "line 1, column 17, 'color': unknown key; expected unit, group, area, capability, response-rate, average-price, constrained-hours",
+            "unit 12 group 7 capability 1 color 3",
+            "line 1, column 30, 'color': unknown key; expected unit, group, area, capability, response-rate, average-price, constrained-hours",
         ),
         (
-            "unit 12 group 7 group 7",
-            "line 1, column 17, 'group': this key is there twice",
+            "unit 12 capability 1 group 7 group 7",
+            "line 1, column 30, 'group': this key is there twice",
         ),
         (
             "unit 12 group 7",
@@ -43,10 +49,9 @@ fn records_and_keys() {
             "unit 12 capability 5 MW",
             "line 1, column 24: expected the key group",
         ),
-        ("unit", "line 1, column 5: expected a value for unit"),
         (
-            "unit 12 group # 7",
-            "line 1, column 14: expected a value for group",
+            "unit 12 capability 5 MW group # 7",
+            "line 1, column 30: expected a value for group",
         ),
         (
             "reference unit 12 value 3",
@@ -54,16 +59,19 @@ fn records_and_keys() {
         ),
         (
             "past group 7 kind fuel",
-            "line 1, column 23: expected the key market",
-        ),
-        ("event day 3", "line 1, column 12: expected the key kind"),
-        (
-            "event day 3 kind bids",
-            "line 1, column 22: expected the key component",
+            "line 1, column 23: expected the keys market, period, day",
         ),
         (
-            "event day 3 kind fuel shadow-price-hours 3",
-            "line 1, column 23, 'shadow-price-hours': unknown key; expected day, kind, market, unit, period, component, impact, inaccurate-hours, guarantee-change, tcc-change",
+            "event day 3",
+            "line 1, column 12: expected the keys kind, market, unit, period",
+        ),
+        (
+            "event day 3 kind bids market 0 unit 1 period 0 impact-hours none",
+            "line 1, column 65: expected the key component",
+        ),
+        (
+            "event day 3 kind fuel market 1 unit 1 period 0 inaccurate-hours none guarantee-change 0 shadow-price-hours 3",
+            "line 1, column 89, 'shadow-price-hours': unknown key; expected day, kind, market, unit, period, component, impact, inaccurate-hours, guarantee-change, tcc-change",
         ),
         (
             "hour 3 bid 4",
@@ -72,125 +80,220 @@ fn records_and_keys() {
     ] {
         wrong(text, message);
     }
+    wrong_all(
+        "unit",
+        &[
+            "line 1, column 5: expected a value for unit",
+            "line 1, column 5: expected the keys group, capability",
+        ],
+    );
 }
+
+/// A unit with one more key, a reference, a past entry and an event without one, as the words before and after it.
+const UNIT_AND: (&str, &str) = ("unit 1 group 7 capability 5 ", "");
+const REFERENCE: (&str, &str) = ("reference unit 1 component ", " value 1");
+const PAST: (&str, &str) = ("past group 1 period 0 kind ", "");
+
+const COMPONENTS: &str = "expected energy, minimum-generation, reserve-or-regulation, start-up-cost, start-up-time, minimum-run-time, minimum-down-time, minimum-parameter, maximum-parameter, or its number, 0 to 8";
 
 #[test]
 fn values() {
-    for (text, message) in [
+    let unit_number = ("unit ", " group 7 capability 5");
+    let capability = ("unit 1 group 7 capability ", "");
+    let dollars = "expected dollars with at most two decimals, such as $40.00";
+    let power = "expected MW with at most one decimal, such as 50.1 MW";
+    let day = "expected a day number, from 0 on 1 January 2000, or a date such as 2021-11-26";
+    for ((before, after), value, word, problem) in [
         (
-            "unit 65536",
-            "line 1, column 6, '65536': too large for its field: expected 0 to 65535",
+            unit_number,
+            "65536",
+            "65536",
+            "too large: expected 0 to 65,535",
+        ),
+        (unit_number, "-1", "-1", "too small: expected 0 to 65,535"),
+        (unit_number, "1.0", "1.0", "expected a whole number"),
+        (unit_number, "$1", "$1", "expected a whole number"),
+        (
+            unit_number,
+            "99999999999999999999",
+            "99999999999999999999",
+            "too large: expected 0 to 65,535",
+        ),
+        (unit_number, "1 MW", "MW", "unit has no such word after it"),
+        (unit_number, "1MW", "MW", "unit has no such word after it"),
+        (capability, "5 MWh", "MWh", "capability is in MW"),
+        (capability, "5MWh", "MWh", "capability is in MW"),
+        (
+            capability,
+            "5MW MW",
+            "MW",
+            "the value has this word already",
+        ),
+        (capability, "5mw", "5mw", power),
+        (capability, "5.05 MW", "5.05", power),
+        (capability, "5.05MW", "5.05MW", power),
+        (capability, "5. MW", "5.", power),
+        // The limit is that of the rules, though the field has room for more.
+        (
+            capability,
+            "429496729.6",
+            "429496729.6",
+            "too large: expected 0.1 MW to 5,000.0 MW",
         ),
         (
-            "unit -1",
-            "line 1, column 6, '-1': too small for its field: expected 0 to 65535",
+            capability,
+            "99999999999999999999.9 MW",
+            "99999999999999999999.9",
+            "too large: expected 0.1 MW to 5,000.0 MW",
         ),
         (
-            "unit 1.0",
-            "line 1, column 6, '1.0': expected a whole number",
-        ),
-        ("unit $1", "line 1, column 6, '$1': expected a whole number"),
-        (
-            "unit 99999999999999999999",
-            "line 1, column 6, '99999999999999999999': too large for its field: expected 0 to 65535",
+            UNIT_AND,
+            "average-price -$99999999999999999999",
+            "-$99999999999999999999",
+            "too small: expected $0.00 to $10,000.00",
         ),
         (
-            "unit 1 MW",
-            "line 1, column 8, 'MW': unit has no such word after it",
+            UNIT_AND,
+            "constrained-hours 65536",
+            "65536",
+            "too large: expected 0 to 8,784",
+        ),
+        // What may be meant as decimals, or as nothing, is not taken.
+        (UNIT_AND, "average-price 1,00", "1,00", dollars),
+        (UNIT_AND, "average-price 0,500", "0,500", dollars),
+        (UNIT_AND, "average-price ,500", ",500", dollars),
+        (UNIT_AND, "average-price 1,5000", "1,5000", dollars),
+        (UNIT_AND, "average-price 1,500,", "1,500,", dollars),
+        (UNIT_AND, "average-price 1, 500", "1, 500", dollars),
+        (UNIT_AND, "average-price 1.500,00", "1.500,00", dollars),
+        (UNIT_AND, "average-price -$-5", "-$-5", dollars),
+        (UNIT_AND, "average-price $$5", "$$5", dollars),
+        (UNIT_AND, "average-price --5", "--5", dollars),
+        (
+            UNIT_AND,
+            "area maybe",
+            "maybe",
+            "expected 0 or 1, or no or yes",
+        ),
+        (REFERENCE, "power", "power", COMPONENTS),
+        (
+            PAST,
+            "-1 market 0 day 0",
+            "-1",
+            "too small: expected withheld, fuel, or its number, 1 or 3",
         ),
         (
-            "unit 1 capability 5 MWh",
-            "line 1, column 21, 'MWh': capability is in MW",
+            PAST,
+            "fuel day 0 market 300",
+            "300",
+            "too large: expected day-ahead, real-time, or its number, 0 or 1",
+        ),
+        (PAST, "fuel market 0 day 2021-02-29", "2021-02-29", day),
+        (
+            PAST,
+            "fuel market 0 day 4294967296",
+            "4294967296",
+            "too large: expected 0 to 1,000,000",
         ),
         (
-            "unit 1 capability 5.05 MW",
-            "line 1, column 19, '5.05': expected MW with at most one decimal, such as 50.1 MW",
+            PAST,
+            "fuel day 0 market dayahead",
+            "dayahead",
+            "did you mean day-ahead?",
         ),
         (
-            "unit 1 capability 5. MW",
-            "line 1, column 19, '5.': expected MW with at most one decimal, such as 50.1 MW",
-        ),
-        (
-            "unit 1 capability 429496729.6",
-            "line 1, column 19, '429496729.6': too large for its field: expected 0.0 MW to 429496729.5 MW",
-        ),
-        (
-            "unit 1 capability 99999999999999999999.9 MW",
-            "line 1, column 19, '99999999999999999999.9': too large for its field: expected 0.0 MW to 429496729.5 MW",
-        ),
-        (
-            "unit 1 average-price -$99999999999999999999",
-            "line 1, column 22, '-$99999999999999999999': too small for its field: expected $0.00 to $42949672.95",
-        ),
-        (
-            "unit 1 average-price 1,000.00",
-            "line 1, column 22, '1,000.00': expected dollars with at most two decimals, such as $40.00",
-        ),
-        (
-            "unit 1 average-price $-5",
-            "line 1, column 22, '$-5': expected dollars with at most two decimals, such as $40.00",
-        ),
-        (
-            "reference unit 1 component power value 1",
-            "line 1, column 28, 'power': expected one of energy, minimum-generation, reserve-or-regulation, start-up-cost, start-up-time, minimum-run-time, minimum-down-time, minimum-parameter, maximum-parameter, or a number 0 to 255",
-        ),
-        (
-            "reference unit 1 component 256 value 1",
-            "line 1, column 28, '256': too large for its field: expected one of energy, minimum-generation, reserve-or-regulation, start-up-cost, start-up-time, minimum-run-time, minimum-down-time, minimum-parameter, maximum-parameter, or a number 0 to 255",
-        ),
-        (
-            "event day 3 kind -1",
-            "line 1, column 18, '-1': too small for its field: expected one of withheld, dispatch, fuel, bids, or a number 0 to 255",
-        ),
-        (
-            "past group 1 kind fuel market 300",
-            "line 1, column 31, '300': too large for its field: expected one of day-ahead, real-time, or a number 0 to 255",
-        ),
-        (
-            "past group 1 kind fuel market 0 period 0 day 2021-02-29",
-            "line 1, column 46, '2021-02-29': expected a day number, from 0 on 1 January 2000, or a date such as 2021-11-26",
-        ),
-        (
-            "past group 1 kind fuel market dayahead",
-            "line 1, column 31, 'dayahead': expected one of day-ahead, real-time, or a number 0 to 255",
-        ),
-        (
-            "reference unit 1 component start-up-time value 1.5 minutes",
-            "line 1, column 48, '1.5': expected whole minutes, such as 180 minutes",
+            ("reference unit 1 component start-up-time value ", ""),
+            "1.5 minutes",
+            "1.5",
+            "expected whole minutes, such as 180 minutes",
         ),
     ] {
-        wrong(text, message);
+        let at = value.rfind(word).expect("the word");
+        let column = before.chars().count() + value[..at].chars().count() + 1;
+        let message = format!("line 1, column {column}, '{word}': {problem}");
+        wrong(&format!("{before}{value}{after}"), &message);
     }
+}
+
+#[test]
+fn numbers_of_a_kind_and_a_component() {
+    wrong(
+        "reference unit 1 component 256 value 1",
+        &format!("line 1, column 28, '256': too large: {COMPONENTS}"),
+    );
+    let problem = "too small: expected withheld, dispatch, fuel, bids, or its number, 1 to 4";
+    wrong(
+        "event day 3 kind -1 market 0 unit 1 period 0",
+        &format!("line 1, column 18, '-1': {problem}"),
+    );
+    wrong(
+        "event day 3 kind dispatch market 256 unit 1 period 0 impact 0",
+        "line 1, column 34, '256': too large: expected real-time, or its number, 1",
+    );
 }
 
 #[test]
 fn hours() {
     let hours = "expected hours from 0 to 23, as in 0,5-7";
-    for (text, message) in [
-        ("hour", "column 5: expected hours, such as 0,5-7".to_string()),
-        ("hour 24 bid 1", format!("column 6, '24': {hours}")),
-        ("hour x bid 1", format!("column 6, 'x': {hours}")),
-        ("hour 3, bid 1", format!("column 6, '3,': {hours}")),
-        ("hour -3 bid 1", format!("column 6, '-3': {hours}")),
-        ("hour +3 bid 1", format!("column 6, '+3': {hours}")),
-        ("hours 7-5 bid 1", "column 7, '7-5': expected hours that rise, such as 0,5-7".to_string()),
-        ("hours 5,5 bid 1", "column 7, '5,5': expected hours that rise, such as 0,5-7".to_string()),
-        ("hours none bid 1", format!("column 7, 'none': {hours}")),
-        ("hour 3 withheld 1", "column 8, 'withheld': unknown key; expected bid, price, quantity".to_string()),
-        ("hour 3 bid 21474836.48", "column 12, '21474836.48': too large for its field: expected -$21474836.48 to $21474836.47".to_string()),
-        ("hour 3 bid -21474836.49", "column 12, '-21474836.49': too small for its field: expected -$21474836.48 to $21474836.47".to_string()),
+    let rise = "expected hours that rise, such as 0,5-7";
+    for (list, problem) in [
+        ("24", hours),
+        ("x", hours),
+        ("3,", hours),
+        ("-3", hours),
+        ("+3", hours),
+        ("none", hours),
+        ("5 - 24", hours),
+        ("5, , 6", hours),
+        ("7-5", rise),
+        ("7, 5", rise),
+        ("5,5", rise),
+        ("5–7, 6", rise),
     ] {
-        wrong(&format!("{UNIT}\n{EVENT}\n{text}"), &format!("line 3, {message}"));
+        wrong(
+            &format!("{UNIT}\n{EVENT}\nhours {list} bid 1 price 1 quantity 1"),
+            &format!("line 3, column 7, '{list}': {problem}"),
+        );
+    }
+    let bid = "expected -$10,000.00 to $10,000.00";
+    for (text, message) in [
+        (
+            "hour",
+            "column 5: expected hours, such as 0,5-7".to_string(),
+        ),
+        (
+            "hour 3 bid 1 price 1 quantity 1 withheld 1",
+            "column 33, 'withheld': unknown key; expected bid, price, quantity".to_string(),
+        ),
+        (
+            "hour 3 price 1 quantity 1 bid 21474836.48",
+            format!("column 31, '21474836.48': too large: {bid}"),
+        ),
+        (
+            "hour 3 price 1 quantity 1 bid -21474836.49",
+            format!("column 31, '-21474836.49': too small: {bid}"),
+        ),
+    ] {
+        wrong(
+            &format!("{UNIT}\n{EVENT}\n{text}"),
+            &format!("line 3, {message}"),
+        );
     }
     wrong(
-        &format!("{EVENT}\nhours 0-5 bid 1 price 1 quantity 1\nhours 4-6 price 1"),
-        "line 3, column 7, '4-6': this event has hour 4-5 already",
+        &format!("{EVENT}\nhours 0-5 bid 1 price 1 quantity 1\nhours 4-6 bid 1 price 1 quantity 1"),
+        "line 3, column 7, '4-6': this event has hours 4–5 already",
     );
     wrong(
         &format!("{EVENT}\n{UNIT}\nhour 5 bid 1"),
         "line 3, column 1, 'hour': hours follow the line of their event",
     );
-    let masks = "expected hours from 0 to 31, as in 0,5-7, or none for no hours";
+    wrong(
+        &format!(
+            "{UNIT}\nevent day 1 kind withheld market 0 unit 12 period 0 impact 0\nhour 0 price 0 withheld 429496729.6"
+        ),
+        "line 3, column 25, '429496729.6': too large: expected at most the capability of its unit",
+    );
+    let masks = "expected hours from 0 to 23, as in 0,5-7, or none for no hours";
     let event = EVENT.replace("none", "32");
     wrong(
         &event,
@@ -207,9 +310,10 @@ fn too_many_records() {
         &units.concat(),
         "line 65, column 1, 'unit': at most 64 units fit",
     );
+    let as_written = |lines: &str| format!("order as-written\n{lines}");
     wrong(
-        &format!("{EVENT}\n").repeat(201),
-        "line 201, column 1, 'event': at most 200 events fit",
+        &as_written(&format!("{EVENT}\n").repeat(201)),
+        "line 202, column 1, 'event': at most 200 events fit",
     );
     let past = "past group 1 kind fuel market 0 period 0 day 0\n";
     wrong(
@@ -218,14 +322,15 @@ fn too_many_records() {
     );
     let over = format!("{}{}", format!("{EVENT}\n").repeat(200), past.repeat(214));
     wrong(
-        &over,
-        "line 414, column 1, 'past': with this record the file is over 65,000 bytes",
+        &as_written(&over),
+        "line 415, column 1, 'past': with this record the file is over 65,000 bytes",
     );
     let reference = "reference unit 1 component energy value 1\n";
-    let error = correction(reference.repeat(257).as_bytes()).expect_err("one too many");
+    let references = as_written(&reference.repeat(257));
+    let error = correction(references.as_bytes()).expect_err("one too many");
     assert_eq!(
         error.to_string(),
-        "line 257, column 1, 'reference': at most 256 references fit"
+        "line 258, column 1, 'reference': at most 256 references fit"
     );
     let error = correction(UNIT.as_bytes()).expect_err("a unit");
     assert_eq!(
@@ -243,15 +348,18 @@ fn no_text() {
     let message = "casetool: standard input: line 2, column 5: byte 233 is no text: a case as text is UTF-8 (is this a case file?)\n";
     assert_eq!((ran.status, ran.errors.as_str()), (1, message));
     let error = case_file("unit 12 \u{1}é\u{a0}x 7".as_bytes()).expect_err("no key");
+    let first = &error.shown()[0];
     assert_eq!(
-        (error.column, error.word.as_deref()),
+        (first.column, first.word.as_deref()),
         (9, Some("\\u{1}é\\u{a0}x"))
     );
     let error = case_file("unit 12 é 5 é 6".as_bytes()).expect_err("a key twice");
-    assert_eq!((error.column, error.word.as_deref()), (13, Some("é")));
+    let places: Vec<usize> = error.shown().iter().map(|error| error.column).collect();
+    assert_eq!(places, [9, 13, 16]);
     let long = "x".repeat(100_000);
     let error = case_file(long.as_bytes()).expect_err("no record");
-    assert_eq!(error.word.map(|word| word.chars().count()), Some(41));
+    let word = error.shown()[0].word.as_ref();
+    assert_eq!(word.map(|word| word.chars().count()), Some(41));
 }
 
 #[test]
@@ -262,10 +370,13 @@ fn a_line_of_many_keys() {
         .collect();
     let text = format!("unit 12{}", keys.concat());
     let error = case_file(text.as_bytes()).expect_err("no such key");
-    assert_eq!((error.column, error.word.as_deref()), (9, Some("key-0")));
+    let first = &error.shown()[0];
+    assert_eq!((first.column, first.word.as_deref()), (9, Some("key-0")));
+    // And that group and capability are missing.
+    assert_eq!((error.count(), error.shown().len()), (400_001, 20));
     let twice = format!("{text} key-7 2");
     let error = case_file(twice.as_bytes()).expect_err("a key twice");
-    assert_eq!(error.problem, "this key is there twice");
+    assert_eq!(error.count(), 400_002);
 }
 
 /// A good text with bytes, words or lines changed.
@@ -305,9 +416,17 @@ fn noise_never_panics() {
             assert_eq!(again.map(|again| again.bytes).as_ref(), Ok(&file));
             good += 1;
         }
-        Err(error) => {
-            assert!(error.line >= 1 && error.column >= 1);
-            assert!(!error.to_string().contains('\n'));
+        Err(mistakes) => {
+            let places: Vec<(usize, usize)> = mistakes
+                .shown()
+                .iter()
+                .map(|error| (error.line, error.column))
+                .collect();
+            assert!(places.is_sorted() && places[0] >= (1, 1));
+            assert_eq!(places.len(), mistakes.count().min(20));
+            for error in mistakes.shown() {
+                assert!(!error.to_string().contains('\n'));
+            }
             bad += 1;
         }
     };

@@ -44,6 +44,15 @@ pub enum Request {
     Run(Topic, Given),
 }
 
+/// What a case is given as.
+#[derive(Clone, Copy, Debug, PartialEq, Eq)]
+pub enum As {
+    /// A text.
+    Text,
+    /// A case file.
+    Case,
+}
+
 /// What was given to a command.
 #[derive(Clone, Debug, PartialEq, Eq)]
 pub struct Given {
@@ -55,8 +64,10 @@ pub struct Given {
     pub correction: Option<Source>,
     /// That what is written or shown is a correction.
     pub is_correction: bool,
-    /// That a text without an event, or a correction without a reference, is written.
+    /// That a text without an event, or a correction without a reference, is taken.
     pub allow_empty: bool,
+    /// What the case is; nothing where its bytes decide.
+    pub taken_as: Option<As>,
     /// The event of a working.
     pub event: usize,
     /// The hour of a working.
@@ -71,6 +82,7 @@ struct Found {
     correction: Option<Source>,
     is_correction: bool,
     allow_empty: bool,
+    taken_as: Option<As>,
     event: Option<usize>,
     hour: Option<usize>,
 }
@@ -166,12 +178,19 @@ impl Found {
         option: &str,
         rest: &mut impl Iterator<Item = &'a OsString>,
     ) -> Result<(), String> {
-        let takes_text = matches!(topic, Topic::Write | Topic::Show);
+        let converts = matches!(topic, Topic::Write | Topic::Show);
         match option {
-            "--correction" if takes_text => flag(&mut self.is_correction, option),
+            "--correction" if converts => flag(&mut self.is_correction, option),
             "--correction" => once(&mut self.correction, option, source(value(option, rest)?)),
             "-o" | "--output" => once(&mut self.output, option, value(option, rest)?.into()),
-            "--allow-empty" if topic == Topic::Write => flag(&mut self.allow_empty, option),
+            "--allow-empty" if !matches!(topic, Topic::Show | Topic::Working) => {
+                flag(&mut self.allow_empty, option)
+            }
+            "--as" if !converts => {
+                let forms = [("text", As::Text), ("case", As::Case)];
+                let form = one_of(option, value(option, rest)?, &forms)?;
+                once(&mut self.taken_as, option, form)
+            }
             "--event" if topic == Topic::Working => {
                 let event = number(option, value(option, rest)?, usize::MAX)?;
                 once(&mut self.event, option, event)
@@ -211,6 +230,7 @@ impl Found {
             correction: self.correction,
             is_correction: self.is_correction,
             allow_empty: self.allow_empty,
+            taken_as: self.taken_as,
             event: self.event.unwrap_or(0),
             hour: self.hour.unwrap_or(0),
         })
@@ -246,6 +266,18 @@ fn source(argument: &OsStr) -> Source {
         Some("-") => Source::Input,
         _ => Source::File(argument.into()),
     }
+}
+
+/// One of the words that an option takes.
+fn one_of<T: Copy>(option: &str, argument: &OsStr, words: &[(&str, T)]) -> Result<T, String> {
+    let found = words
+        .iter()
+        .find(|(word, _)| argument.to_str() == Some(*word));
+    found.map(|(_, form)| *form).ok_or_else(|| {
+        let words: Vec<&str> = words.iter().map(|(word, _)| *word).collect();
+        let words = words.join(" or ");
+        format!("{option} {}: expected {words}", shown(argument))
+    })
 }
 
 fn number(option: &str, argument: &OsStr, most: usize) -> Result<usize, String> {

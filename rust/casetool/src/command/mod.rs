@@ -3,29 +3,32 @@
 pub mod arguments;
 pub mod files;
 pub mod help;
+mod input;
 pub mod output;
 
 use std::io::{Read, Write};
 
-use attachment_h::layout::{Section, Sections};
+use attachment_h::layout::{REFERENCE_BYTES, Section, Sections};
 use attachment_h::{ROWS_LENGTH, check, settle, working};
 
-use arguments::Given;
-use help::Topic;
-
+use self::arguments::Given;
+use self::help::Topic;
+use self::input::Inputs;
 use crate::format::notes::Correction;
 use crate::format::settlement::Settlement;
 use crate::format::working::Hour;
-use crate::place;
-use crate::place::refusal::describe;
+use crate::place::refusal::Refusal;
+use crate::place::{self, hint};
 use crate::record::event::Event;
-use crate::text::amounts;
-use crate::text::{show as text_show, words, write as text_write};
+use crate::text::mistakes::Mistakes;
+use crate::text::{amounts, show as text_show, words, write as text_write};
 
 /// Why a command has no answer.
 pub enum Failure {
     /// The message for standard error.
     Message(String),
+    /// What is wrong in the text of this name.
+    Mistakes(String, Mistakes),
     /// It was asked for what its case does not have.
     Misuse(String),
 }
@@ -33,6 +36,12 @@ pub enum Failure {
 impl From<String> for Failure {
     fn from(message: String) -> Failure {
         Failure::Message(message)
+    }
+}
+
+impl From<Refusal> for Failure {
+    fn from(refusal: Refusal) -> Failure {
+        Failure::Message(refusal.to_string())
     }
 }
 
@@ -89,49 +98,46 @@ pub fn run(
             return Err(Failure::Misuse(problem));
         }
     }
-    let file = files::read(&given.source, input)?;
-    let correction = correction(given, input)?;
     let answer = match topic {
-        Topic::Write => write(&file, given).map_err(Failure::from),
-        Topic::Show => show(&file, given).map_err(Failure::from),
-        Topic::Check => Ok(checked(&file, &correction)),
-        Topic::Settle => settled(&file, &correction, given).map_err(Failure::from),
-        Topic::Working => worked(&file, &correction, given),
-        Topic::Casetool => Ok(Answer::done(topic.text())),
-    }?;
+        Topic::Casetool => Answer::done(topic.text()),
+        Topic::Write => write(&files::read(&given.source, input)?, given)?,
+        Topic::Show => show(&files::read(&given.source, input)?, given)?,
+        Topic::Check | Topic::Settle | Topic::Working => about_a_case(topic, given, input)?,
+    };
     output::write(&answer.bytes, given.output.as_deref(), output)?;
     Ok(answer.done)
 }
 
-/// The correction, empty where none is named. One that is named has something in it.
-fn correction(given: &Given, input: &mut dyn Read) -> Result<Vec<u8>, Failure> {
-    let Some(source) = &given.correction else {
-        return Ok(Vec::new());
+/// The answer of a command that reads a case.
+fn about_a_case(topic: Topic, given: &Given, input: &mut dyn Read) -> Result<Answer, Failure> {
+    let inputs = Inputs::read(given, input)?;
+    let mut answer = match topic {
+        Topic::Check => checked(&inputs),
+        Topic::Settle => settled(&inputs)?,
+        _ => worked(&inputs, given)?,
     };
-    let correction = files::read(source, input)?;
-    if correction.is_empty() {
-        let problem = format!("--correction {source}: it is empty, and corrects nothing");
-        return Err(Failure::Misuse(problem));
-    }
-    Ok(correction)
+    answer.done.warnings = inputs.warnings;
+    Ok(answer)
 }
-
-fn write(text: &[u8], given: &Given) -> Result<Answer, String> {
-    let name = &given.source;
-    let (written, lacking) = if given.is_correction {
-        (text_write::correction(text), "reference")
+fn write(text: &[u8], given: &Given) -> Result<Answer, Failure> {
+    let name = given.source.to_string();
+    let written = if given.is_correction {
+        text_write::correction(text)
     } else {
-        (text_write::case_file(text), "event")
+        text_write::case_file(text)
     };
-    let written = written.map_err(|error| format!("{name}: {error}"))?;
-    let is_empty = match Sections::of(&written.bytes) {
-        Some(sections) if !given.is_correction => sections.count(Section::Events) == 0,
-        _ => written.bytes.is_empty(),
-    };
-    if is_empty && !given.allow_empty {
-        return Err(format!(
-            "{name}: this text has no {lacking}; with --allow-empty it is written all the same"
-        ));
+    let written = written.map_err(|mistakes| Failure::Mistakes(name.clone(), mistakes))?;
+    if !given.allow_empty {
+        if given.is_correction && written.bytes.is_empty() {
+            return Err(Failure::Message(input::has_no(
+                "reference",
+                &name,
+                "written",
+            )));
+        }
+        if !given.is_correction && input::is_empty_case(&written.bytes) {
+            return Err(Failure::Message(input::has_no("event", &name, "written")));
+        }
     }
     let warnings = written.warnings.iter();
     Ok(Answer {
@@ -153,7 +159,7 @@ fn show(file: &[u8], given: &Given) -> Result<Answer, String> {
             Section::References.most(),
         );
         if !file.len().is_multiple_of(bytes) || file.len() / bytes > most {
-            let hint = place::text_hint(place::Given::Correction, file);
+            let hint = hint(place::Given::Correction, file);
             return Err(format!(
                 "{name}: no correction: it has {}; expected a multiple of {bytes}, at most {}\n{}",
                 amounts::bytes(file.len()),
@@ -166,28 +172,30 @@ fn show(file: &[u8], given: &Given) -> Result<Answer, String> {
     match (Sections::of(file), check(file, &[], ROWS_LENGTH)) {
         (Some(sections), _) => Ok(Answer::done(text_show::case_text(&sections))),
         (None, Err(refused)) => {
-            let refusal = describe(refused, file, &[], ROWS_LENGTH);
+            let refusal = Refusal::of(refused, file, &[], ROWS_LENGTH);
             Err(format!(
                 "{name}: this file has no sections to show\n{refusal}"
             ))
         }
-        (None, Ok(())) => Err(format!(
-            "{name}: casetool finds no sections in this accepted case, which is a mistake of casetool"
-        )),
+        (None, Ok(())) => {
+            let mistake = mistake("sections in this accepted case");
+            Err(format!("{name}: {mistake}"))
+        }
     }
 }
 
-fn checked(file: &[u8], correction: &[u8]) -> Answer {
-    match check(file, correction, ROWS_LENGTH) {
+fn checked(inputs: &Inputs) -> Answer {
+    match inputs.check() {
         Ok(()) => {
-            let events = Sections::of(file).map_or(0, |sections| sections.count(Section::Events));
+            let sections = Sections::of(&inputs.case.bytes);
+            let events = sections.map_or(0, |sections| sections.count(Section::Events));
             Answer::done(format!(
                 "accepted, {}\n",
                 words::count(Section::Events, events)
             ))
         }
-        Err(refused) => Answer {
-            bytes: describe(refused, file, correction, ROWS_LENGTH).into(),
+        Err(refusal) => Answer {
+            bytes: refusal.to_string().into(),
             done: Done {
                 accepted: false,
                 ..Done::default()
@@ -196,24 +204,24 @@ fn checked(file: &[u8], correction: &[u8]) -> Answer {
     }
 }
 
-fn settled(file: &[u8], correction: &[u8], given: &Given) -> Result<Answer, String> {
+fn settled(inputs: &Inputs) -> Result<Answer, Failure> {
+    let file = &inputs.case.bytes;
     let settle_with = |correction: &[u8]| {
         let mut rows = vec![0; ROWS_LENGTH];
         settle(file, correction, &mut rows)
             .map(|settled| (settled, rows))
-            .map_err(|refused| describe(refused, file, correction, ROWS_LENGTH))
+            .map_err(|refused| inputs.refusal(refused))
     };
-    let (settled, rows) = settle_with(correction)?;
-    let correction = match &given.correction {
-        Some(source) => Some(Correction {
-            name: source.to_string(),
-            references: correction.len() / Section::References.record_bytes(),
+    let (settled, rows) = settle_with(inputs.correction_bytes())?;
+    let correction = match &inputs.correction {
+        Some(correction) => Some(Correction {
+            name: correction.name.clone(),
+            references: correction.bytes.len() / REFERENCE_BYTES,
             rows_without: settle_with(&[])?.1,
         }),
         None => None,
     };
-    let sections = Sections::of(file)
-        .ok_or("casetool finds no sections in this settled case, which is a mistake of casetool")?;
+    let sections = Sections::of(file).ok_or_else(|| mistake("sections in this settled case"))?;
     let settlement = Settlement {
         sections,
         rows: &rows,
@@ -222,12 +230,11 @@ fn settled(file: &[u8], correction: &[u8], given: &Given) -> Result<Answer, Stri
     Ok(Answer::done(settlement.text(&settled)))
 }
 
-fn worked(file: &[u8], correction: &[u8], given: &Given) -> Result<Answer, Failure> {
-    let mistake =
-        "casetool finds no such hour in this accepted case, which is a mistake of casetool";
-    check(file, correction, ROWS_LENGTH)
-        .map_err(|refused| describe(refused, file, correction, ROWS_LENGTH))?;
-    let sections = Sections::of(file).ok_or_else(|| mistake.to_string())?;
+fn worked(inputs: &Inputs, given: &Given) -> Result<Answer, Failure> {
+    inputs.check()?;
+    let file = &inputs.case.bytes;
+    let none = || mistake("such hour in this accepted case");
+    let sections = Sections::of(file).ok_or_else(none)?;
     let Some(record) = sections.records(Section::Events).nth(given.event) else {
         let events = match sections.count(Section::Events) {
             0 => "no events".to_string(),
@@ -242,7 +249,12 @@ fn worked(file: &[u8], correction: &[u8], given: &Given) -> Result<Answer, Failu
         event: Event::of(record),
         hour: given.hour,
     };
-    let working = working(file, correction, given.event, given.hour)
-        .map_err(|refused| format!("{refused}: {mistake}"))?;
+    let working = working(file, inputs.correction_bytes(), given.event, given.hour)
+        .map_err(|refused| format!("{refused}: {}", none()))?;
     Ok(Answer::done(hour.text(&working)))
+}
+
+/// That casetool does not find what has to be there.
+fn mistake(what: &str) -> String {
+    format!("casetool finds no {what}, which is a mistake of casetool")
 }

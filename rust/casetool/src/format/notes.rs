@@ -1,11 +1,12 @@
 //! What stands beside the figures of a settlement in words: why there is no multiplier or no penalty,
 //! and what a correction changed. All of it is told from the rows.
 
+use attachment_h::layout::{HOURS, Section, Sections, cell, u16_at, u32_at};
+use attachment_h::{Kind, Market, Mask, Multiplier, Row};
+
 use crate::record::event::Event;
 use crate::text::amounts::{self, dollars};
 use crate::text::{hours, words};
-use attachment_h::layout::{HOURS, Section, Sections, cell, u16_at, u32_at};
-use attachment_h::{Kind, Market, Mask, Multiplier, Row};
 
 /// The correction that a case was settled with.
 pub struct Correction {

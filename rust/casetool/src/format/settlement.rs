@@ -2,6 +2,7 @@
 //!
 //! Every figure is one of the rows or of the result; none is worked out here.
 
+use attachment_h::layout::{Section, Sections, u16_at};
 use attachment_h::{Component, Kind, Mask, Row, Settled};
 
 use crate::format::notes::{self, Correction};
@@ -11,7 +12,6 @@ use crate::text::amounts::dollars;
 use crate::text::calendar;
 use crate::text::hours;
 use crate::text::words;
-use attachment_h::layout::{Section, Sections, u16_at};
 
 /// A case that was settled.
 pub struct Settlement<'a> {

@@ -1,14 +1,15 @@
 //! Numbers 10 to 15: the events, and the rows that they need.
 
+use attachment_h::layout::{
+    CELL_BYTES, EVENT_HEAD_BYTES, HOURS, ROW_BYTES, Section, Sections, cell, u16_at, u32_at,
+};
+use attachment_h::{Component, Kind};
+
 use super::{Part, Place, broken_field, field_sentence, value_words};
 use crate::record::event::Event;
 use crate::record::fields;
 use crate::text::amounts;
 use crate::text::words;
-use attachment_h::layout::{
-    CELL_BYTES, EVENT_HEAD_BYTES, HOURS, ROW_BYTES, Section, Sections, cell, u16_at, u32_at,
-};
-use attachment_h::{Component, Kind};
 
 /// The events of a case with their numbers.
 fn events<'a>(sections: &Sections<'a>) -> impl Iterator<Item = (usize, Event<'a>)> {

@@ -1,8 +1,9 @@
 //! Numbers 1 to 5: the length, the header and its pairs.
 
+use attachment_h::layout::{HEADER_BYTES, Section, pair, u16_at};
+
 use super::{Part, Place};
 use crate::text::amounts::{bytes, number as number_of};
-use attachment_h::layout::{HEADER_BYTES, Section, pair, u16_at};
 
 fn place(at: usize, sentence: String) -> Place {
     Place {

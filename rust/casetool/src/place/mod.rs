@@ -7,9 +7,11 @@ mod header;
 mod records;
 pub mod refusal;
 
-use crate::record::field::{Field, Form, Limit};
-use crate::text::amounts::Measure;
 use attachment_h::layout::{Section, Sections};
+
+use crate::record::field::{Field, Form};
+use crate::text::amounts::Measure;
+use crate::text::bytes::{is_text, utf_16};
 
 /// What a place is in.
 #[derive(Clone, Copy, Debug, PartialEq, Eq)]
@@ -37,21 +39,6 @@ pub struct Place {
     pub sentence: String,
 }
 
-/// The place where a case breaks the limit of a number; none is a mistake of this search.
-pub fn find(number: u8, file: &[u8], correction: &[u8], rows_length: usize) -> Option<Place> {
-    let mut place = search(number, file, correction, rows_length)?;
-    let hint = match number {
-        1 | 2 => text_hint(Given::Case, file),
-        8 => text_hint(Given::Correction, correction),
-        _ => None,
-    };
-    if let Some(hint) = hint {
-        place.sentence.push('\n');
-        place.sentence.push_str(hint);
-    }
-    Some(place)
-}
-
 /// What bytes were given as.
 #[derive(Clone, Copy, Debug, PartialEq, Eq)]
 pub enum Given {
@@ -62,21 +49,24 @@ pub enum Given {
 }
 
 /// What to do with a text that was given as a file; nothing of bytes that are no text.
-pub fn text_hint(given: Given, bytes: &[u8]) -> Option<&'static str> {
-    let text = std::str::from_utf8(bytes).ok()?;
-    let control = |letter: char| letter.is_control() && !letter.is_whitespace();
-    if text.is_empty() || text.contains(control) {
-        return None;
+pub fn hint(given: Given, bytes: &[u8]) -> Option<String> {
+    let (what, command) = match given {
+        Given::Case => ("this file", "casetool write makes a case file of it"),
+        Given::Correction => (
+            "the correction",
+            "casetool write --correction makes a correction of it",
+        ),
+    };
+    if let Some(name) = utf_16(bytes) {
+        return Some(format!(
+            "{what} looks like text in {name}: it has to be UTF-8"
+        ));
     }
-    Some(match given {
-        Given::Case => "this file looks like text: casetool write makes a case file of it",
-        Given::Correction => {
-            "the correction looks like text: casetool write --correction makes a correction of it"
-        }
-    })
+    is_text(bytes).then(|| format!("{what} looks like text: {command}"))
 }
 
-fn search(number: u8, file: &[u8], correction: &[u8], rows_length: usize) -> Option<Place> {
+/// The place where a case breaks the limit of a number; none is a mistake of this search.
+pub fn find(number: u8, file: &[u8], correction: &[u8], rows_length: usize) -> Option<Place> {
     match number {
         1 => Some(header::length(file)),
         2 | 3 => header::fixed(file, number),
@@ -117,7 +107,7 @@ fn field_sentence(field: &Field, record: &[u8]) -> String {
         "{} is {}; {}",
         field_name(field),
         value_words(field.form, value),
-        limit_words(field)
+        field.limit.words(|value| value_words(field.form, value))
     )
 }
 
@@ -136,18 +126,5 @@ fn value_words(form: Form, value: i64) -> String {
     match (form.spoken(value), Measure::Plain.spoken(value)) {
         (spoken, number) if spoken == number => number,
         (spoken, number) => format!("{number} ({spoken})"),
-    }
-}
-
-/// What a field may be.
-fn limit_words(field: &Field) -> String {
-    let words = |value| value_words(field.form, value);
-    match field.limit {
-        Limit::Any => "any value".to_string(),
-        Limit::Between(low, high) if low == high => format!("expected {}", words(low)),
-        Limit::Between(0, 1) => format!("expected {} or {}", words(0), words(1)),
-        Limit::Between(low, high) => format!("expected {} to {}", words(low), words(high)),
-        Limit::Either(one, other) => format!("expected {} or {}", words(one), words(other)),
-        Limit::Mask => "bits 24 to 31 of the mask have to be 0".to_string(),
     }
 }

@@ -1,11 +1,12 @@
 //! Numbers 6 to 9: units, references, the correction and past entries.
 
+use attachment_h::layout::{Section, Sections, u16_at};
+use attachment_h::{Component, Kind, Market};
+
 use super::{Part, Place, broken_field, field_sentence};
 use crate::record::fields;
 use crate::text::amounts;
 use crate::text::words;
-use attachment_h::layout::{Section, Sections, u16_at};
-use attachment_h::{Component, Kind, Market};
 
 /// Number 6: the first unit with a field out of its limits, or out of order.
 pub fn units(sections: &Sections<'_>) -> Option<Place> {

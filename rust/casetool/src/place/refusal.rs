@@ -1,15 +1,60 @@
 //! A refused case in words: the number, its meaning, and the first record and field that break it.
 
+use std::fmt;
+
 use attachment_h::Refused;
 
-use crate::place;
+use super::{Given, Place, find, hint};
+use crate::text::source::Position;
 
-/// A refusal in two lines: the number with its meaning, then the place.
-pub fn describe(refused: Refused, file: &[u8], correction: &[u8], rows_length: usize) -> String {
-    let place = place::find(refused.0, file, correction, rows_length);
-    let place = place.map_or_else(
-        || "casetool finds no place for this number, which is a mistake of casetool".to_string(),
-        |place| place.sentence,
-    );
-    format!("{refused}: {}\n{place}\n", refused.meaning())
+/// A refusal with its place.
+#[derive(Clone, Debug, PartialEq, Eq)]
+pub struct Refusal {
+    /// The number.
+    pub refused: Refused,
+    /// The first record and field that break the limit; none is a mistake of the search.
+    pub place: Option<Place>,
+    /// Where they stand in the text that they came from, with the name of that text.
+    pub position: Option<(String, Position)>,
+    /// What the bytes look like that are no case or correction.
+    pub hint: Option<String>,
+}
+
+impl Refusal {
+    /// The refusal of a case with its correction, for a rows buffer of this length.
+    pub fn of(refused: Refused, file: &[u8], correction: &[u8], rows_length: usize) -> Refusal {
+        Refusal {
+            refused,
+            place: find(refused.0, file, correction, rows_length),
+            position: None,
+            hint: match refused.0 {
+                1 | 2 => hint(Given::Case, file),
+                8 => hint(Given::Correction, correction),
+                _ => None,
+            },
+        }
+    }
+
+    /// The place in words.
+    pub fn sentence(&self) -> &str {
+        self.place.as_ref().map_or(
+            "casetool finds no place for this number, which is a mistake of casetool",
+            |place| &place.sentence,
+        )
+    }
+}
+
+/// Two lines, the number with its meaning and the place, and a third where there is a hint.
+impl fmt::Display for Refusal {
+    fn fmt(&self, formatter: &mut fmt::Formatter<'_>) -> fmt::Result {
+        writeln!(formatter, "{}: {}", self.refused, self.refused.meaning())?;
+        if let Some((name, (line, column))) = &self.position {
+            write!(formatter, "{name}: line {line}, column {column}: ")?;
+        }
+        writeln!(formatter, "{}", self.sentence())?;
+        match &self.hint {
+            Some(hint) => writeln!(formatter, "{hint}"),
+            None => Ok(()),
+        }
+    }
 }

@@ -4,6 +4,7 @@
 use crate::text::amounts::Measure;
 use crate::text::calendar;
 use crate::text::hours;
+use crate::text::near;
 use crate::text::words::Names;
 
 /// How a field stands in text.
@@ -15,6 +16,8 @@ pub enum Form {
     Signed(Measure),
     /// A word for each number that has one; other numbers as they are.
     Name(Names),
+    /// A mark, 1 or 0; a text may have yes or no for it.
+    Mark,
     /// A mask of hours.
     Hours,
     /// A day number; a text may have a date for it.
@@ -31,7 +34,7 @@ impl Form {
                 None => value.to_string(),
             },
             Form::Hours => hours::text(value as u32),
-            Form::Day => value.to_string(),
+            Form::Mark | Form::Day => value.to_string(),
         }
     }
 
@@ -48,28 +51,7 @@ impl Form {
     pub fn measure(self) -> Measure {
         match self {
             Form::Amount(measure) | Form::Signed(measure) => measure,
-            Form::Name(_) | Form::Hours | Form::Day => Measure::Plain,
-        }
-    }
-
-    /// Reads the text form without the word of its measure: the value, or what was expected.
-    fn read(self, word: &str) -> Result<i64, String> {
-        match self {
-            Form::Amount(measure) | Form::Signed(measure) => measure.read(word),
-            Form::Name(names) => match names.number(word) {
-                Some(number) => Ok(number),
-                None => Measure::Plain.read(word).map_err(|_| names.expected()),
-            },
-            Form::Hours => hours::read_mask(word).map(i64::from),
-            Form::Day => calendar::day_of(word).map_or_else(
-                || {
-                    Measure::Plain.read(word).map_err(|_| {
-                        "expected a day number, from 0 on 1 January 2000, or a date such as 2021-11-26"
-                            .to_string()
-                    })
-                },
-                |day| Ok(i64::from(day)),
-            ),
+            Form::Name(_) | Form::Mark | Form::Hours | Form::Day => Measure::Plain,
         }
     }
 
@@ -90,16 +72,31 @@ pub enum Limit {
     Either(i64, i64),
     /// Bits 24 to 31 are 0.
     Mask,
+    /// What its bytes can hold here; a limit of its own, L13, holds it to the unit's capability.
+    Capability,
 }
 
 impl Limit {
     /// Whether a value is allowed.
     pub fn allows(self, value: i64) -> bool {
         match self {
-            Limit::Any => true,
+            Limit::Any | Limit::Capability => true,
             Limit::Between(low, high) => (low..=high).contains(&value),
             Limit::Either(one, other) => value == one || value == other,
             Limit::Mask => value >> 24 == 0,
+        }
+    }
+
+    /// The values that it allows, each by these words.
+    pub fn words(self, words: impl Fn(i64) -> String) -> String {
+        match self {
+            Limit::Any => "any value".to_string(),
+            Limit::Between(low, high) if low == high => format!("expected {}", words(low)),
+            Limit::Between(0, 1) => format!("expected {} or {}", words(0), words(1)),
+            Limit::Between(low, high) => format!("expected {} to {}", words(low), words(high)),
+            Limit::Either(one, other) => format!("expected {} or {}", words(one), words(other)),
+            Limit::Mask => "bits 24 to 31 of the mask have to be 0".to_string(),
+            Limit::Capability => "expected at most the capability of its unit".to_string(),
         }
     }
 }
@@ -177,20 +174,72 @@ impl Field {
         record[self.at..self.at + self.bytes].copy_from_slice(&word[..self.bytes]);
     }
 
-    /// Reads its value from text: what its bytes can hold, or what was expected.
+    /// Reads its value from text, without the word of its measure: what its bytes can hold, or what was expected.
     pub fn read(&self, word: &str) -> Result<i64, String> {
-        let value = self.form.read(word)?;
+        let value = self.number(word)?;
         let (low, high) = self.range();
-        let too = match value {
-            value if value < low => "small",
-            value if value > high => "large",
-            value => return Ok(value),
+        match value {
+            value if value < low => Err(format!("too small: {}", self.allowed())),
+            value if value > high => Err(format!("too large: {}", self.allowed())),
+            value => Ok(value),
+        }
+    }
+
+    fn number(&self, word: &str) -> Result<i64, String> {
+        match self.form {
+            Form::Amount(measure) | Form::Signed(measure) => measure.read(word),
+            Form::Name(names) => match names.number(word) {
+                Some(number) => Ok(number),
+                None => Measure::Plain.read(word).map_err(|_| {
+                    let meant = near::meant(word, names.words());
+                    meant.map_or_else(|| self.allowed(), near::question)
+                }),
+            },
+            Form::Mark => match word {
+                "yes" => Ok(1),
+                "no" => Ok(0),
+                _ => Measure::Plain
+                    .read(word)
+                    .map_err(|_| "expected 0 or 1, or no or yes".to_string()),
+            },
+            Form::Hours => hours::read_mask(word).map(i64::from),
+            Form::Day => calendar::day_of(word).map_or_else(
+                || {
+                    Measure::Plain.read(word).map_err(|_| {
+                        "expected a day number, from 0 on 1 January 2000, or a date such as 2021-11-26"
+                            .to_string()
+                    })
+                },
+                |day| Ok(i64::from(day)),
+            ),
+        }
+    }
+
+    /// What the limits allow, for a text.
+    fn allowed(&self) -> String {
+        let allowed = match self.limit {
+            Limit::Any => {
+                let (low, high) = self.range();
+                Limit::Between(low, high)
+            }
+            limit => limit,
         };
-        let expected = match self.form {
-            Form::Name(names) => names.expected(),
-            form => format!("expected {} to {}", form.text(low), form.text(high)),
-        };
-        Err(format!("too {too} for its field: {expected}"))
+        let numbers = allowed.words(|value| self.form.measure().spoken(value));
+        match self.form {
+            Form::Name(names) => {
+                let words = names.words().iter().copied();
+                let words: Vec<&str> = words
+                    .filter(|word| {
+                        names
+                            .number(word)
+                            .is_some_and(|number| allowed.allows(number))
+                    })
+                    .collect();
+                let number = numbers.trim_start_matches("expected ");
+                format!("expected {}, or its number, {number}", words.join(", "))
+            }
+            _ => numbers,
+        }
     }
 
     /// The least and the greatest value that its bytes can hold.

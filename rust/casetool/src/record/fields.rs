@@ -21,7 +21,7 @@ const LAST_DAY: i64 = 1_000_000;
 pub const UNIT: [Field; 12] = [
     Field::new(("unit number", "unit"), (0, 2), PLAIN).needed(),
     Field::new(("group", "group"), (2, 2), PLAIN).needed(),
-    Field::new(("area", "area"), (4, 1), PLAIN).within(0, 1),
+    Field::new(("area", "area"), (4, 1), Form::Mark).within(0, 1),
     Field::spare("spare-5", 5),
     Field::spare("spare-6", 6),
     Field::spare("spare-7", 7),
@@ -105,7 +105,18 @@ const COMPONENT: Field =
     Field::new(("component", "component"), (6, 1), Form::Name(COMPONENTS)).within(0, 0);
 
 /// The market of an event.
-pub const MARKET: Field = Field::new(("market", "market"), (1, 1), Form::Name(MARKETS)).needed();
+pub const MARKET: Field = Field::new(("market", "market"), (1, 1), Form::Name(MARKETS))
+    .needed()
+    .within(0, 1);
+
+/// The unit of an event.
+const UNIT_OF_EVENT: Field = Field::new(("unit", "unit"), (2, 2), PLAIN).needed();
+
+/// The capability period of an event.
+const PERIOD: Field = Field::new(("period", "period"), (4, 2), PLAIN).needed();
+
+/// The fields that every event has under one key, whatever its kind.
+pub const OF_EVERY_EVENT: [Field; 5] = [DAY, KIND, MARKET, UNIT_OF_EVENT, PERIOD];
 
 /// The fields of an event before its hour cells, by its kind, market and component, in the order of
 /// the text. Needed are those that the kind reads; its unit's area may ask for more.
@@ -126,10 +137,10 @@ pub fn event(shape: Shape) -> [Field; 10] {
         DAY,
         KIND,
         MARKET.within(markets.0, markets.1),
-        Field::new(("unit", "unit"), (2, 2), PLAIN).needed(),
-        Field::new(("period", "period"), (4, 2), PLAIN).needed(),
+        UNIT_OF_EVENT,
+        PERIOD,
         component_of_event(kind),
-        Field::new(("impact", "impact"), (7, 1), PLAIN)
+        Field::new(("impact", "impact"), (7, 1), Form::Mark)
             .needed_where(matches!(kind, Kind::WITHHELD | Kind::DISPATCH))
             .within(0, most_impact),
         p,
@@ -145,6 +156,11 @@ pub fn component_of_event(kind: Kind) -> Field {
     } else {
         COMPONENT
     }
+}
+
+/// Whether a field of an event is P, Q or R.
+pub fn is_p_q_or_r(field: &Field) -> bool {
+    matches!(field.name, "P" | "Q" | "R")
 }
 
 /// P, Q and R. A kind that lacks one has it under its letter, as a plain number.
@@ -195,9 +211,13 @@ pub fn cell(kind: Kind, component: Component) -> [Field; 3] {
     let no_m = m("m", PLAIN).within(0, 0);
     let price = |key| b(key, SIGNED_DOLLARS).within(-LARGEST_PRICE, LARGEST_PRICE);
     match kind {
-        Kind::WITHHELD => [a("withheld", POWER).needed(), price("price").needed(), no_m],
+        Kind::WITHHELD => [
+            a("withheld", POWER).needed().limited(Limit::Capability),
+            price("price").needed(),
+            no_m,
+        ],
         Kind::DISPATCH => [
-            a("undelivered", POWER).needed(),
+            a("undelivered", POWER).needed().limited(Limit::Capability),
             b("added-revenue", DOLLARS).needed().within(0, 100_000_000),
             no_m,
         ],

@@ -1,5 +1,7 @@
 //! Amounts of the file as people write them: tenths of MW as MW, cents as dollars, exactly.
 
+use std::borrow::Cow;
+
 use attachment_h::{Cents, Multiplier};
 
 /// What an amount is counted in.
@@ -86,19 +88,21 @@ impl Measure {
     }
 
     fn value(self, text: &str) -> Option<i64> {
-        let (negative, text) = match text.strip_prefix('-') {
-            Some(rest) => (true, rest),
-            None => (false, text),
-        };
-        let text = match text.strip_prefix('$') {
-            Some(rest) if self == Measure::Dollars => rest,
-            _ => text,
-        };
+        let (mut negative, mut text) = without_minus(text);
+        if let Some(rest) = text.strip_prefix('$').filter(|_| self == Measure::Dollars) {
+            // `-$40.00` or `$-40.00`, and not both.
+            let (minus, rest) = without_minus(rest);
+            if minus && negative {
+                return None;
+            }
+            (negative, text) = (negative || minus, rest);
+        }
         let (whole, part) = match text.split_once('.') {
             Some((_, "")) => return None,
             Some(parts) => parts,
             None => (text, ""),
         };
+        let whole = without_commas(whole)?;
         let all_digits = whole
             .bytes()
             .chain(part.bytes())
@@ -111,6 +115,28 @@ impl Measure {
         let value = format!("{whole}{part}{zeros}").parse().unwrap_or(i64::MAX);
         Some(if negative { -value } else { value })
     }
+}
+
+/// Whether a text begins with a minus, and what is after it.
+fn without_minus(text: &str) -> (bool, &str) {
+    match text.strip_prefix(['-', '−']) {
+        Some(rest) => (true, rest),
+        None => (false, text),
+    }
+}
+
+/// Digits without the commas before every three of them. Commas that stand elsewhere are nothing: 1,50 and 0,500 may
+/// be meant as decimals.
+fn without_commas(digits: &str) -> Option<Cow<'_, str>> {
+    let mut groups = digits.split(',');
+    let first = groups.next()?;
+    if first.len() == digits.len() {
+        return Some(digits.into());
+    }
+    let good = (1..=3).contains(&first.len())
+        && !first.starts_with('0')
+        && groups.all(|group| group.len() == 3);
+    good.then(|| digits.replace(',', "").into())
 }
 
 /// A value as its sign and its size.

@@ -1,9 +1,10 @@
 //! Lines of the text form as words, and what is wrong in one.
 
-use std::collections::HashSet;
+use std::collections::BTreeSet;
 use std::fmt;
 
-use crate::text::amounts::MEASURE_WORDS;
+use super::amounts::MEASURE_WORDS;
+use super::mistakes::Mistakes;
 
 /// What is wrong in a text, and where.
 #[derive(Clone, Debug, PartialEq, Eq)]
@@ -45,14 +46,10 @@ const SHOWN: usize = 40;
 impl Word<'_> {
     /// What is wrong with this word.
     pub fn wrong(&self, problem: impl Into<String>) -> TextError {
-        let mut shown: String = self.text.escape_debug().take(SHOWN).collect();
-        if self.text.chars().count() > SHOWN {
-            shown.push('…');
-        }
         TextError {
             line: self.line,
             column: self.column,
-            word: Some(shown),
+            word: Some(self.shown()),
             problem: problem.into(),
         }
     }
@@ -66,33 +63,49 @@ impl Word<'_> {
             problem: problem.into(),
         }
     }
+
+    /// The word in a message, cut where it is long.
+    pub fn shown(&self) -> String {
+        let mut shown: String = self.text.escape_debug().take(SHOWN).collect();
+        if self.text.chars().count() > SHOWN {
+            shown.push('…');
+        }
+        shown
+    }
 }
 
-/// The words of a line before its comment, which begins with `#`.
+/// The words of a line before its comment, which begins with `#`. A list of hours is one word, also with spaces in it:
+/// `5, 6, 7`.
 pub fn words(number: usize, line: &str) -> Vec<Word<'_>> {
     let line = line.split('#').next().unwrap_or_default();
-    let mut found = Vec::new();
-    let mut column = 1;
-    let mut rest = line;
-    loop {
-        let blank = rest.find(|letter: char| !letter.is_ascii_whitespace());
-        let Some(blank) = blank else {
-            return found;
-        };
-        column += blank;
-        rest = &rest[blank..];
-        let length = rest
-            .find(|letter: char| letter.is_ascii_whitespace())
-            .unwrap_or(rest.len());
-        let text = &rest[..length];
-        found.push(Word {
-            line: number,
-            column,
-            text,
-        });
-        column += text.chars().count();
-        rest = &rest[length..];
+    let mut found: Vec<Word<'_>> = Vec::new();
+    let (mut column, mut seen) = (1, 0);
+    for text in line.split_ascii_whitespace() {
+        let at = text.as_ptr() as usize - line.as_ptr() as usize;
+        column += line[seen..at].chars().count();
+        seen = at;
+        match found.last_mut() {
+            Some(last) if continues(last.text, text) => {
+                let from = last.text.as_ptr() as usize - line.as_ptr() as usize;
+                last.text = &line[from..at + text.len()];
+            }
+            _ => found.push(Word {
+                line: number,
+                column,
+                text,
+            }),
+        }
     }
+    found
+}
+
+/// Whether two words are one list of hours: both of digits, commas and dashes, with a comma or a dash where they meet.
+fn continues(before: &str, after: &str) -> bool {
+    let sign = |letter: char| matches!(letter, ',' | '-' | '–');
+    let part =
+        |letter: char| letter.is_ascii_digit() || letter.is_ascii_whitespace() || sign(letter);
+    (before.ends_with(sign) || after.starts_with(sign))
+        && before.chars().chain(after.chars()).all(part)
 }
 
 /// A key with its value.
@@ -106,52 +119,52 @@ pub struct Pair<'a> {
     pub measure: Option<Word<'a>>,
 }
 
-/// Words as keys with their values, each key once.
-pub fn pairs<'a>(words: &[Word<'a>]) -> Result<Vec<Pair<'a>>, TextError> {
-    let mut found: Vec<Pair<'a>> = Vec::new();
-    let mut keys = HashSet::new();
-    let mut words = words.iter().copied().peekable();
-    while let Some(key) = words.next() {
-        if !keys.insert(key.text) {
-            return Err(key.wrong("this key is there twice"));
-        }
-        let Some(value) = words.next() else {
-            return Err(key.missing(format!("expected a value for {}", shown(key))));
+/// A line as its keys with their values.
+#[derive(Clone, Debug)]
+pub struct Line<'a> {
+    /// The word that it begins with.
+    pub first: Word<'a>,
+    /// The last word.
+    pub last: Word<'a>,
+    /// The keys that have a value, each once.
+    pub pairs: Vec<Pair<'a>>,
+    /// The keys that it has, those without a value too.
+    pub keys: BTreeSet<&'a str>,
+}
+
+impl<'a> Line<'a> {
+    /// The keys and values of some words after a first one. A key that is there twice, or has no value, is a mistake.
+    pub fn of(first: Word<'a>, words: &[Word<'a>], mistakes: &mut Mistakes) -> Line<'a> {
+        let mut line = Line {
+            first,
+            last: words.last().copied().unwrap_or(first),
+            pairs: Vec::new(),
+            keys: BTreeSet::new(),
         };
-        let measure = words.next_if(|word| MEASURE_WORDS.contains(&word.text));
-        found.push(Pair {
-            key,
-            value,
-            measure,
-        });
-    }
-    Ok(found)
-}
-
-fn shown(word: Word<'_>) -> String {
-    word.wrong("").word.unwrap_or_default()
-}
-
-/// The text of bytes that came from outside, which may begin with a byte order mark.
-pub fn text_of(bytes: &[u8]) -> Result<&str, TextError> {
-    match std::str::from_utf8(bytes) {
-        Ok(text) => Ok(text.strip_prefix('\u{feff}').unwrap_or(text)),
-        Err(error) => {
-            let good = &bytes[..error.valid_up_to()];
-            let line_start = good
-                .iter()
-                .rposition(|&byte| byte == b'\n')
-                .map_or(0, |at| at + 1);
-            let before = String::from_utf8_lossy(&good[line_start..]);
-            Err(TextError {
-                line: 1 + good.iter().filter(|&&byte| byte == b'\n').count(),
-                column: 1 + before.chars().count(),
-                word: None,
-                problem: format!(
-                    "byte {} is no text: a case as text is UTF-8 (is this a case file?)",
-                    bytes[error.valid_up_to()]
-                ),
-            })
+        let mut words = words.iter().copied().peekable();
+        while let Some(key) = words.next() {
+            let is_new = line.keys.insert(key.text);
+            if !is_new {
+                mistakes.add(key.wrong("this key is there twice"));
+            }
+            let Some(value) = words.next() else {
+                mistakes.add(key.missing(format!("expected a value for {}", key.shown())));
+                break;
+            };
+            let measure = words.next_if(|word| MEASURE_WORDS.contains(&word.text));
+            if is_new {
+                line.pairs.push(Pair {
+                    key,
+                    value,
+                    measure,
+                });
+            }
         }
+        line
+    }
+
+    /// The pair of a key.
+    pub fn pair(&self, key: &str) -> Option<&Pair<'a>> {
+        self.pairs.iter().find(|pair| pair.key.text == key)
     }
 }

@@ -2,17 +2,23 @@
 
 use std::fmt::Write;
 
+use attachment_h::Component;
+use attachment_h::layout::{HOURS, Section, Sections, cell, u16_at, u32_at};
+
 use crate::record::event::Event;
 use crate::record::field::Field;
 use crate::record::fields;
-use crate::text::{calendar, words};
-use attachment_h::Component;
-use attachment_h::layout::{HOURS, Section, Sections, cell, u16_at, u32_at};
+use crate::text::{calendar, order, words};
 
 /// The text of a case.
 pub fn case_text(sections: &Sections<'_>) -> String {
     let counts = Section::ALL.map(|section| words::count(section, sections.count(section)));
-    let mut text = format!("# case: {}\n", counts.join(", "));
+    let mut text = order_line(
+        Section::ALL
+            .into_iter()
+            .all(|section| order::rises(section, sections.records(section))),
+    );
+    put(&mut text, format_args!("# case: {}\n", counts.join(", ")));
     for section in Section::ALL {
         if sections.count(section) > 0 {
             text.push('\n');
@@ -33,7 +39,8 @@ pub fn case_text(sections: &Sections<'_>) -> String {
 pub fn correction_text(correction: &[u8]) -> String {
     let records = correction.chunks_exact(Section::References.record_bytes());
     let count = words::count(Section::References, records.len());
-    let mut text = format!("# correction: {count}\n");
+    let mut text = order_line(order::rises(Section::References, records.clone()));
+    put(&mut text, format_args!("# correction: {count}\n"));
     if !correction.is_empty() {
         text.push('\n');
     }
@@ -41,6 +48,14 @@ pub fn correction_text(correction: &[u8]) -> String {
         reference(&mut text, record);
     }
     text
+}
+
+/// The line without which `write` would sort the records, where they do not rise.
+fn order_line(rises: bool) -> String {
+    match rises {
+        true => String::new(),
+        false => format!("order {}\n", order::AS_WRITTEN),
+    }
 }
 
 /// A line with the fields of a record or of an hour cell.

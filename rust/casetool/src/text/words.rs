@@ -8,18 +8,22 @@ use attachment_h::{Component, Kind, Market};
 pub struct Names {
     first: u8,
     words: &'static [&'static str],
+    /// What people write for the first words.
+    short: &'static [&'static str],
 }
 
 /// The kinds, 1 to 4.
 pub const KINDS: Names = Names {
     first: 1,
     words: &["withheld", "dispatch", "fuel", "bids"],
+    short: &[],
 };
 
 /// The markets, 0 and 1.
 pub const MARKETS: Names = Names {
     first: 0,
     words: &["day-ahead", "real-time"],
+    short: &["DAM", "RTM"],
 };
 
 /// The components, 0 to 8.
@@ -36,6 +40,7 @@ pub const COMPONENTS: Names = Names {
         "minimum-parameter",
         "maximum-parameter",
     ],
+    short: &[],
 };
 
 impl Names {
@@ -45,16 +50,20 @@ impl Names {
         self.words.get(usize::try_from(place).ok()?).copied()
     }
 
-    /// The number of a word.
+    /// The number of a word, in whatever letters.
     pub fn number(&self, word: &str) -> Option<i64> {
-        let place = self.words.iter().position(|&known| known == word)?;
+        let place = |words: &[&str]| {
+            words
+                .iter()
+                .position(|known| known.eq_ignore_ascii_case(word))
+        };
+        let place = place(self.words).or_else(|| place(self.short))?;
         Some(place as i64 + i64::from(self.first))
     }
 
-    /// What may stand for a number of one byte, for a message.
-    pub fn expected(&self) -> String {
-        let words = self.words.join(", ");
-        format!("expected one of {words}, or a number 0 to 255")
+    /// The words.
+    pub fn words(&self) -> &'static [&'static str] {
+        self.words
     }
 }
 

@@ -12,9 +12,9 @@ pub fn text_of(ran: &Ran) -> &str {
     ran.text()
 }
 
-/// That a text beside two units is refused with this number at this place.
+/// That a text beside two units, in the order in which it stands, is refused with this number at this place.
 pub fn refused(number: u8, text: &str, place: &str) {
-    let file = written(&format!("{UNITS}{text}"));
+    let file = written(&format!("order as-written\n{UNITS}{text}"));
     let ran = casetool(&["check"], &file);
     let (first, rest) = text_of(&ran).split_once('\n').expect("two lines");
     assert!(first.starts_with(&format!("refused {number}: ")), "{first}");

@@ -1,0 +1,155 @@
+//! What a command about a case is given: the case and its correction, each as a text or as a file of `write`.
+
+use std::io::Read;
+
+use attachment_h::layout::{Section, Sections};
+use attachment_h::{ROWS_LENGTH, Refused, check};
+
+use super::Failure;
+use super::arguments::{As, Given, Source};
+use super::files;
+use crate::place::Part;
+use crate::place::refusal::Refusal;
+use crate::text::bytes::is_text;
+use crate::text::mistakes::Mistakes;
+use crate::text::source::Positions;
+use crate::text::write::{self, Written};
+
+/// A case or a correction.
+pub struct Input {
+    /// Where it came from.
+    pub name: String,
+    /// The case file or the correction.
+    pub bytes: Vec<u8>,
+    /// Where its records stand, if it was a text.
+    positions: Option<Positions>,
+}
+
+/// A case with the correction that was named, if one was.
+pub struct Inputs {
+    /// The case.
+    pub case: Input,
+    /// The correction, which is not empty.
+    pub correction: Option<Input>,
+    /// What looks wrong in the texts.
+    pub warnings: Vec<String>,
+}
+
+impl Inputs {
+    /// Reads what was given.
+    pub fn read(given: &Given, input: &mut dyn Read) -> Result<Inputs, Failure> {
+        let mut warnings = Vec::new();
+        let bytes = files::read(&given.source, input)?;
+        let case = read_case(given, bytes, &mut warnings)?;
+        let correction = match &given.correction {
+            Some(source) => {
+                let bytes = files::read(source, input)?;
+                Some(read_correction(source, bytes, &mut warnings)?)
+            }
+            None => None,
+        };
+        Ok(Inputs {
+            case,
+            correction,
+            warnings,
+        })
+    }
+
+    /// The bytes of the correction, none where there is none.
+    pub fn correction_bytes(&self) -> &[u8] {
+        self.correction
+            .as_ref()
+            .map_or(&[], |correction| &correction.bytes)
+    }
+
+    /// Checks the case.
+    pub fn check(&self) -> Result<(), Refusal> {
+        check(&self.case.bytes, self.correction_bytes(), ROWS_LENGTH)
+            .map_err(|refused| self.refusal(refused))
+    }
+
+    /// A refusal of the case, with its line and column where it came from a text.
+    pub fn refusal(&self, refused: Refused) -> Refusal {
+        let (file, correction) = (&self.case.bytes, self.correction_bytes());
+        let mut refusal = Refusal::of(refused, file, correction, ROWS_LENGTH);
+        refusal.position = refusal.place.as_ref().and_then(|place| {
+            let (input, section) = match place.part {
+                Part::Section(section) => (&self.case, section),
+                Part::Correction => (self.correction.as_ref()?, Section::References),
+                Part::Header | Part::Rows => return None,
+            };
+            let positions = input.positions.as_ref()?;
+            let position = positions.find(section, place.record, place.at)?;
+            Some((input.name.clone(), position))
+        });
+        refusal
+    }
+}
+
+fn read_case(given: &Given, bytes: Vec<u8>, warnings: &mut Vec<String>) -> Result<Input, Failure> {
+    let name = given.source.to_string();
+    let is_text = match given.taken_as {
+        Some(taken_as) => taken_as == As::Text,
+        None => is_text(&bytes),
+    };
+    if !is_text {
+        return Ok(file(name, bytes));
+    }
+    let input = text(name, write::case_file(&bytes), warnings)?;
+    if is_empty_case(&input.bytes) && !given.allow_empty {
+        return Err(Failure::Message(has_no("event", &input.name, "taken")));
+    }
+    Ok(input)
+}
+
+/// A correction that was named: one that corrects nothing is a misuse.
+fn read_correction(
+    source: &Source,
+    bytes: Vec<u8>,
+    warnings: &mut Vec<String>,
+) -> Result<Input, Failure> {
+    let name = source.to_string();
+    let input = if is_text(&bytes) {
+        text(name, write::correction(&bytes), warnings)?
+    } else {
+        file(name, bytes)
+    };
+    if input.bytes.is_empty() {
+        let problem = format!("--correction {source}: it is empty, and corrects nothing");
+        return Err(Failure::Misuse(problem));
+    }
+    Ok(input)
+}
+
+fn file(name: String, bytes: Vec<u8>) -> Input {
+    Input {
+        name,
+        bytes,
+        positions: None,
+    }
+}
+
+fn text(
+    name: String,
+    written: Result<Written, Mistakes>,
+    warnings: &mut Vec<String>,
+) -> Result<Input, Failure> {
+    let written = written.map_err(|mistakes| Failure::Mistakes(name.clone(), mistakes))?;
+    let of_text = written.warnings.iter();
+    warnings.extend(of_text.map(|warning| format!("{name}: {warning}")));
+    Ok(Input {
+        name,
+        bytes: written.bytes,
+        positions: Some(written.positions),
+    })
+}
+
+/// Whether a case file that was written of a text has no event.
+pub fn is_empty_case(file: &[u8]) -> bool {
+    Sections::of(file).is_some_and(|sections| sections.count(Section::Events) == 0)
+}
+
+/// That a text has no record of a kind without which a failed export looks like a good text.
+pub fn has_no(record: &str, name: &str, done: &str) -> String {
+    format!("{name}: this text has no {record}; with --allow-empty it is {done} all the same")
+}

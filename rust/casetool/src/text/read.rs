@@ -1,0 +1,353 @@
+//! From the lines of a text to its records, with every mistake on the way.
+
+use attachment_h::layout::{HEADER_BYTES, HOURS, LARGEST_FILE, Section, u16_at, u32_at};
+use attachment_h::{Component, Kind, Market, Mask};
+
+use super::line::{Line, TextError, Word, words};
+use super::mistakes::Mistakes;
+use super::needs::{EventLine, UnitLine};
+use super::order::AS_WRITTEN;
+use super::source::Record;
+use super::values::{Unknown, early_value, values};
+use super::{amounts, calendar, hours, near};
+use crate::record::field::Field;
+use crate::record::fields;
+use crate::record::needs::Shape;
+
+/// What a line may begin with.
+const FIRST_WORDS: [&str; 7] = [
+    "unit",
+    "reference",
+    "past",
+    "event",
+    "hour",
+    "hours",
+    "order",
+];
+
+/// What is read of a text: its records as they stand there, the lines that they came from, and what is wrong.
+#[derive(Default)]
+pub struct Reader<'a> {
+    /// The records of each section.
+    pub sections: [Vec<Record<'a>>; 4],
+    /// The lines of units.
+    pub units: Vec<UnitLine<'a>>,
+    /// The lines of events.
+    pub events: Vec<EventLine<'a>>,
+    /// That the records are to stay in their order.
+    pub as_written: bool,
+    /// What is wrong.
+    pub mistakes: Mistakes,
+    /// What looks wrong, and is written all the same.
+    pub warnings: Vec<TextError>,
+    references_only: bool,
+    above: Above<'a>,
+    lines: [usize; 4],
+}
+
+/// What hours would belong to.
+#[derive(Default)]
+enum Above<'a> {
+    /// Nothing: no event stands above.
+    #[default]
+    Nothing,
+    /// A line that could not be read, so that nothing is said of its hours.
+    Unread,
+    /// An event.
+    Event(OpenEvent<'a>),
+}
+
+/// The event to which the next hours belong.
+struct OpenEvent<'a> {
+    first: Word<'a>,
+    shape: Shape,
+    /// The hours that have a line.
+    written: u32,
+    /// That a list of hours could not be read.
+    unread: bool,
+    /// Nothing where its line has a mistake.
+    record: Option<Record<'a>>,
+}
+
+/// The hours of a day as a mask.
+const EVERY_HOUR: u32 = (1 << HOURS) - 1;
+
+impl<'a> Reader<'a> {
+    /// Reads the lines of a case.
+    pub fn case(text: &'a str) -> Reader<'a> {
+        Reader::default().read(text)
+    }
+
+    /// Reads the lines of a correction, which has references alone.
+    pub fn correction(text: &'a str) -> Reader<'a> {
+        let reader = Reader {
+            references_only: true,
+            ..Reader::default()
+        };
+        reader.read(text)
+    }
+
+    fn read(mut self, text: &'a str) -> Reader<'a> {
+        for (place, line) in text.split('\n').enumerate() {
+            let words = words(place + 1, line);
+            if let Some((&first, rest)) = words.split_first() {
+                self.line(first, rest);
+            }
+        }
+        self.close_event();
+        self
+    }
+
+    fn line(&mut self, first: Word<'a>, rest: &[Word<'a>]) {
+        if matches!(first.text, "hour" | "hours") && !self.references_only {
+            return self.hours(first, rest);
+        }
+        self.close_event();
+        match first.text {
+            "order" => self.order(first, rest),
+            "reference" => self.reference(first, rest),
+            _ if self.references_only => {
+                let expected = "expected reference: a correction has nothing else";
+                self.mistakes.add(first.wrong(expected));
+            }
+            "unit" => self.unit(first, rest),
+            "past" => self.past(first, rest),
+            "event" => self.event(first, rest),
+            _ => self.unknown(first),
+        }
+    }
+
+    fn unknown(&mut self, first: Word<'a>) {
+        let problem = near::meant(first.text, &FIRST_WORDS).map_or_else(
+            || "expected unit, reference, past, event, hour or hours".to_string(),
+            near::question,
+        );
+        self.mistakes.add(first.wrong(problem));
+        self.above = Above::Unread;
+    }
+
+    /// The line `order as-written`, before every record.
+    fn order(&mut self, first: Word<'a>, rest: &[Word<'a>]) {
+        if self.as_written || self.lines.iter().any(|&lines| lines > 0) {
+            let problem = "order stands once, before the first record";
+            self.mistakes.add(first.wrong(problem));
+        }
+        self.as_written = true;
+        let expected = format!("expected {AS_WRITTEN} after order, and nothing else");
+        let mut others = rest.iter().enumerate();
+        let other = others.find(|(place, word)| *place > 0 || word.text != AS_WRITTEN);
+        match other {
+            Some((_, word)) => self.mistakes.add(word.wrong(expected)),
+            None if rest.is_empty() => self.mistakes.add(first.missing(expected)),
+            None => {}
+        }
+    }
+
+    fn unit(&mut self, first: Word<'a>, rest: &[Word<'a>]) {
+        // The first word is a key too: that of the number.
+        let words: Vec<Word<'a>> = [&[first], rest].concat();
+        let line = Line::of(first, &words, &mut self.mistakes);
+        let found = self.record(Section::Units, &line, &fields::UNIT);
+        if let Some(record) = found {
+            self.units.push(UnitLine {
+                number: u16_at(&record.bytes, 0),
+                area: record.bytes[4],
+                keys: line.keys,
+                last: line.last,
+            });
+            self.sections[Section::Units as usize].push(record);
+        }
+    }
+
+    fn reference(&mut self, first: Word<'a>, rest: &[Word<'a>]) {
+        let line = Line::of(first, rest, &mut self.mistakes);
+        let component = early_value(&line, &fields::COMPONENT_OF_REFERENCE).map(Component);
+        let all = fields::reference(component.unwrap_or_default());
+        // Without its component nothing is known of the value.
+        let [unit, of_component, spare, value] = all;
+        let known: &[_] = match component {
+            Some(_) => &[unit, of_component, spare, value],
+            None => &[unit, of_component, spare],
+        };
+        let unknown = if component.is_some() {
+            Unknown::Wrong
+        } else {
+            Unknown::Left
+        };
+        let found = self.record_of(Section::References, &line, known, unknown);
+        self.sections[Section::References as usize].extend(found);
+    }
+
+    fn past(&mut self, first: Word<'a>, rest: &[Word<'a>]) {
+        let line = Line::of(first, rest, &mut self.mistakes);
+        let found = self.record(Section::Past, &line, &fields::PAST);
+        if let Some(record) = found {
+            self.look_at_period(&line, &record.bytes);
+            self.sections[Section::Past as usize].push(record);
+        }
+    }
+
+    fn event(&mut self, first: Word<'a>, rest: &[Word<'a>]) {
+        let line = Line::of(first, rest, &mut self.mistakes);
+        let Some(kind) = early_value(&line, &fields::KIND).map(Kind) else {
+            self.record_of(
+                Section::Events,
+                &line,
+                &fields::OF_EVERY_EVENT,
+                Unknown::Left,
+            );
+            self.above = Above::Unread;
+            return;
+        };
+        let market = early_value(&line, &fields::MARKET).map(Market);
+        let component = early_value(&line, &fields::component_of_event(kind)).map(Component);
+        let shape = Shape {
+            kind,
+            market: market.unwrap_or_default(),
+            component: component.unwrap_or_default(),
+        };
+        let certain = market.is_some() && component.is_some();
+        // What a market or a component asks for is not known before they are.
+        let fields = fields::event(shape).map(|field| {
+            field.needed_where(field.needed && (certain || !fields::is_p_q_or_r(&field)))
+        });
+        let record = self.record(Section::Events, &line, &fields);
+        if let Some(record) = &record {
+            self.look_at_period(&line, &record.bytes);
+            self.events.push(EventLine {
+                shape,
+                unit: u16_at(&record.bytes, 2),
+                keys: line.keys,
+                last: line.last,
+            });
+        }
+        self.above = match component {
+            Some(_) => Above::Event(OpenEvent {
+                first,
+                shape,
+                written: 0,
+                unread: false,
+                record,
+            }),
+            None => Above::Unread,
+        };
+    }
+
+    /// Warns of a period that is not its day's, in an event or a past entry: both have them at the
+    /// same offsets.
+    fn look_at_period(&mut self, line: &Line<'a>, record: &[u8]) {
+        let (period, day) = (u16_at(record, 4), u32_at(record, 8));
+        let of_day = calendar::period(day);
+        if of_day == u32::from(period) {
+            return;
+        }
+        self.warnings.extend(line.pair("period").map(|pair| {
+            let date = calendar::date(day);
+            pair.value.wrong(format!(
+                "day {day} ({date}) is in capability period {of_day}; {period} is written"
+            ))
+        }));
+    }
+
+    /// Ends the event to which hours may be added.
+    fn close_event(&mut self) {
+        let Above::Event(event) = std::mem::take(&mut self.above) else {
+            return;
+        };
+        let left_out = !event.written & EVERY_HOUR;
+        if left_out != 0 && !event.unread && event.shape.needs_every_hour() {
+            self.mistakes.add(event.first.wrong(format!(
+                "expected a bid in every hour, since one left out would be a bid of 0: there is none for {}",
+                hours::named(left_out)
+            )));
+        }
+        self.sections[Section::Events as usize].extend(event.record);
+    }
+
+    fn record(
+        &mut self,
+        section: Section,
+        line: &Line<'a>,
+        fields: &[Field],
+    ) -> Option<Record<'a>> {
+        self.record_of(section, line, fields, Unknown::Wrong)
+    }
+
+    /// The record of a line, if it has no mistake. The first that has no room in its section, or in the file, is one.
+    fn record_of(
+        &mut self,
+        section: Section,
+        line: &Line<'a>,
+        fields: &[Field],
+        unknown: Unknown,
+    ) -> Option<Record<'a>> {
+        let before = self.length();
+        self.lines[section as usize] += 1;
+        let most = section.most();
+        if self.lines[section as usize] == most + 1 {
+            let most = super::words::count(section, most);
+            self.mistakes
+                .add(line.first.wrong(format!("at most {most} fit")));
+        } else if before <= LARGEST_FILE && self.length() > LARGEST_FILE && !self.references_only {
+            let most = amounts::bytes(LARGEST_FILE);
+            self.mistakes.add(
+                line.first
+                    .wrong(format!("with this record the file is over {most}")),
+            );
+        }
+        let found = values(line, fields, unknown, &mut self.mistakes)?;
+        let mut bytes = found.bytes;
+        bytes.resize(section.record_bytes(), 0);
+        Some(Record {
+            first: line.first,
+            bytes,
+            words: found.words,
+        })
+    }
+
+    /// The bytes of a file with a record for each line so far.
+    fn length(&self) -> usize {
+        let sections = Section::ALL.into_iter().zip(self.lines);
+        HEADER_BYTES
+            + sections
+                .map(|(section, lines)| lines * section.record_bytes())
+                .sum::<usize>()
+    }
+
+    fn hours(&mut self, first: Word<'a>, rest: &[Word<'a>]) {
+        let event = match &mut self.above {
+            Above::Event(event) => event,
+            Above::Unread => return,
+            Above::Nothing => {
+                return self
+                    .mistakes
+                    .add(first.wrong("hours follow the line of their event"));
+            }
+        };
+        let Some((&which, rest)) = rest.split_first() else {
+            event.unread = true;
+            return self
+                .mistakes
+                .add(first.missing("expected hours, such as 0,5-7"));
+        };
+        let mask = hours::read(which.text, HOURS as u32 - 1).unwrap_or_else(|problem| {
+            self.mistakes.add(which.wrong(problem));
+            event.unread = true;
+            0
+        });
+        let twice = mask & event.written;
+        if twice != 0 {
+            let problem = format!("this event has {} already", hours::named(twice));
+            self.mistakes.add(which.wrong(problem));
+        }
+        event.written |= mask;
+        let line = Line::of(which, rest, &mut self.mistakes);
+        let fields = fields::cell(event.shape.kind, event.shape.component);
+        let found = values(&line, &fields, Unknown::Wrong, &mut self.mistakes);
+        if let (Some(record), Some(cell)) = (&mut event.record, found) {
+            for hour in Mask(mask).hours() {
+                record.put_cell(hour, &cell, which);
+            }
+        }
+    }
+}

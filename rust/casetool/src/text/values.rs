@@ -1,0 +1,158 @@
+//! The values of a line by the fields of its record: every mistake of the line is added.
+
+use super::amounts::MEASURE_WORDS;
+use super::line::{Line, Pair, TextError, Word};
+use super::mistakes::Mistakes;
+use super::near;
+use crate::record::field::Field;
+
+/// The fields of a record, or of the cells of some hours, with the words that they came from.
+pub struct Values<'a> {
+    /// The bytes, 0 in the fields that are left out.
+    pub bytes: Vec<u8>,
+    /// The offset of each field that is there, with its value.
+    pub words: Vec<(usize, Word<'a>)>,
+}
+
+/// What is made of keys that the fields do not have.
+#[derive(Clone, Copy, PartialEq, Eq)]
+pub enum Unknown {
+    /// Each is a mistake.
+    Wrong,
+    /// They belong to fields that are not known yet; one that is near to a field is a mistake all the same.
+    Left,
+}
+
+/// Reads a line by these fields. Nothing where it has a mistake.
+pub fn values<'a>(
+    line: &Line<'a>,
+    fields: &[Field],
+    unknown: Unknown,
+    mistakes: &mut Mistakes,
+) -> Option<Values<'a>> {
+    let before = mistakes.count();
+    let length = fields.iter().map(|field| field.at + field.bytes).max();
+    let mut found = Values {
+        bytes: vec![0; length.unwrap_or(0)],
+        words: Vec::new(),
+    };
+    let mut asked_about = Vec::new();
+    for pair in &line.pairs {
+        let Some(field) = fields.iter().find(|field| field.key == pair.key.text) else {
+            asked_about.extend(unknown_key(line, pair.key, fields, unknown, mistakes));
+            continue;
+        };
+        match value(pair, field) {
+            Ok(value) => field.put(&mut found.bytes, value),
+            Err(error) => mistakes.add(error),
+        }
+        found.words.push((field.at, pair.value));
+    }
+    let left_out: Vec<&str> = fields
+        .iter()
+        .filter(|field| field.needed)
+        .map(|field| field.key)
+        .filter(|key| !line.keys.contains(key) && !asked_about.contains(key))
+        .collect();
+    match left_out.as_slice() {
+        [] => {}
+        [key] => mistakes.add(line.last.missing(format!("expected the key {key}"))),
+        keys => mistakes.add(
+            line.last
+                .missing(format!("expected the keys {}", keys.join(", "))),
+        ),
+    }
+    (mistakes.count() == before).then_some(found)
+}
+
+/// The value of a field that says how others are read: nothing where it is missing or wrong, which is told with the
+/// other values.
+pub fn early_value(line: &Line<'_>, field: &Field) -> Option<u8> {
+    match line.pair(field.key) {
+        Some(pair) => u8::try_from(value(pair, field).ok()?).ok(),
+        None => (!field.needed && !line.keys.contains(field.key)).then_some(0),
+    }
+}
+
+/// Adds that a line has a key which the fields do not have; the key that it is asked about, if it is near to one.
+fn unknown_key(
+    line: &Line<'_>,
+    key: Word<'_>,
+    fields: &[Field],
+    unknown: Unknown,
+    mistakes: &mut Mistakes,
+) -> Option<&'static str> {
+    if !mistakes.would_show(key) {
+        // A line may have very many: no name is looked for that nobody sees.
+        if unknown == Unknown::Wrong {
+            mistakes.add_unshown();
+        }
+        return None;
+    }
+    let known = keys(fields);
+    let lacking: Vec<&str> = known
+        .iter()
+        .copied()
+        .filter(|key| !line.keys.contains(key))
+        .collect();
+    let meant = near::meant(key.text, &lacking);
+    match (meant, unknown) {
+        (Some(meant), _) => mistakes.add(key.wrong(near::question(meant))),
+        (None, Unknown::Wrong) => {
+            let expected = format!("unknown key; expected {}", known.join(", "));
+            mistakes.add(key.wrong(expected));
+        }
+        (None, Unknown::Left) => {}
+    }
+    meant
+}
+
+/// The value of a pair. The word of its measure may stand after it, or be a part of it: `500 MW`, `500MW`.
+fn value(pair: &Pair<'_>, field: &Field) -> Result<i64, TextError> {
+    let (number, joined) = with_measure(pair.value);
+    if let (Some(_), Some(again)) = (joined, pair.measure) {
+        return Err(again.wrong("the value has this word already"));
+    }
+    if let Some(measure) = joined.or(pair.measure)
+        && field.form.measure_word() != Some(measure.text)
+    {
+        let expected = match field.form.measure_word() {
+            Some(word) => format!("{} is in {word}", field.key),
+            None => format!("{} has no such word after it", field.key),
+        };
+        return Err(measure.wrong(expected));
+    }
+    field
+        .read(number)
+        .map_err(|problem| pair.value.wrong(problem))
+}
+
+/// A value that ends in the word of a measure, after a digit, as its number and that word.
+fn with_measure(value: Word<'_>) -> (&str, Option<Word<'_>>) {
+    let alone = (value.text, None);
+    let Some(last) = value.text.rfind(|letter: char| letter.is_ascii_digit()) else {
+        return alone;
+    };
+    let (number, text) = value.text.split_at(last + 1);
+    if !MEASURE_WORDS.contains(&text) {
+        return alone;
+    }
+    let column = value.column + number.chars().count();
+    (
+        number,
+        Some(Word {
+            column,
+            text,
+            ..value
+        }),
+    )
+}
+
+/// The keys of fields, without the spare bytes.
+fn keys(fields: &[Field]) -> Vec<&'static str> {
+    fields
+        .iter()
+        .map(|field| field.key)
+        .filter(|key| !key.starts_with("spare-"))
+        .collect()
+}
