@@ -91,6 +91,38 @@ fn misuse() {
             "--correction needs a value after it; see casetool settle --help",
         ),
         (
+            &["settle", "--as", "words"],
+            "--as 'words': expected text or case; see casetool settle --help",
+        ),
+        (
+            &["check", "--as"],
+            "--as needs a value after it; see casetool check --help",
+        ),
+        (
+            &["show", "--as", "text"],
+            "there is no option '--as'; see casetool show --help",
+        ),
+        (
+            &["settle", "--format", "xml"],
+            "--format 'xml': expected text, json or csv; see casetool settle --help",
+        ),
+        (
+            &["check", "--format", "csv"],
+            "--format 'csv': expected text or json; see casetool check --help",
+        ),
+        (
+            &["write", "--format", "json"],
+            "there is no option '--format'; see casetool write --help",
+        ),
+        (
+            &["settle", "--format", "json", "--format", "csv"],
+            "--format is there twice; see casetool settle --help",
+        ),
+        (
+            &["working", "--allow-empty"],
+            "there is no option '--allow-empty'; see casetool working --help",
+        ),
+        (
             &["settle", "--correction", "-"],
             "the case and the correction can't both be standard input; see casetool settle --help",
         ),

@@ -1,13 +1,8 @@
-//! Texts with something wrong, by hand and at random: the line, the column, the word and what was
-//! expected, and never a panic.
+//! Texts with something wrong, by hand: the line, the column, the word and what was expected.
 
 mod support;
 
-use attachment_h::layout::Sections;
-use cases::Random;
-use cases::generator::{Size, Wanted, case, random_bytes};
-use casetool::text::show::case_text;
-use casetool::text::write::{Written, case_file, correction};
+use casetool::text::write::{case_file, correction};
 use support::casetool;
 
 const UNIT: &str = "unit 12 group 7 capability 500.0 MW";
@@ -377,84 +372,4 @@ fn a_line_of_many_keys() {
     let twice = format!("{text} key-7 2");
     let error = case_file(twice.as_bytes()).expect_err("a key twice");
     assert_eq!(error.count(), 400_002);
-}
-
-/// A good text with bytes, words or lines changed.
-fn changed(random: &mut Random, text: &str) -> Vec<u8> {
-    let mut bytes = text.as_bytes().to_vec();
-    for _ in 0..1 + random.below(4) {
-        let at = random.below(bytes.len());
-        let length = random.below(12).min(bytes.len() - at);
-        match random.below(4) {
-            0 => bytes[at] = random.bits() as u8,
-            1 => drop(bytes.drain(at..at + length)),
-            2 => {
-                let copy = bytes[at..at + length].to_vec();
-                let place = random.below(bytes.len());
-                bytes.splice(place..place, copy);
-            }
-            _ => {
-                let letter = random.pick(b"0123456789-,.$# \n\r\tMWhabmPQR");
-                bytes.insert(at, letter);
-            }
-        }
-        if bytes.is_empty() {
-            bytes.push(b'#');
-        }
-    }
-    bytes
-}
-
-#[test]
-fn noise_never_panics() {
-    let mut random = Random::new(721);
-    let (mut good, mut bad) = (0, 0);
-    let mut seen = |text: &[u8]| match case_file(text) {
-        Ok(Written { bytes: file, .. }) => {
-            let sections = Sections::of(&file).expect("a file of sections");
-            let again = case_file(case_text(&sections).as_bytes());
-            assert_eq!(again.map(|again| again.bytes).as_ref(), Ok(&file));
-            good += 1;
-        }
-        Err(mistakes) => {
-            let places: Vec<(usize, usize)> = mistakes
-                .shown()
-                .iter()
-                .map(|error| (error.line, error.column))
-                .collect();
-            assert!(places.is_sorted() && places[0] >= (1, 1));
-            assert_eq!(places.len(), mistakes.count().min(20));
-            for error in mistakes.shown() {
-                assert!(!error.to_string().contains('\n'));
-            }
-            bad += 1;
-        }
-    };
-    for _ in 0..3_000 {
-        let file = case(&mut random, Wanted::of(Size::Small)).input().file;
-        let text = case_text(&Sections::of(&file).expect("an accepted case"));
-        seen(&changed(&mut random, &text));
-        seen(&random_bytes(&mut random).file);
-        let noise: Vec<u8> = (0..random.below(200))
-            .map(|_| random.bits() as u8)
-            .collect();
-        seen(&noise);
-    }
-    println!("{good} texts written, {bad} turned away");
-}
-
-#[test]
-fn noise_as_a_case_never_panics() {
-    let mut random = Random::new(722);
-    for _ in 0..1_000 {
-        let input = random_bytes(&mut random);
-        let refused = attachment_h::check(&input.file, &[], attachment_h::ROWS_LENGTH).is_err();
-        for name in ["show", "check", "settle"] {
-            let ran = casetool(&[name], &input.file);
-            assert!(ran.status <= 1);
-            assert!(name == "show" || (ran.status == 1) == refused);
-        }
-        let ran = casetool(&["show", "--correction"], &input.correction);
-        assert!(ran.status <= 1);
-    }
 }

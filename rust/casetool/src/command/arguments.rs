@@ -53,6 +53,18 @@ pub enum As {
     Case,
 }
 
+/// How an answer is printed.
+#[derive(Clone, Copy, Debug, Default, PartialEq, Eq)]
+pub enum Format {
+    /// In words.
+    #[default]
+    Text,
+    /// As JSON.
+    Json,
+    /// As CSV.
+    Csv,
+}
+
 /// What was given to a command.
 #[derive(Clone, Debug, PartialEq, Eq)]
 pub struct Given {
@@ -68,6 +80,8 @@ pub struct Given {
     pub allow_empty: bool,
     /// What the case is; nothing where its bytes decide.
     pub taken_as: Option<As>,
+    /// How the answer is printed.
+    pub format: Format,
     /// The event of a working.
     pub event: usize,
     /// The hour of a working.
@@ -83,6 +97,7 @@ struct Found {
     is_correction: bool,
     allow_empty: bool,
     taken_as: Option<As>,
+    format: Option<Format>,
     event: Option<usize>,
     hour: Option<usize>,
 }
@@ -191,6 +206,17 @@ impl Found {
                 let form = one_of(option, value(option, rest)?, &forms)?;
                 once(&mut self.taken_as, option, form)
             }
+            "--format" if !converts => {
+                let formats = [
+                    ("text", Format::Text),
+                    ("json", Format::Json),
+                    ("csv", Format::Csv),
+                ];
+                // Only a settlement has rows.
+                let taken = if topic == Topic::Settle { 3 } else { 2 };
+                let format = one_of(option, value(option, rest)?, &formats[..taken])?;
+                once(&mut self.format, option, format)
+            }
             "--event" if topic == Topic::Working => {
                 let event = number(option, value(option, rest)?, usize::MAX)?;
                 once(&mut self.event, option, event)
@@ -231,6 +257,7 @@ impl Found {
             is_correction: self.is_correction,
             allow_empty: self.allow_empty,
             taken_as: self.taken_as,
+            format: self.format.unwrap_or_default(),
             event: self.event.unwrap_or(0),
             hour: self.hour.unwrap_or(0),
         })
@@ -275,7 +302,11 @@ fn one_of<T: Copy>(option: &str, argument: &OsStr, words: &[(&str, T)]) -> Resul
         .find(|(word, _)| argument.to_str() == Some(*word));
     found.map(|(_, form)| *form).ok_or_else(|| {
         let words: Vec<&str> = words.iter().map(|(word, _)| *word).collect();
-        let words = words.join(" or ");
+        let words = match words.as_slice() {
+            [first, second] => format!("{first} or {second}"),
+            [others @ .., last] => format!("{} or {last}", others.join(", ")),
+            [] => String::new(),
+        };
         format!("{option} {}: expected {words}", shown(argument))
     })
 }

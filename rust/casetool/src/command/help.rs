@@ -63,17 +63,19 @@ impl Topic {
 const CASETOOL: &str = "\
 casetool: cases of the Attachment H settlement, as text and in words
 
+  casetool settle   settles a case: a block for each plant, then the totals; or JSON, or CSV
+  casetool check    says whether a case is accepted, or what is wrong and where
+  casetool working  the pencil working of one hour of one event
   casetool write    makes a case file of a text
   casetool show     shows a case file as text
-  casetool check    says whether a case is accepted, or what is wrong and where
-  casetool settle   settles a case: a block for each plant, then the totals
-  casetool working  the pencil working of one hour of one event
 
 casetool COMMAND --help has the options of a command; casetool --version the version.
-A file that is - or left out is standard input; -o FILE takes the answer, otherwise it goes
-to standard output. Where a command fails, a FILE that was there is renamed FILE.old, so that
-nothing takes it for the answer. Events and other records are counted from 0, hours from 0 to 23.
-Every figure comes from the proved library. The text form is in docs/FORMAT.md.
+The first three take a text or a case file. Text is valid UTF-8, not empty, with no zero byte;
+all else is a case file. A file that is - or left out is standard input; -o FILE takes the
+answer, otherwise it goes to standard output. Where a command fails, a FILE that was there is
+renamed FILE.old, so that nothing takes it for the answer. Events and other records are counted
+from 0, hours from 0 to 23. Every figure comes from the proved library. The text form is in
+docs/FORMAT.md.
 
 Exit status: 0 done, 1 refused, unreadable or not text of a case, 2 misuse.
 ";
@@ -94,12 +96,15 @@ comment:
   event day 8000 kind withheld market day-ahead unit 12 period 44 impact 1
     hour 0 withheld 50.1 MW price $40.00
 
-A key that an event reads has to be there, also where it is 0: what is left out is an error with
-its line. A text with no event is an error too, since a failed export looks like that.
+Units, references and events may stand in any order and are sorted; two equal ones are an error.
+With the line order as-written before the first record they stay as they are. All mistakes are
+told at once, at most 20 of them. A key that an event reads has to be there, also where it is 0:
+what is left out is an error with its line. A text with no event is an error too, since a failed
+export looks like that.
 A day is the number of days since 1 January 2000, or a date such as 2021-11-26. Of the
 capability periods 0 is the Winter in which 1 January 2000 is, 1 the Summer from 1 May 2000, 44
 the Winter from 1 November 2021. A period that is not its day's is warned of, and written.
-docs/FORMAT.md has every key.
+docs/FORMAT.md has every key, and what else may be written for a value.
 
   -o, --output FILE  writes to a file instead of standard output
   --correction       the text is that of a correction
@@ -112,8 +117,9 @@ casetool show [CASE] [-o TEXT]
 casetool show --correction [CORRECTION] [-o TEXT]
 
 Shows a case file, or a correction, as text. casetool write makes the same file of it, byte for
-byte. A case that breaks limits of its fields is shown too; one whose header has no four
-sections of whole records (numbers 1 to 5) can't be.
+byte: where the records are out of order, or equal, the text begins with order as-written. A case
+that breaks limits of its fields is shown too; one whose header has no four sections of whole
+records (numbers 1 to 5) can't be.
 
   -o, --output FILE  writes to a file instead of standard output
   --correction       the file is a correction
@@ -121,20 +127,25 @@ sections of whole records (numbers 1 to 5) can't be.
 ";
 
 const CHECK: &str = "\
-casetool check [CASE] [--correction FILE] [-o FILE]
+casetool check [TEXT or CASE] [--correction FILE] [--format text|json] [--as text|case]
+               [--allow-empty] [-o FILE]
 
 Checks a case by the proved library. An accepted case is answered with the number of its events
 and status 0; a refused one with its number, what that means, and the first record and field
-that break it, and status 1. Records are counted from 0.
+that break it, of a text also their line and column, and status 1. Records are counted from 0.
 
-  --correction FILE  the correction of the case, as a file of casetool write --correction; it may
-                     not be empty
+  --correction FILE  the correction of the case, as text or as a file of casetool write
+                     --correction; it may not be empty
+  --format FORMAT    text, or json: docs/casetool.schema.json; it has the mistakes of a text too
+  --as FORM          what is read is a text, or a case file, whatever its bytes look like
+  --allow-empty      a text with no event is taken
   -o, --output FILE  writes to a file instead of standard output
   -h, --help         this help
 ";
 
 const SETTLE: &str = "\
-casetool settle [CASE] [--correction FILE] [-o FILE]
+casetool settle [TEXT or CASE] [--correction FILE] [--format text|json|csv] [--as text|case]
+                [--allow-empty] [-o FILE]
 
 Settles a case by the proved library and prints which correction was used, then a block for each
 plant, with its events in file order, counted from 0: flagged hours, multiplier and penalty, or
@@ -143,14 +154,19 @@ of an event's group and market in its own capability period and the two before, 
 among them, N2 those in its own and the one before. A refused case is described as by casetool
 check, on standard error.
 
-  --correction FILE  the correction of the case, as a file of casetool write --correction; it may
-                     not be empty
+  --correction FILE  the correction of the case, as text or as a file of casetool write
+                     --correction; it may not be empty
+  --format FORMAT    text, or for programs json (docs/casetool.schema.json) or csv
+                     (docs/FORMAT.md): every field of every row and of the totals
+  --as FORM          what is read is a text, or a case file, whatever its bytes look like
+  --allow-empty      a text with no event is taken
   -o, --output FILE  writes to a file instead of standard output
   -h, --help         this help
 ";
 
 const WORKING: &str = "\
-casetool working [CASE] --event N --hour H [--correction FILE] [-o FILE]
+casetool working [TEXT or CASE] --event N --hour H [--correction FILE] [--format text|json]
+                 [--as text|case] [-o FILE]
 
 The pencil working of one hour of one event: each comparison of its conduct test with both
 sides, the step that failed, and the figures behind it (a, r, d, S, G, N3, N2), all from the
@@ -159,8 +175,10 @@ settle and casetool show number them.
 
   --event N          the event, from 0
   --hour H           the hour, 0 to 23
-  --correction FILE  the correction of the case, as a file of casetool write --correction; it may
-                     not be empty
+  --correction FILE  the correction of the case, as text or as a file of casetool write
+                     --correction; it may not be empty
+  --format FORMAT    text, or json: docs/casetool.schema.json
+  --as FORM          what is read is a text, or a case file, whatever its bytes look like
   -o, --output FILE  writes to a file instead of standard output
   -h, --help         this help
 ";

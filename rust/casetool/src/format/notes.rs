@@ -1,9 +1,10 @@
 //! What stands beside the figures of a settlement in words: why there is no multiplier or no penalty,
 //! and what a correction changed. All of it is told from the rows.
 
-use attachment_h::layout::{HOURS, Section, Sections, cell, u16_at, u32_at};
+use attachment_h::layout::{Section, Sections, u16_at};
 use attachment_h::{Kind, Market, Mask, Multiplier, Row};
 
+use super::json::Json;
 use crate::record::event::Event;
 use crate::text::amounts::{self, dollars};
 use crate::text::{hours, words};
@@ -14,8 +15,6 @@ pub struct Correction {
     pub name: String,
     /// How many references it has.
     pub references: usize,
-    /// The rows of the same case settled without it.
-    pub rows_without: Vec<u8>,
 }
 
 impl Correction {
@@ -23,24 +22,19 @@ impl Correction {
     pub fn line(correction: Option<&Correction>) -> String {
         match correction {
             None => "Correction: none\n".to_string(),
-            Some(Correction {
-                name, references, ..
-            }) => format!(
+            Some(Correction { name, references }) => format!(
                 "Correction: {name}, {}\n",
                 words::count(Section::References, *references)
             ),
         }
     }
 
-    /// The hours in which the entered bid is in force and would not be without this correction.
-    pub fn restored(&self, place: usize, event: &Event<'_>, row: &Row) -> Mask {
-        let without = Row::of(&self.rows_without, place);
-        (0..HOURS)
-            .filter(|&hour| {
-                let entered = u32_at(cell(event.record, hour), 0).cast_signed();
-                row.bids[hour] == entered && without.bids[hour] != entered
-            })
-            .collect()
+    /// The same as JSON.
+    pub fn json(&self) -> Json {
+        Json::Object(vec![
+            ("source", self.name.as_str().into()),
+            ("references", self.references.into()),
+        ])
     }
 }
 

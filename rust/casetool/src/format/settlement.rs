@@ -2,7 +2,7 @@
 //!
 //! Every figure is one of the rows or of the result; none is worked out here.
 
-use attachment_h::layout::{Section, Sections, u16_at};
+use attachment_h::layout::{HOURS, Section, Sections, cell, u16_at, u32_at};
 use attachment_h::{Component, Kind, Mask, Row, Settled};
 
 use crate::format::notes::{self, Correction};
@@ -21,6 +21,8 @@ pub struct Settlement<'a> {
     pub rows: &'a [u8],
     /// The correction, if there was one.
     pub correction: Option<&'a Correction>,
+    /// The rows of the same case settled without the correction; of no use where there was none.
+    pub rows_without: &'a [u8],
 }
 
 /// A figure under its name.
@@ -95,9 +97,7 @@ impl Settlement<'_> {
         if row.mitigated != Mask(0) {
             text += &line("bids in force", &bids_in_force(event.component, row));
         }
-        let restored = self
-            .correction
-            .map_or(Mask(0), |correction| correction.restored(place, event, row));
+        let restored = self.restored(place, event, row);
         if restored != Mask(0) {
             text += &line("restored", &notes::restored(restored));
         }
@@ -105,6 +105,22 @@ impl Settlement<'_> {
             text += &line("make-up", &dollars(row.make_up));
         }
         text
+    }
+}
+
+impl Settlement<'_> {
+    /// The hours in which the entered bid is in force and would not be without the correction.
+    pub fn restored(&self, place: usize, event: &Event<'_>, row: &Row) -> Mask {
+        if self.correction.is_none() {
+            return Mask(0);
+        }
+        let without = Row::of(self.rows_without, place);
+        (0..HOURS)
+            .filter(|&hour| {
+                let entered = u32_at(cell(event.record, hour), 0).cast_signed();
+                row.bids[hour] == entered && without.bids[hour] != entered
+            })
+            .collect()
     }
 }
 

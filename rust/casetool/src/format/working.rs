@@ -3,6 +3,7 @@
 
 use attachment_h::{Comparison, Component, Kind, Working};
 
+use super::json::Json;
 use crate::record::event::Event;
 use crate::record::fields;
 use crate::text::amounts::{Measure, Signed, number};
@@ -62,6 +63,54 @@ impl Hour<'_> {
             text += &line(place + 1, step, comparison, working.decrease > 0);
         }
         text + &self.verdict(working)
+    }
+
+    /// The working as JSON, with every figure that the library gives.
+    pub fn json(&self, working: &Working) -> String {
+        let event = &self.event;
+        let is_bid = event.kind == Kind::BIDS;
+        let component = words::COMPONENTS.word(i64::from(event.component.0));
+        let steps = self.steps(working);
+        let comparisons = steps.iter().zip(&working.comparisons).enumerate();
+        let a = match is_bid {
+            true => Json::from(working.a.cast_signed()),
+            false => Json::from(working.a),
+        };
+        let json = Json::Object(vec![
+            ("answer", "working".into()),
+            ("event", self.number.into()),
+            ("hour", self.hour.into()),
+            ("day", event.day.into()),
+            ("date", calendar::numeric_date(event.day).into()),
+            ("kind", words::KINDS.word(i64::from(event.kind.0)).into()),
+            (
+                "market",
+                words::MARKETS.word(i64::from(event.market.0)).into(),
+            ),
+            ("unit", event.unit.into()),
+            ("component", component.filter(|_| is_bid).into()),
+            ("flagged", working.flagged.into()),
+            (
+                "failed_step",
+                Some(working.failed).filter(|&step| step > 0).into(),
+            ),
+            ("tight", working.tight.into()),
+            ("a", a),
+            ("r", working.reference.into()),
+            ("d", increase(working).json()),
+            ("s", working.s.into()),
+            ("g", working.g.into()),
+            ("time_sum", working.total.into()),
+            ("n3", working.n3.into()),
+            ("n2", working.n2.into()),
+            (
+                "comparisons",
+                comparisons
+                    .map(|(place, (step, comparison))| step_json(place + 1, step, comparison))
+                    .collect(),
+            ),
+        ]);
+        json.to_string()
     }
 
     fn heading(&self) -> String {
@@ -201,6 +250,17 @@ fn line(place: usize, step: &Step, comparison: &Comparison, negative: bool) -> S
         ""
     };
     format!("  {place}. {words}: {left} > {right}, {exceeded}{note}\n")
+}
+
+/// A comparison as JSON.
+fn step_json(place: usize, step: &Step, comparison: &Comparison) -> Json {
+    Json::Object(vec![
+        ("step", place.into()),
+        ("words", step.words.as_str().into()),
+        ("taken", comparison.taken.into()),
+        ("left", comparison.left.into()),
+        ("right", comparison.right.into()),
+    ])
 }
 
 /// A figure as it stands in the file and as people write it.

@@ -4,6 +4,8 @@ use std::borrow::Cow;
 
 use attachment_h::{Cents, Multiplier};
 
+use crate::format::json::Json;
+
 /// What an amount is counted in.
 #[derive(Clone, Copy, Debug, PartialEq, Eq)]
 pub enum Measure {
@@ -67,18 +69,27 @@ impl Measure {
         self.with_digits(value.into(), |digits| grouped(&digits))
     }
 
-    fn with_digits(self, value: Signed, shape: impl Fn(String) -> String) -> String {
+    /// The value of the file for programs, without a sign of its measure: `-2004.00`.
+    pub fn decimal(self, value: impl Into<Signed>) -> String {
+        let (sign, whole, part) = self.parts(value.into());
+        format!("{sign}{whole}{part}")
+    }
+
+    /// The sign, the whole part and the decimals after their point.
+    fn parts(self, value: Signed) -> (&'static str, String, String) {
         let decimals = self.decimals();
         let digits = format!("{:0width$}", value.size, width = decimals + 1);
         let (whole, part) = digits.split_at(digits.len() - decimals);
         let sign = if value.negative { "-" } else { "" };
-        let dollar = if self == Measure::Dollars { "$" } else { "" };
         let point = if decimals == 0 { "" } else { "." };
+        (sign, whole.to_string(), format!("{point}{part}"))
+    }
+
+    fn with_digits(self, value: Signed, shape: impl Fn(String) -> String) -> String {
+        let (sign, whole, part) = self.parts(value);
+        let dollar = if self == Measure::Dollars { "$" } else { "" };
         let word = self.word().map_or(String::new(), |word| format!(" {word}"));
-        format!(
-            "{sign}{dollar}{}{point}{part}{word}",
-            shape(whole.to_string())
-        )
+        format!("{sign}{dollar}{}{part}{word}", shape(whole))
     }
 
     /// Reads an amount without its word: the value of the file, or what was expected.
@@ -146,6 +157,14 @@ pub struct Signed {
     pub negative: bool,
     /// The value without its sign.
     pub size: u64,
+}
+
+impl Signed {
+    /// The value as JSON.
+    pub fn json(self) -> Json {
+        let size = i128::from(self.size);
+        Json::Integer(if self.negative { -size } else { size })
+    }
 }
 
 impl From<i64> for Signed {

@@ -52,6 +52,12 @@ pub fn date(day: u32) -> String {
     format!("{day} {} {year}", MONTHS[month].0)
 }
 
+/// The date of a day number as [`day_of`] reads it, such as `2021-11-26`.
+pub fn numeric_date(day: u32) -> String {
+    let (year, month, day) = parts(day);
+    format!("{year:04}-{:02}-{day:02}", month + 1)
+}
+
 /// May and November, in which a Summer and a Winter capability period begin, from 0.
 const SUMMER: usize = 4;
 const WINTER: usize = 10;

@@ -4,10 +4,13 @@
 
 #[cfg(unix)]
 pub mod fake;
+pub mod json;
 pub mod refused;
 
 use std::ffi::OsString;
 use std::path::{Path, PathBuf};
+
+use cases::case::Input;
 
 /// What a run of casetool gave.
 #[derive(Debug, PartialEq, Eq)]
@@ -58,4 +61,14 @@ pub fn file_with(name: &str, bytes: &[u8]) -> String {
     let path = Path::new(env!("CARGO_TARGET_TMPDIR")).join(name);
     std::fs::write(&path, bytes).expect("a file of the test");
     path.to_str().expect("a path of text").to_string()
+}
+
+/// Runs casetool on a case and its correction, which is put into a file of this name.
+pub fn casetool_with(name: &str, arguments: &[&str], input: &Input) -> Ran {
+    let path = file_with(name, &input.correction);
+    let correction: &[&str] = match input.correction.as_slice() {
+        [] => &[],
+        _ => &["--correction", &path],
+    };
+    casetool(&[arguments, correction].concat(), &input.file)
 }

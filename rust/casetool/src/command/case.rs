@@ -1,0 +1,113 @@
+//! `check`, `settle` and `working`: what is answered of a case, in the format that was asked for.
+
+use std::io::Read;
+
+use attachment_h::layout::{REFERENCE_BYTES, Section, Sections};
+use attachment_h::{ROWS_LENGTH, settle, working};
+
+use super::arguments::{Format, Given};
+use super::help::Topic;
+use super::input::Inputs;
+use super::{Answer, Failure, mistake};
+use crate::format::check::{accepted, accepted_json, mistakes_json, refused_json};
+use crate::format::notes::Correction;
+use crate::format::settlement::Settlement;
+use crate::format::working::Hour;
+use crate::record::event::Event;
+
+/// The answer of a command that reads a case.
+pub fn answer(topic: Topic, given: &Given, input: &mut dyn Read) -> Result<Answer, Failure> {
+    let inputs = match Inputs::read(given, input) {
+        // What a program reads of a check has its mistakes too.
+        Err(Failure::Mistakes(name, mistakes))
+            if topic == Topic::Check && given.format == Format::Json =>
+        {
+            return Ok(Answer::not_accepted(mistakes_json(&name, &mistakes)));
+        }
+        inputs => inputs?,
+    };
+    let mut answer = match topic {
+        Topic::Check => checked(&inputs, given.format),
+        Topic::Settle => settled(&inputs, given.format)?,
+        _ => worked(&inputs, given)?,
+    };
+    answer.done.warnings = inputs.warnings;
+    Ok(answer)
+}
+
+fn checked(inputs: &Inputs, format: Format) -> Answer {
+    let sections = Sections::of(&inputs.case.bytes);
+    let events = sections.map_or(0, |sections| sections.count(Section::Events));
+    match (inputs.check(), format) {
+        (Ok(()), Format::Json) => {
+            let correction = correction_of(inputs);
+            Answer::done(accepted_json(events, correction.as_ref()))
+        }
+        (Ok(()), _) => Answer::done(accepted(events)),
+        (Err(refusal), Format::Json) => Answer::not_accepted(refused_json(&refusal)),
+        (Err(refusal), _) => Answer::not_accepted(refusal.to_string()),
+    }
+}
+
+/// The correction that was named.
+fn correction_of(inputs: &Inputs) -> Option<Correction> {
+    inputs.correction.as_ref().map(|correction| Correction {
+        name: correction.name.clone(),
+        references: correction.bytes.len() / REFERENCE_BYTES,
+    })
+}
+
+fn settled(inputs: &Inputs, format: Format) -> Result<Answer, Failure> {
+    let file = &inputs.case.bytes;
+    let settle_with = |correction: &[u8]| {
+        let mut rows = vec![0; ROWS_LENGTH];
+        settle(file, correction, &mut rows)
+            .map(|settled| (settled, rows))
+            .map_err(|refused| inputs.refusal(refused))
+    };
+    let (settled, rows) = settle_with(inputs.correction_bytes())?;
+    let rows_without = match &inputs.correction {
+        Some(_) => settle_with(&[])?.1,
+        None => Vec::new(),
+    };
+    let correction = correction_of(inputs);
+    let sections = Sections::of(file).ok_or_else(|| mistake("sections in this settled case"))?;
+    let settlement = Settlement {
+        sections,
+        rows: &rows,
+        correction: correction.as_ref(),
+        rows_without: &rows_without,
+    };
+    Ok(Answer::done(match format {
+        Format::Text => settlement.text(&settled),
+        Format::Json => settlement.json(&settled),
+        Format::Csv => settlement.csv(&settled),
+    }))
+}
+
+fn worked(inputs: &Inputs, given: &Given) -> Result<Answer, Failure> {
+    inputs.check()?;
+    let file = &inputs.case.bytes;
+    let none = || mistake("such hour in this accepted case");
+    let sections = Sections::of(file).ok_or_else(none)?;
+    let Some(record) = sections.records(Section::Events).nth(given.event) else {
+        let events = match sections.count(Section::Events) {
+            0 => "no events".to_string(),
+            1 => "one event, 0".to_string(),
+            count => format!("{count} events, 0 to {}", count - 1),
+        };
+        let problem = format!("--event {}: this case has {events}", given.event);
+        return Err(Failure::Misuse(problem));
+    };
+    let hour = Hour {
+        number: given.event,
+        event: Event::of(record),
+        hour: given.hour,
+    };
+    let working = working(file, inputs.correction_bytes(), given.event, given.hour)
+        .map_err(|refused| format!("{refused}: {}", none()))?;
+    Ok(Answer::done(match given.format {
+        Format::Json => hour.json(&working),
+        _ => hour.text(&working),
+    }))
+}

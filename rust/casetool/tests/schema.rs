@@ -1,0 +1,263 @@
+//! Checks and workings as JSON, what the schema of docs/ would notice, and what python3 reads.
+
+mod support;
+
+use std::io::Write;
+use std::process::{Command, Stdio};
+
+use attachment_h::{ROWS_LENGTH, Row, settle, working};
+use cases::Random;
+use cases::faults::FAULTS;
+use cases::generator::{Size, Wanted, any_case, case};
+use support::json::{Value, answer, broken, parse, schema};
+use support::{casetool, casetool_with, repository};
+
+#[test]
+fn checks_as_json() {
+    let schema = schema();
+    let mut random = Random::new(753);
+    let mut numbers = Vec::new();
+    for fault in FAULTS.iter().filter(|fault| fault.number != 15) {
+        for _ in 0..4 {
+            let wanted = Wanted {
+                every_kind: true,
+                ..Wanted::of(Size::Small)
+            };
+            let mut input = case(&mut random, wanted).input();
+            if (fault.apply)(&mut input, &mut random).is_none()
+                || input.correction == [0; 0] && fault.number == 8
+            {
+                continue;
+            }
+            let ran = casetool_with(
+                "schema.check",
+                &["check", "--format", "json", "--as", "case"],
+                &input,
+            );
+            let value = answer(&ran, &schema);
+            assert_eq!((ran.status, value.at("answer").text()), (1, "refused"));
+            assert_eq!(
+                value.at("number").integer(),
+                i128::from(fault.number),
+                "{}",
+                fault.name
+            );
+            let words = casetool_with("schema.check", &["check", "--as", "case"], &input);
+            let sentence = value.at("place").at("sentence").text();
+            assert_eq!(words.text().lines().nth(1), Some(sentence));
+            numbers.push(fault.number);
+        }
+    }
+    numbers.dedup();
+    assert_eq!(numbers, (1..=14).collect::<Vec<u8>>());
+    let example =
+        std::fs::read_to_string(repository("examples/two-plants.txt")).expect("the example");
+    let value = answer(
+        &casetool(&["check", "--format", "json"], example.as_bytes()),
+        &schema,
+    );
+    assert_eq!(
+        (value.at("answer").text(), value.at("events").integer()),
+        ("accepted", 6)
+    );
+    let refused = example.replace("area 1", "area 2");
+    let value = answer(
+        &casetool(&["check", "--format", "json"], refused.as_bytes()),
+        &schema,
+    );
+    assert_eq!(
+        (value.at("line").integer(), value.at("column").integer()),
+        (4, 22)
+    );
+    assert_eq!(value.at("source").text(), "standard input");
+    let wrong = example.replace("kind", "type");
+    let ran = casetool(&["check", "--format", "json"], wrong.as_bytes());
+    let value = answer(&ran, &schema);
+    assert_eq!((ran.status, value.at("answer").text()), (1, "mistakes"));
+    assert_eq!(
+        (
+            value.at("mistakes").list().len(),
+            value.at("more").integer()
+        ),
+        (8, 0)
+    );
+    let first = value.at("mistakes").at("0");
+    assert_eq!(
+        (first.at("line").integer(), first.at("word").text()),
+        (10, "type")
+    );
+    assert_eq!(first.at("problem").text(), "did you mean kind?");
+}
+
+#[test]
+fn workings_as_json() {
+    let schema = schema();
+    let mut random = Random::new(754);
+    let (mut hours, mut flagged, mut negative) = (0, 0, 0);
+    for _ in 0..60 {
+        let generated = any_case(&mut random);
+        let input = generated.input();
+        for event in (0..generated.case.events.len()).step_by(7) {
+            let hour = random.below(24);
+            let (number, of_day) = (event.to_string(), hour.to_string());
+            let arguments = [
+                "working", "--format", "json", "--event", &number, "--hour", &of_day,
+            ];
+            let value = answer(
+                &casetool_with("schema.working", &arguments, &input),
+                &schema,
+            );
+            let expected = working(&input.file, &input.correction, event, hour).expect("an hour");
+            let is_bid = value.at("kind").text() == "bids";
+            let a = if is_bid {
+                i128::from(expected.a.cast_signed())
+            } else {
+                expected.a.into()
+            };
+            let d = i128::from(expected.increase) - i128::from(expected.decrease);
+            for (name, figure) in [
+                ("a", a),
+                ("r", expected.reference.into()),
+                ("d", d),
+                ("s", expected.s.into()),
+                ("g", expected.g.into()),
+                ("time_sum", expected.total.into()),
+                ("n3", expected.n3.into()),
+                ("n2", expected.n2.into()),
+                ("event", event as i128),
+                ("hour", hour as i128),
+            ] {
+                assert_eq!(value.at(name).integer(), figure, "{name}");
+            }
+            assert_eq!(*value.at("flagged"), Value::Bool(expected.flagged));
+            assert_eq!(*value.at("tight"), Value::Bool(expected.tight));
+            match expected.failed {
+                0 => assert_eq!(*value.at("failed_step"), Value::Null),
+                step => assert_eq!(value.at("failed_step").integer(), step.into()),
+            }
+            let steps = value.at("comparisons").list();
+            for (place, comparison) in expected.comparisons.iter().enumerate() {
+                let Some(step) = steps.get(place) else {
+                    assert_eq!((comparison.left, comparison.right), (0, 0));
+                    continue;
+                };
+                assert_eq!(step.at("step").integer(), place as i128 + 1);
+                assert_eq!(*step.at("taken"), Value::Bool(comparison.taken));
+                assert_eq!(step.at("left").integer(), comparison.left.into());
+                assert_eq!(step.at("right").integer(), comparison.right.into());
+            }
+            hours += 1;
+            flagged += usize::from(expected.flagged);
+            negative += usize::from(d < 0);
+        }
+    }
+    println!("{hours} hours, {flagged} flagged, {negative} with a negative d");
+    assert!(hours > 150 && flagged > 20 && negative > 20);
+}
+
+#[test]
+fn the_schema_would_notice() {
+    let schema = schema();
+    let example = std::fs::read(repository("examples/two-plants.txt")).expect("the example");
+    let text = casetool(&["settle", "--format", "json"], &example)
+        .text()
+        .to_string();
+    assert_eq!(broken(&parse(&text), &schema, &schema), None);
+    for (good, bad) in [
+        ("\"n3\": 2,", ""),
+        ("\"n3\": 2", "\"n3\": 2, \"n4\": 2"),
+        ("\"n3\": 2", "\"n3\": \"2\""),
+        ("\"n3\": 2", "\"n3\": 457"),
+        ("\"settled\"", "\"accepted\""),
+        ("\"21984.00\"", "\"21984.0\""),
+        ("\"21984.00\"", "\"$21984.00\""),
+        ("\"21984.00\"", "\"\""),
+        ("\"2021-11-26\"", "\"26 November 2021\""),
+        ("\"withheld\"", "\"withhold\""),
+        ("[0, 5, 6, 7]", "[0, 5, 6, 24]"),
+        ("[0, 5, 6, 7]", "[0, 5, 6, \"7\"]"),
+        ("\"bids_in_force\": [0, ", "\"bids_in_force\": ["),
+        ("\"restored_hours\": []", "\"restored_hours\": null"),
+        (
+            "\"correction\": null",
+            "\"correction\": {\"source\": \"x\"}",
+        ),
+    ] {
+        assert!(text.contains(good), "{good}");
+        let changed = parse(&text.replacen(good, bad, 1));
+        assert!(broken(&changed, &schema, &schema).is_some(), "{bad}");
+    }
+    // Everything that the schema names has to be there.
+    let Value::Object(definitions) = schema.at("$defs") else {
+        panic!("no definitions")
+    };
+    for (name, definition) in definitions {
+        let Value::Object(rules) = definition else {
+            panic!("{name}")
+        };
+        if let Some(Value::Object(properties)) = rules.get("properties") {
+            let required = definition.at("required").list().iter().map(Value::text);
+            let mut required: Vec<&str> = required.collect();
+            required.sort_unstable();
+            assert_eq!(required, properties.keys().collect::<Vec<_>>(), "{name}");
+        }
+    }
+}
+
+/// What python3 prints with this program and this input; nothing where there is no python3.
+fn python(program: &str, input: &[u8]) -> Option<String> {
+    let mut child = Command::new("python3")
+        .args(["-c", program])
+        .stdin(Stdio::piped())
+        .stdout(Stdio::piped())
+        .spawn()
+        .ok()?;
+    child
+        .stdin
+        .take()
+        .expect("piped")
+        .write_all(input)
+        .expect("its input");
+    let output = child.wait_with_output().expect("its output");
+    assert!(output.status.success());
+    Some(
+        String::from_utf8(output.stdout)
+            .expect("text")
+            .replace('\r', ""),
+    )
+}
+
+#[test]
+fn python_reads_the_same() {
+    let mut random = Random::new(755);
+    let input = case(&mut random, Wanted::of(Size::Full)).input();
+    let mut rows = vec![0; ROWS_LENGTH];
+    let settled = settle(&input.file, &input.correction, &mut rows).expect("an accepted case");
+    let rows = Row::first(&rows, settled.rows);
+    let expected: Vec<String> = rows
+        .iter()
+        .map(|row| format!("{} {} {}\n", row.penalty.0, row.make_up.0, row.bids[23]))
+        .collect();
+    let expected = format!(
+        "{}{} {}\n",
+        expected.concat(),
+        settled.penalties.0,
+        settled.make_ups.0
+    );
+    let of_json = "import json, sys\n\
+        got = json.load(sys.stdin)\n\
+        for row in got['rows']: print(row['penalty_cents'], row['make_up_cents'], row['bids_in_force'][23])\n\
+        print(got['totals']['penalties_cents'], got['totals']['make_ups_cents'])\n";
+    let of_csv = "import csv, sys\n\
+        for row in csv.DictReader(sys.stdin):\n    \
+            bid = [row['bid_23']] if row['record'] == 'row' else []\n    \
+            print(row['penalty_cents'], row['make_up_cents'], *bid)\n";
+    for (format, program) in [("json", of_json), ("csv", of_csv)] {
+        let ran = casetool_with("schema.python", &["settle", "--format", format], &input);
+        match python(program, &ran.output) {
+            Some(printed) => assert_eq!(printed, expected, "{format}"),
+            None => println!("no python3 here: not read by it"),
+        }
+    }
+    assert_eq!(rows.len(), 200);
+}

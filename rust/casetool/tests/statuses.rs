@@ -1,0 +1,112 @@
+//! Exit statuses: 0 done, 1 refused or unreadable, 2 misuse, of every command in every format.
+
+mod support;
+
+use support::{casetool, file_with, repository, written};
+
+const HOUR: [&str; 4] = ["--event", "0", "--hour", "0"];
+
+/// Every command that reads a case, in every format that it has.
+fn commands() -> Vec<Vec<&'static str>> {
+    let mut found = Vec::new();
+    for (name, formats, more) in [
+        ("check", &["text", "json"][..], &[][..]),
+        ("settle", &["text", "json", "csv"], &[]),
+        ("working", &["text", "json"], &HOUR),
+    ] {
+        found.push([&[name], more].concat());
+        found.extend(
+            formats
+                .iter()
+                .map(|format| [&[name, "--format", format], more].concat()),
+        );
+    }
+    assert_eq!(found.len(), 10);
+    found
+}
+
+#[test]
+fn of_every_command_and_format() {
+    let good = std::fs::read_to_string(repository("examples/two-plants.txt")).expect("the example");
+    let case = written(&good);
+    let refused = good.replace("area 1", "area 2");
+    let mistaken = good.replace("kind", "type");
+    let old = file_with("statuses.old", b"old");
+    for command in commands() {
+        for (input, status) in [
+            (good.as_bytes(), 0),
+            (&case, 0),
+            (refused.as_bytes(), 1),
+            (&written(&refused), 1),
+            (mistaken.as_bytes(), 1),
+            (&case[..40], 1),
+            (b"", 1),
+            (b"# nothing\n", 1),
+        ] {
+            let ran = casetool(&command, input);
+            assert_eq!(
+                ran.status,
+                status,
+                "{command:?}: {}{}",
+                ran.text(),
+                ran.errors
+            );
+            // There is an answer or a message, and only a check that was not accepted has its answer with status 1.
+            let answered = status == 0 || command[0] == "check" && ran.errors.is_empty();
+            assert_eq!(
+                (ran.output.is_empty(), ran.errors.is_empty()),
+                (!answered, answered)
+            );
+        }
+        for misuse in [
+            &["--fast"][..],
+            &["--format", "xml"],
+            &["--correction", &old, "--correction", &old],
+            &["a", "b"],
+        ] {
+            let ran = casetool(&[command.as_slice(), misuse].concat(), good.as_bytes());
+            assert_eq!(
+                (ran.status, ran.output.len()),
+                (2, 0),
+                "{command:?} {misuse:?}"
+            );
+            assert!(
+                ran.errors
+                    .contains(&format!("; see casetool {} --help\n", command[0]))
+            );
+        }
+        let ran = casetool(
+            &[command.as_slice(), &["--correction", "/dev/null"]].concat(),
+            good.as_bytes(),
+        );
+        assert_eq!((ran.status, ran.output.len()), (2, 0));
+    }
+}
+
+#[test]
+fn an_answer_in_every_format_goes_to_its_file() {
+    let good = std::fs::read(repository("examples/two-plants.txt")).expect("the example");
+    for (place, command) in commands().into_iter().enumerate() {
+        let path = file_with(&format!("statuses.{place}"), b"old");
+        let ran = casetool(&[command.as_slice(), &["-o", &path]].concat(), &good);
+        assert_eq!((ran.status, ran.output.len()), (0, 0));
+        let answer = std::fs::read(&path).expect("the answer");
+        assert_eq!(answer, casetool(&command, &good).output);
+        // A text with mistakes leaves no old answer, but that of a check in JSON, which is an answer.
+        let ran = casetool(&[command.as_slice(), &["-o", &path]].concat(), b"unit 12");
+        let answered = command[..] == ["check", "--format", "json"];
+        assert_eq!(
+            (ran.status, std::path::Path::new(&path).exists()),
+            (1, answered)
+        );
+        if answered {
+            let answer = std::fs::read_to_string(&path).expect("the answer");
+            assert!(answer.contains("\"answer\": \"mistakes\""));
+        } else {
+            assert!(
+                ran.errors
+                    .ends_with(&format!("{path} that was there is now {path}.old\n"))
+            );
+        }
+    }
+}
