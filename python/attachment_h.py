@@ -1,30 +1,99 @@
 """The proved Attachment H settlement, called from Python.
 
-Needs the archive as a shared object:
-
-    rt staticlib api
-    cc -shared -Wl,--whole-archive target/staticlib/libapi.a -Wl,--no-whole-archive -o rust/target/libattachment_h.so
-
-ATTACHMENT_H_LIBRARY names another place of it. Every function answers a number, a bool or a tuple of them, or raises Refused
-with the number of docs/RULES.md; the ranges are those of include/attachment_h.h. ctypes would cut an int to the width of its
+Needs the archive as a shared object; where it is not there, the import says how to build it. ATTACHMENT_H_LIBRARY names
+another place of it. Every function answers a number, a bool, a Row or a tuple of them, or raises Refused with the number of
+docs/RULES.md and what it means; the ranges are those of include/attachment_h.h. ctypes would cut an int to the width of its
 argument: one that does not fit raises OverflowError.
 """
 
 import ctypes
 import os
+import struct
 from ctypes import POINTER, Structure, c_bool, c_int32, c_int64, c_size_t, c_uint8, c_uint16, c_uint32, c_uint64
 from pathlib import Path
+from typing import NamedTuple
 
 _DEFAULT = Path(__file__).resolve().parent.parent / "rust" / "target" / "libattachment_h.so"
-_library = ctypes.CDLL(os.environ.get("ATTACHMENT_H_LIBRARY", str(_DEFAULT)))
+_PATH = os.environ.get("ATTACHMENT_H_LIBRARY", str(_DEFAULT))
+_BUILD = """In the root of the repository:
+
+    rt staticlib api
+    mkdir -p rust/target
+    cc -shared -Wl,--whole-archive target/staticlib/libapi.a -Wl,--no-whole-archive -o rust/target/libattachment_h.so
+
+builds it. ATTACHMENT_H_LIBRARY names another place of it."""
+
+try:
+    _library = ctypes.CDLL(_PATH)
+except OSError as error:
+    raise ImportError(f"the proved library can't be loaded: {error}\n{_BUILD}") from error
+
+# what a number means of a case: docs/RULES.md, L
+_OF_A_CASE = {
+    1: "the file's length is outside 36 to 65,000 bytes",
+    2: "the version is not 1",
+    3: "the section count is not 4",
+    4: "the pairs of offset and length don't follow on from byte 36 to the file's end",
+    5: "a section's length is no multiple of its record, or it has too many records",
+    6: "a unit has a field out of its limits, or the unit numbers don't rise strictly",
+    7: "a reference has a field out of its limits or an unlisted unit, or the references don't rise strictly by unit and component",
+    8: "the correction is no multiple of 8 bytes, has over 256 records, or one of them breaks the limits or the order of references",
+    9: "a past entry has a field out of its limits",
+    10: "an event has a field out of its limits",
+    11: "the events don't rise strictly by day, kind, market, unit and component",
+    12: "an event's unit is not listed",
+    13: "an event of kind 1 or 2 has an a above its unit's capability",
+    14: "an event of kind 4 has no reference r, or no correct reference c where its component reads one",
+    15: "the rows buffer has fewer than 128 bytes for each event",
+}
+
+# and of a smaller call: docs/RULES.md, C2 and C3
+_OF_A_CALL = {7: "a reference is out of the range of its component", 10: "an argument is out of its range"}
+
+# of an event or an hour that a case does not have
+_OF_AN_HOUR = {10: "the case has no such event or hour"}
 
 
 class Refused(Exception):
-    """A refusal: 1 to 15 for a case, 7 or 10 for a smaller call."""
+    """A refusal with its number, 1 to 15 for a case, 7 or 10 for a smaller call, and what that means."""
 
-    def __init__(self, number):
-        super().__init__(f"refused {number}")
+    def __init__(self, number, meanings=_OF_A_CASE):
         self.number = number
+        self.sentence = meanings[number]
+        super().__init__(f"refused {number}: {self.sentence}")
+
+
+class Row(NamedTuple):
+    """The row of an event. Masks have bit h for hour h, money is in cents, the multiplier in halves; what a kind lacks is 0."""
+
+    flags: int
+    mitigated: int
+    penalty: int
+    make_up: int
+    multiplier: int
+    n3: int
+    n2: int
+    bids: tuple[int, ...]
+
+    @classmethod
+    def of(cls, rows, event):
+        """The row of an event in a settled buffer."""
+        fields = _ROW.unpack_from(rows, _ROW.size * event)
+        return cls(*fields[:7], fields[7:])
+
+
+# docs/FORMAT.md: the bytes that are 0 are passed over
+_ROW = struct.Struct("<IIQQBxHHxx24i")
+ROWS_LENGTH = 200 * _ROW.size
+_LISTING_LENGTH = 42_048
+
+
+class Settled(NamedTuple):
+    """A settlement: a row for each event, and the totals in cents."""
+
+    rows: list[Row]
+    penalties: int
+    make_ups: int
 
 
 class _Answer(Structure):
@@ -65,7 +134,7 @@ def _fit(kind, value):
         raise OverflowError(f"{value} does not fit {kind.__name__}")
 
 
-def _declare(name, result, *arguments):
+def _declare(name, result, *arguments, meanings=_OF_A_CALL):
     function = getattr(_library, "attachment_h_" + name)
     function.restype = result
     function.argtypes = arguments
@@ -76,15 +145,15 @@ def _declare(name, result, *arguments):
                 _fit(kind, value)
         answer = function(*values)
         if isinstance(answer, Structure) and answer.number != 0:
-            raise Refused(answer.number)
+            raise Refused(answer.number, meanings)
         return answer
 
     return call
 
 
 _check = _declare("check", c_uint8, POINTER(c_uint8), c_size_t, POINTER(c_uint8), c_size_t, c_size_t)
-_settle = _declare("settle", _Outcome, *[POINTER(c_uint8), c_size_t] * 3)
-_working = _declare("working", _Hour, *[POINTER(c_uint8), c_size_t] * 2, c_size_t, c_size_t)
+_settle = _declare("settle", _Outcome, *[POINTER(c_uint8), c_size_t] * 3, meanings=_OF_A_CASE)
+_working = _declare("working", _Hour, *[POINTER(c_uint8), c_size_t] * 2, c_size_t, c_size_t, meanings=_OF_AN_HOUR)
 _listing = _declare("listing", c_size_t, *[POINTER(c_uint8), c_size_t] * 3)
 _bid_fails = _declare("bid_fails", _Answer, c_uint8, c_uint32, c_int32, c_uint8, c_bool, c_uint32, c_uint16)
 _times_fail = _declare("times_fail", _TimeAnswer, c_int32, c_int32, c_int32)
@@ -110,51 +179,37 @@ def _array(kind, values):
     return (kind * len(values))(*values)
 
 
-def check(file, correction=b"", rows_length=128 * 200):
+def _lent(data):
+    """Bytes as a call takes them: where they are, and how many."""
+    return (c_uint8 * len(data)).from_buffer_copy(data), len(data)
+
+
+def check(file, correction=b"", rows_length=ROWS_LENGTH):
     """Checks a case with its correction and the length of its rows buffer; raises Refused with what it breaks first."""
-    number = _check(
-        (c_uint8 * len(file)).from_buffer_copy(file),
-        len(file),
-        (c_uint8 * len(correction)).from_buffer_copy(correction),
-        len(correction),
-        rows_length,
-    )
+    number = _check(*_lent(file), *_lent(correction), rows_length)
     if number != 0:
         raise Refused(number)
 
 
-def settle(file, correction=b"", rows_length=128 * 200):
-    """Settles a case: its rows as bytes, 128 for each event, and the totals of penalties and of make-ups in cents."""
+def settle(file, correction=b"", rows_length=ROWS_LENGTH):
+    """Settles a case: its rows and totals."""
     rows = (c_uint8 * rows_length)()
-    outcome = _settle(
-        (c_uint8 * len(file)).from_buffer_copy(file),
-        len(file),
-        (c_uint8 * len(correction)).from_buffer_copy(correction),
-        len(correction),
-        rows,
-        rows_length,
-    )
-    return bytes(rows)[: 128 * outcome.rows], outcome.penalties, outcome.make_ups
+    outcome = _settle(*_lent(file), *_lent(correction), rows, rows_length)
+    return Settled([Row.of(rows, event) for event in range(outcome.rows)], outcome.penalties, outcome.make_ups)
 
 
 def working(file, event, hour, correction=b""):
     """The working of an hour, 0 to 23, of an event, from 0: a dictionary of the fields of attachment_h_hour but number."""
-    answer = _working(
-        (c_uint8 * len(file)).from_buffer_copy(file),
-        len(file),
-        (c_uint8 * len(correction)).from_buffer_copy(correction),
-        len(correction),
-        event,
-        hour,
-    )
+    check(file, correction)
+    answer = _working(*_lent(file), *_lent(correction), event, hour)
     fields = {name: getattr(answer, name) for name, _ in _Hour._fields_ if name != "number"}
     return fields | {"left": list(answer.left), "right": list(answer.right)}
 
 
 def listing(file):
     """The listing of a case with no correction, or of its refusal."""
-    rows, out = (c_uint8 * 25_600)(), (c_uint8 * 42_048)()
-    length = _listing((c_uint8 * len(file)).from_buffer_copy(file), len(file), rows, len(rows), out, len(out))
+    rows, out = (c_uint8 * ROWS_LENGTH)(), (c_uint8 * _LISTING_LENGTH)()
+    length = _listing(*_lent(file), rows, len(rows), out, len(out))
     return bytes(out)[:length].decode()
 
 

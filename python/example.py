@@ -3,12 +3,14 @@
 The argument is the repository's root; where it is left out, the one that this file stands in.
 """
 
+import os
 import struct
+import subprocess
 import sys
 from pathlib import Path
 
 import attachment_h
-from attachment_h import Refused
+from attachment_h import Refused, Row
 
 
 def refusal(call, *arguments):
@@ -34,6 +36,15 @@ def case(withheld=501, price=4_000, unit=12):
     return bytes(changed)
 
 
+def sentence(call, *arguments):
+    """What a refused call says."""
+    try:
+        call(*arguments)
+    except Refused as refused:
+        return str(refused)
+    return ""
+
+
 def expect(what, got, expected):
     assert got == expected, f"{what}: {got}, and not {expected}"
     print(f"{what}: {got}")
@@ -47,11 +58,12 @@ expect("5,001 of 5,000", refusal(attachment_h.check, case(withheld=5_001)), 13)
 expect("a price of 1,000,001", refusal(attachment_h.check, case(price=1_000_001)), 10)
 expect("a correction of 7 bytes", refusal(attachment_h.check, case(), bytes(7)), 8)
 expect("127 bytes, one event", refusal(attachment_h.check, case(), b"", 127), 15)
-rows, penalties, make_ups = attachment_h.settle(SHIPPED)
-expect("rows", len(rows) // 128, 1)
-expect("flags, mitigated, penalty, make-up", struct.unpack_from("<IIQQ", rows), (1, 0, 200_400, 0))
-expect("multiplier, 0, N3, N2, 0, no bids in force", struct.unpack_from("<BBHHH24i", rows, 24), (2, 0, 1, 1, 0) + 24 * (0,))
-expect("total", (penalties, make_ups), (200_400, 0))
+settled = attachment_h.settle(SHIPPED)
+row = Row(flags=1, mitigated=0, penalty=200_400, make_up=0, multiplier=2, n3=1, n2=1, bids=24 * (0,))
+expect("rows", settled.rows, [row])
+expect("total", (settled.penalties, settled.make_ups), (200_400, 0))
+numbered = struct.pack("<128x2I2Q2B3H24i", 1, 2, 3, 4, 5, 0, 6, 7, 0, *range(-12, 12))
+expect("every field of a second row", Row.of(numbered, 1), Row(1, 2, 3, 4, 5, 6, 7, tuple(range(-12, 12))))
 expect("settled into 127 bytes", refusal(attachment_h.settle, case(), b"", 127), 15)
 hour = attachment_h.working(SHIPPED, 0, 0)
 expect("hour 0 fails comparison 1", (hour["failed"], hour["left"][0], hour["right"][0]), (1, 5_010, 5_000))
@@ -69,8 +81,22 @@ expect("bid -100 in force", attachment_h.bid_in_force(0, -100, 2_000, True), -10
 expect("make-up", attachment_h.make_up(9_000, 5_000, 1_000, 2_000, 6_000), 100_000)
 expect("reference 1,000,001", refusal(attachment_h.bid_fails, 0, 1_000_001, 0, 0), 7)
 expect("N3 457", refusal(attachment_h.multiplier, 457, 1), 10)
+expect("what 12 means", sentence(attachment_h.settle, case(unit=99)), "refused 12: an event's unit is not listed")
+expect("what 10 means of a call", sentence(attachment_h.multiplier, 457, 1), "refused 10: an argument is out of its range")
+expect("and of an hour", sentence(attachment_h.working, case(), 0, 24), "refused 10: the case has no such event or hour")
+field = "refused 10: an event has a field out of its limits"
+expect("and of the case of an hour", sentence(attachment_h.working, case(price=1_000_001), 0, 24), field)
 try:
     attachment_h.multiplier(2**32 + 4, 4)
     raise AssertionError("2^32 + 4 was cut to 4")
 except OverflowError as overflow:
     print(overflow)
+without = subprocess.run(
+    [sys.executable, "-c", "import attachment_h"],
+    env=os.environ | {"ATTACHMENT_H_LIBRARY": "/no/such/library", "PYTHONPATH": str(Path(attachment_h.__file__).parent)},
+    capture_output=True,
+    text=True,
+)
+expect("an import without the library", without.returncode, 1)
+for words in ["ImportError: the proved library can't be loaded", "rt staticlib api", "cc -shared", "ATTACHMENT_H_LIBRARY"]:
+    expect(f"it says {words}", words in without.stderr, True)

@@ -154,3 +154,13 @@ fn every_number_has_a_meaning() {
     }
     assert_eq!(Refused(16).meaning(), "no limit has this number");
 }
+
+#[test]
+fn python_has_the_same_meanings() {
+    let module = concat!(env!("CARGO_MANIFEST_DIR"), "/../../python/attachment_h.py");
+    let module = std::fs::read_to_string(module).expect("the module");
+    for number in 1..=15 {
+        let line = format!("    {number}: \"{}\",\n", Refused(number).meaning());
+        assert_eq!(module.matches(&line).count(), 1, "{line}");
+    }
+}
