@@ -104,7 +104,7 @@ fn one_mistake_is_told_once() {
             "line 2, column 16, 'type': did you mean kind?",
         ),
         (
-            "event day 8000 kind bids market 0 unit 12 period 44 component enrgy impact-hours none\nhour 0 bid 1\n",
+            "event day 8000 kind bids market 0 unit 12 period 44 component enrgy impact-hours none\nhour 0 bid 1 price 1 quantity 1\n",
             "line 2, column 63, 'enrgy': did you mean energy?",
         ),
         // What a market or a component would ask for.
@@ -133,6 +133,30 @@ fn one_mistake_is_told_once() {
     ] {
         assert_eq!(said(&format!("{UNIT}{text}")), [expected], "{text}");
     }
+}
+
+#[test]
+fn what_stands_after_a_near_miss_is_told_too() {
+    let event =
+        "event day 8000 type withheld market 0 unit 12 period 44\n  hour 3 withheld 5.05 price 1\n";
+    let power = "expected MW with at most one decimal, such as 50.1 MW";
+    assert_eq!(
+        said(&format!("{UNIT}{event}")),
+        [
+            "line 2, column 16, 'type': did you mean kind?".to_string(),
+            "line 2, column 56: expected the key impact".to_string(),
+            format!("line 3, column 19, '5.05': {power}"),
+        ]
+    );
+    let event = event.replace("type withheld", "kind witheld");
+    assert_eq!(
+        said(&format!("{UNIT}{event}")),
+        [
+            "line 2, column 21, 'witheld': did you mean withheld?".to_string(),
+            "line 2, column 55: expected the key impact".to_string(),
+            format!("line 3, column 19, '5.05': {power}"),
+        ]
+    );
 }
 
 #[test]

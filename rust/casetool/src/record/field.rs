@@ -215,6 +215,14 @@ impl Field {
         }
     }
 
+    /// The number of the word that this one is near to.
+    pub fn near_number(&self, word: &str) -> Option<i64> {
+        match self.form {
+            Form::Name(names) => names.number(near::meant(word, names.words())?),
+            _ => None,
+        }
+    }
+
     /// What the limits allow, for a text.
     fn allowed(&self) -> String {
         let allowed = match self.limit {

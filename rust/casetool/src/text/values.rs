@@ -66,13 +66,24 @@ pub fn values<'a>(
 }
 
 /// The value of a field that says how others are read: nothing where it is missing or wrong, which is told with the
-/// other values.
+/// other values. What is near to its key or its words is taken for them here, so that the mistakes after it are told
+/// too; it is a mistake itself, and nothing is written.
 pub fn early_value(line: &Line<'_>, field: &Field) -> Option<u8> {
-    match line.pair(field.key) {
-        Some(pair) => u8::try_from(value(pair, field).ok()?).ok(),
+    let near_key = |pair: &&Pair<'_>| near::meant(pair.key.text, &[field.key]).is_some();
+    let pair = line
+        .pair(field.key)
+        .or_else(|| line.pairs.iter().take(MOST_KEYS).find(near_key));
+    match pair {
+        Some(pair) => {
+            let read = value(pair, field).ok();
+            u8::try_from(read.or_else(|| field.near_number(pair.value.text))?).ok()
+        }
         None => (!field.needed && !line.keys.contains(field.key)).then_some(0),
     }
 }
+
+/// The keys of a line that are looked at for a near miss: more than any record has.
+const MOST_KEYS: usize = 20;
 
 /// Adds that a line has a key which the fields do not have; the key that it is asked about, if it is near to one.
 fn unknown_key(
