@@ -3,9 +3,9 @@
 mod support;
 
 use attachment_h::{ROWS_LENGTH, Row, Settled, settle};
-use cases::Random;
 use cases::case::Input;
 use cases::generator::{Generated, any_case};
+use cases::{Event, Kind, Random};
 use casetool::format::json::Json;
 use casetool::text::calendar::day_of;
 use support::json::{Value, answer, parse, schema};
@@ -38,11 +38,8 @@ fn integers(list: &Value) -> Vec<i128> {
 /// That the row of an event is the library's, field by field.
 fn same_row(value: &Value, place: usize, row: &Row, generated: &Generated) {
     let event = &generated.case.events[place];
-    let unit = generated
-        .case
-        .units
-        .iter()
-        .find(|unit| unit.unit == event.unit);
+    let mut units = generated.case.units.iter();
+    let unit = units.find(|unit| unit.unit == event.unit);
     for (name, expected) in [
         ("event", place as i128),
         ("day", event.day.into()),
@@ -63,52 +60,63 @@ fn same_row(value: &Value, place: usize, row: &Row, generated: &Generated) {
         );
     }
     assert_eq!(day_of(value.at("date").text()), Some(event.day));
-    let kinds = ["withheld", "dispatch", "fuel", "bids"];
-    assert_eq!(
-        value.at("kind").text(),
-        kinds[usize::from(event.kind().0) - 1]
-    );
-    let markets = ["day-ahead", "real-time"];
-    assert_eq!(
-        value.at("market").text(),
-        markets[usize::from(event.market.0)]
-    );
+    let multipliers = ["0", "", "1", "1.5", "2", "", "3"];
+    for (name, expected) in [
+        (
+            "kind",
+            ["", "withheld", "dispatch", "fuel", "bids"][usize::from(event.kind().0)],
+        ),
+        (
+            "market",
+            ["day-ahead", "real-time"][usize::from(event.market.0)],
+        ),
+        ("penalty_dollars", &dollars(row.penalty.0.into())),
+        ("make_up_dollars", &dollars(row.make_up.0.into())),
+        ("multiplier", multipliers[usize::from(row.multiplier.0)]),
+    ] {
+        assert_eq!(value.at(name).text(), expected, "{name} of event {place}");
+    }
     assert_eq!(integers(value.at("flagged_hours")), hours(row.flags.0));
     assert_eq!(
         integers(value.at("mitigated_hours")),
         hours(row.mitigated.0)
     );
-    assert_eq!(
-        value.at("penalty_dollars").text(),
-        dollars(row.penalty.0.into())
-    );
-    assert_eq!(
-        value.at("make_up_dollars").text(),
-        dollars(row.make_up.0.into())
-    );
-    let multipliers = ["0", "", "1", "1.5", "2", "", "3"];
-    assert_eq!(
-        value.at("multiplier").text(),
-        multipliers[usize::from(row.multiplier.0)]
-    );
+    same_bids(value, row, event);
+}
+
+/// That the bids in force are the library's.
+fn same_bids(value: &Value, row: &Row, event: &Event) {
     let bids = row.bids.map(i128::from);
     assert_eq!(integers(value.at("bids_in_force")), bids);
-    let component = (kinds[3] == value.at("kind").text()).then(|| event.component().0);
-    let (measure, in_dollars) = (
-        value.at("bids_in_force_measure"),
-        value.at("bids_in_force_dollars"),
-    );
-    match component {
-        Some(0..=3) => {
-            assert_eq!(measure.text(), "cents");
-            let texts: Vec<&str> = in_dollars.list().iter().map(Value::text).collect();
-            assert_eq!(texts, bids.map(dollars));
-        }
-        Some(4..=6) => assert_eq!((measure.text(), in_dollars), ("minutes", &Value::Null)),
-        Some(_) => assert_eq!((measure.text(), in_dollars), ("number", &Value::Null)),
-        None => assert_eq!((measure, in_dollars), (&Value::Null, &Value::Null)),
+    let component = (event.kind() == Kind::BIDS).then(|| event.component().0);
+    let in_dollars = value.at("bids_in_force_dollars");
+    let (measure, in_cents) = match component {
+        None => (Value::Null, false),
+        Some(0..=3) => (Value::Text("cents".to_string()), true),
+        Some(4..=6) => (Value::Text("minutes".to_string()), false),
+        Some(_) => (Value::Text("number".to_string()), false),
+    };
+    assert_eq!(*value.at("bids_in_force_measure"), measure);
+    if in_cents {
+        let texts: Vec<&str> = in_dollars.list().iter().map(Value::text).collect();
+        assert_eq!(texts, bids.map(dollars));
+    } else {
+        assert_eq!(*in_dollars, Value::Null);
     }
     assert_eq!(*value.at("component") == Value::Null, component.is_none());
+}
+
+/// That the totals are the library's.
+fn same_totals(totals: &Value, settled: &Settled) {
+    assert_eq!(totals.at("rows").integer(), settled.rows as i128);
+    for (name, cents) in [
+        ("penalties", settled.penalties),
+        ("make_ups", settled.make_ups),
+    ] {
+        let cents = i128::from(cents.0);
+        assert_eq!(totals.at(&format!("{name}_cents")).integer(), cents);
+        assert_eq!(totals.at(&format!("{name}_dollars")).text(), dollars(cents));
+    }
 }
 
 #[test]
@@ -124,16 +132,7 @@ fn settlements_as_json() {
         let value = answer(&ran, &schema);
         let (settled, expected) = settled_by_the_library(&input);
         assert_eq!(value.at("answer").text(), "settled");
-        let totals = value.at("totals");
-        assert_eq!(totals.at("rows").integer(), settled.rows as i128);
-        for (name, cents) in [
-            ("penalties", settled.penalties),
-            ("make_ups", settled.make_ups),
-        ] {
-            let cents = i128::from(cents.0);
-            assert_eq!(totals.at(&format!("{name}_cents")).integer(), cents);
-            assert_eq!(totals.at(&format!("{name}_dollars")).text(), dollars(cents));
-        }
+        same_totals(value.at("totals"), &settled);
         let found = value.at("rows").list();
         assert_eq!(found.len(), expected.len());
         for (place, (value, row)) in found.iter().zip(&expected).enumerate() {
@@ -180,14 +179,35 @@ fn in_a_column(value: &Value) -> String {
         Value::Null => String::new(),
         Value::Integer(number) => number.to_string(),
         Value::Text(text) => text.clone(),
-        Value::List(_) => {
-            let mask = integers(value)
-                .into_iter()
-                .fold(0, |mask, hour| mask | 1 << hour);
-            casetool::text::hours::text(mask)
+        Value::List(values) => {
+            let values: Vec<String> = values.iter().map(in_a_column).collect();
+            values.join(" ")
         }
         other => panic!("{other:?}"),
     }
+}
+
+/// The columns that a row of the JSON has in the CSV.
+fn columns_of(row: &Value) -> Vec<(String, String)> {
+    let Value::Object(fields) = row else {
+        panic!("{row:?}")
+    };
+    let mut found = Vec::new();
+    for (name, value) in fields {
+        match (name.as_str(), value) {
+            ("bids_in_force" | "bids_in_force_dollars", value) => {
+                found.extend((0..24).map(|hour| {
+                    let bid = match value {
+                        Value::Null => String::new(),
+                        values => in_a_column(&values.list()[hour]),
+                    };
+                    (format!("{name}_{hour}"), bid)
+                }));
+            }
+            (name, value) => found.push((name.to_string(), in_a_column(value))),
+        }
+    }
+    found
 }
 
 #[test]
@@ -196,54 +216,38 @@ fn csv_has_what_json_has() {
     let mut random = Random::new(752);
     for _ in 0..60 {
         let input = any_case(&mut random).input();
-        let value = answer(
-            &casetool_with("formats.csv", &["settle", "--format", "json"], &input),
-            &schema,
-        );
+        let ran = casetool_with("formats.csv", &["settle", "--format", "json"], &input);
+        let value = answer(&ran, &schema);
         let ran = casetool_with("formats.csv", &["settle", "--format", "csv"], &input);
         assert_eq!((ran.status, ran.errors.as_str()), (0, ""));
         let lines = csv(ran.text());
         let rows = value.at("rows").list();
         assert_eq!(lines.len(), rows.len() + 2);
+        // The four columns in front, the 22 of a row and its 48 bids.
+        assert!(lines.iter().all(|line| line.len() == 4 + 22 + 48));
         let column = |line: &[String], name: &str| {
             let place = lines[0].iter().position(|column| column == name);
             line[place.unwrap_or_else(|| panic!("no column {name}"))].clone()
         };
         for (line, row) in lines[1..].iter().zip(rows) {
-            assert_eq!(
-                (line.len(), column(line, "record").as_str()),
-                (lines[0].len(), "row")
-            );
-            let Value::Object(fields) = row else {
-                panic!("{row:?}")
-            };
-            for (name, value) in fields {
-                match name.as_str() {
-                    "bids_in_force" => {
-                        for (hour, bid) in value.list().iter().enumerate() {
-                            assert_eq!(column(line, &format!("bid_{hour}")), in_a_column(bid));
-                        }
-                    }
-                    "bids_in_force_measure" => {
-                        assert_eq!(column(line, "bid_measure"), in_a_column(value))
-                    }
-                    "bids_in_force_dollars" => {}
-                    name => assert_eq!(column(line, name), in_a_column(value), "{name}"),
-                }
+            assert_eq!((line[0].as_str(), line[3].as_str()), ("row", ""));
+            for (name, value) in columns_of(row) {
+                assert_eq!(column(line, &name), value, "{name}");
             }
         }
-        let last = lines.last().expect("the totals");
-        let totals = value.at("totals");
+        let (last, totals) = (lines.last().expect("the totals"), value.at("totals"));
+        assert_eq!(
+            (last[0].as_str(), column(last, "event").as_str()),
+            ("total", "")
+        );
         for (name, total) in [
-            ("record", Value::Text("total".to_string())),
-            ("rows", totals.at("rows").clone()),
-            ("penalty_cents", totals.at("penalties_cents").clone()),
-            ("penalty_dollars", totals.at("penalties_dollars").clone()),
-            ("make_up_cents", totals.at("make_ups_cents").clone()),
-            ("make_up_dollars", totals.at("make_ups_dollars").clone()),
-            ("event", Value::Null),
+            ("rows", "rows"),
+            ("penalty_cents", "penalties_cents"),
+            ("penalty_dollars", "penalties_dollars"),
+            ("make_up_cents", "make_ups_cents"),
+            ("make_up_dollars", "make_ups_dollars"),
         ] {
-            assert_eq!(column(last, name), in_a_column(&total), "{name}");
+            assert_eq!(column(last, name), in_a_column(totals.at(total)), "{name}");
         }
     }
 }

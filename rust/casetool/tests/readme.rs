@@ -87,7 +87,10 @@ fn commands_print_what_the_readme_shows() {
     fs::write(folder.join("target/first.txt"), first).expect("a file of the test");
     let shown = shown(section);
     // The short way stands first: a text, one command, the answer.
-    assert_eq!(shown[0].command, "sh scripts/casetool settle target/first.txt");
+    assert_eq!(
+        shown[0].command,
+        "sh scripts/casetool settle target/first.txt"
+    );
     for Shown { command, output } in &shown {
         if command.contains("target/bin/listing") && !folder.join("target/bin/listing").exists() {
             println!("target/bin/listing is not built: not run");

@@ -5,7 +5,7 @@ mod support;
 use std::io::Write;
 use std::process::{Command, Stdio};
 
-use attachment_h::{ROWS_LENGTH, Row, settle, working};
+use attachment_h::{ROWS_LENGTH, Row, Working, settle, working};
 use cases::Random;
 use cases::faults::FAULTS;
 use cases::generator::{Size, Wanted, any_case, case};
@@ -13,7 +13,7 @@ use support::json::{Value, answer, broken, parse, schema};
 use support::{casetool, casetool_with, repository};
 
 #[test]
-fn checks_as_json() {
+fn refusals_as_json() {
     let schema = schema();
     let mut random = Random::new(753);
     let mut numbers = Vec::new();
@@ -24,25 +24,16 @@ fn checks_as_json() {
                 ..Wanted::of(Size::Small)
             };
             let mut input = case(&mut random, wanted).input();
-            if (fault.apply)(&mut input, &mut random).is_none()
-                || input.correction == [0; 0] && fault.number == 8
-            {
+            if (fault.apply)(&mut input, &mut random).is_none() {
                 continue;
             }
-            let ran = casetool_with(
-                "schema.check",
-                &["check", "--format", "json", "--as", "case"],
-                &input,
-            );
+            let arguments = ["check", "--as", "case", "--format", "json"];
+            let ran = casetool_with("schema.check", &arguments, &input);
             let value = answer(&ran, &schema);
             assert_eq!((ran.status, value.at("answer").text()), (1, "refused"));
-            assert_eq!(
-                value.at("number").integer(),
-                i128::from(fault.number),
-                "{}",
-                fault.name
-            );
-            let words = casetool_with("schema.check", &["check", "--as", "case"], &input);
+            let number = value.at("number").integer();
+            assert_eq!(number, i128::from(fault.number), "{}", fault.name);
+            let words = casetool_with("schema.check", &arguments[..3], &input);
             let sentence = value.at("place").at("sentence").text();
             assert_eq!(words.text().lines().nth(1), Some(sentence));
             numbers.push(fault.number);
@@ -50,43 +41,81 @@ fn checks_as_json() {
     }
     numbers.dedup();
     assert_eq!(numbers, (1..=14).collect::<Vec<u8>>());
+}
+
+#[test]
+fn checks_of_a_text_as_json() {
+    let schema = schema();
     let example =
         std::fs::read_to_string(repository("examples/two-plants.txt")).expect("the example");
-    let value = answer(
-        &casetool(&["check", "--format", "json"], example.as_bytes()),
-        &schema,
-    );
-    assert_eq!(
-        (value.at("answer").text(), value.at("events").integer()),
-        ("accepted", 6)
-    );
-    let refused = example.replace("area 1", "area 2");
-    let value = answer(
-        &casetool(&["check", "--format", "json"], refused.as_bytes()),
-        &schema,
-    );
-    assert_eq!(
-        (value.at("line").integer(), value.at("column").integer()),
-        (4, 22)
-    );
+    let checked = |text: &str, status: u8| {
+        let ran = casetool(&["check", "--format", "json"], text.as_bytes());
+        assert_eq!((ran.status, ran.errors.as_str()), (status, ""));
+        answer(&ran, &schema)
+    };
+    let value = checked(&example, 0);
+    assert_eq!(value.at("answer").text(), "accepted");
+    assert_eq!(value.at("events").integer(), 6);
+    let value = checked(&example.replace("area 1", "area 2"), 1);
+    assert_eq!(value.at("line").integer(), 4);
+    assert_eq!(value.at("column").integer(), 22);
     assert_eq!(value.at("source").text(), "standard input");
-    let wrong = example.replace("kind", "type");
-    let ran = casetool(&["check", "--format", "json"], wrong.as_bytes());
-    let value = answer(&ran, &schema);
-    assert_eq!((ran.status, value.at("answer").text()), (1, "mistakes"));
-    assert_eq!(
-        (
-            value.at("mistakes").list().len(),
-            value.at("more").integer()
-        ),
-        (8, 0)
-    );
+    let value = checked(&example.replace("kind", "type"), 1);
+    assert_eq!(value.at("answer").text(), "mistakes");
+    assert_eq!(value.at("mistakes").list().len(), 8);
+    assert_eq!(value.at("more").integer(), 0);
     let first = value.at("mistakes").at("0");
     assert_eq!(
         (first.at("line").integer(), first.at("word").text()),
         (10, "type")
     );
     assert_eq!(first.at("problem").text(), "did you mean kind?");
+    let value = checked(&"unit x\n".repeat(30), 1);
+    assert_eq!(value.at("mistakes").list().len(), 20);
+    assert_eq!(value.at("more").integer(), 40);
+}
+
+/// That a working is the library's, figure by figure.
+fn same_working(value: &Value, expected: &Working) {
+    let is_bid = value.at("kind").text() == "bids";
+    let a = match is_bid {
+        true => i128::from(expected.a.cast_signed()),
+        false => expected.a.into(),
+    };
+    for (name, figure) in [
+        ("a", a),
+        ("r", expected.reference.into()),
+        ("d", increase(expected)),
+        ("s", expected.s.into()),
+        ("g", expected.g.into()),
+        ("time_sum", expected.total.into()),
+        ("n3", expected.n3.into()),
+        ("n2", expected.n2.into()),
+    ] {
+        assert_eq!(value.at(name).integer(), figure, "{name}");
+    }
+    assert_eq!(*value.at("flagged"), Value::Bool(expected.flagged));
+    assert_eq!(*value.at("tight"), Value::Bool(expected.tight));
+    match expected.failed {
+        0 => assert_eq!(*value.at("failed_step"), Value::Null),
+        step => assert_eq!(value.at("failed_step").integer(), step.into()),
+    }
+    let steps = value.at("comparisons").list();
+    for (place, comparison) in expected.comparisons.iter().enumerate() {
+        let Some(step) = steps.get(place) else {
+            assert_eq!((comparison.left, comparison.right), (0, 0));
+            continue;
+        };
+        assert_eq!(step.at("step").integer(), place as i128 + 1);
+        assert_eq!(*step.at("taken"), Value::Bool(comparison.taken));
+        assert_eq!(step.at("left").integer(), comparison.left.into());
+        assert_eq!(step.at("right").integer(), comparison.right.into());
+    }
+}
+
+/// d, from its two parts.
+fn increase(working: &Working) -> i128 {
+    i128::from(working.increase) - i128::from(working.decrease)
 }
 
 #[test]
@@ -99,56 +128,19 @@ fn workings_as_json() {
         let input = generated.input();
         for event in (0..generated.case.events.len()).step_by(7) {
             let hour = random.below(24);
-            let (number, of_day) = (event.to_string(), hour.to_string());
+            let [number, of_day] = [event, hour].map(|number| number.to_string());
             let arguments = [
                 "working", "--format", "json", "--event", &number, "--hour", &of_day,
             ];
-            let value = answer(
-                &casetool_with("schema.working", &arguments, &input),
-                &schema,
-            );
+            let ran = casetool_with("schema.working", &arguments, &input);
+            let value = answer(&ran, &schema);
             let expected = working(&input.file, &input.correction, event, hour).expect("an hour");
-            let is_bid = value.at("kind").text() == "bids";
-            let a = if is_bid {
-                i128::from(expected.a.cast_signed())
-            } else {
-                expected.a.into()
-            };
-            let d = i128::from(expected.increase) - i128::from(expected.decrease);
-            for (name, figure) in [
-                ("a", a),
-                ("r", expected.reference.into()),
-                ("d", d),
-                ("s", expected.s.into()),
-                ("g", expected.g.into()),
-                ("time_sum", expected.total.into()),
-                ("n3", expected.n3.into()),
-                ("n2", expected.n2.into()),
-                ("event", event as i128),
-                ("hour", hour as i128),
-            ] {
-                assert_eq!(value.at(name).integer(), figure, "{name}");
-            }
-            assert_eq!(*value.at("flagged"), Value::Bool(expected.flagged));
-            assert_eq!(*value.at("tight"), Value::Bool(expected.tight));
-            match expected.failed {
-                0 => assert_eq!(*value.at("failed_step"), Value::Null),
-                step => assert_eq!(value.at("failed_step").integer(), step.into()),
-            }
-            let steps = value.at("comparisons").list();
-            for (place, comparison) in expected.comparisons.iter().enumerate() {
-                let Some(step) = steps.get(place) else {
-                    assert_eq!((comparison.left, comparison.right), (0, 0));
-                    continue;
-                };
-                assert_eq!(step.at("step").integer(), place as i128 + 1);
-                assert_eq!(*step.at("taken"), Value::Bool(comparison.taken));
-                assert_eq!(step.at("left").integer(), comparison.left.into());
-                assert_eq!(step.at("right").integer(), comparison.right.into());
-            }
+            same_working(&value, &expected);
+            assert_eq!(value.at("event").integer(), event as i128);
+            assert_eq!(value.at("hour").integer(), hour as i128);
             hours += 1;
             flagged += usize::from(expected.flagged);
-            negative += usize::from(d < 0);
+            negative += usize::from(increase(&expected) < 0);
         }
     }
     println!("{hours} hours, {flagged} flagged, {negative} with a negative d");
@@ -187,7 +179,11 @@ fn the_schema_would_notice() {
         let changed = parse(&text.replacen(good, bad, 1));
         assert!(broken(&changed, &schema, &schema).is_some(), "{bad}");
     }
-    // Everything that the schema names has to be there.
+}
+
+#[test]
+fn everything_that_the_schema_names_has_to_be_there() {
+    let schema = schema();
     let Value::Object(definitions) = schema.at("$defs") else {
         panic!("no definitions")
     };
@@ -250,7 +246,7 @@ fn python_reads_the_same() {
         print(got['totals']['penalties_cents'], got['totals']['make_ups_cents'])\n";
     let of_csv = "import csv, sys\n\
         for row in csv.DictReader(sys.stdin):\n    \
-            bid = [row['bid_23']] if row['record'] == 'row' else []\n    \
+            bid = [row['bids_in_force_23']] if row['record'] == 'row' else []\n    \
             print(row['penalty_cents'], row['make_up_cents'], *bid)\n";
     for (format, program) in [("json", of_json), ("csv", of_csv)] {
         let ran = casetool_with("schema.python", &["settle", "--format", format], &input);

@@ -218,11 +218,9 @@ fn a_refusal_has_its_line_and_column() {
             "FILE: line 5, column 29: event 0 (day 8000, withheld, Day-Ahead, unit 12), hour 3: b (price) is -1,000,001 (-$10,000.01); expected -1,000,000 (-$10,000.00) to 1,000,000 ($10,000.00)",
         ),
         (
-            11,
-            format!(
-                "order as-written\nunit 12 group 7 capability 1\n{WITHHELD} 12\n\n  {WITHHELD} 12"
-            ),
-            "FILE: line 5, column 3: event 1 (day 8000, withheld, Day-Ahead, unit 12): the same as event 0; events have to rise strictly by day, kind, market, unit, component",
+            6,
+            format!("order as-written\n{WITHHELD} 12\n{UNITS}"),
+            "FILE: line 5, column 6: units, record 1 (unit 12): unit number is 12, after 13; unit numbers have to rise strictly",
         ),
         (
             12,
@@ -248,21 +246,23 @@ fn a_refusal_has_its_line_and_column() {
 
 #[test]
 fn a_field_that_was_left_out_has_the_line_of_its_record() {
-    // The market of a past entry is there, and the component of a withheld event is not: its own line is named.
-    let event = format!("{WITHHELD} 12 Q 5\n");
+    // Two equal events are told apart by no field: the last that they have in common is the component, which is not there.
+    let events = format!("{WITHHELD} 12\n  {WITHHELD} 12\n");
     refused(
-        10,
-        &format!("{UNITS}{event}"),
-        "FILE: line 4, column 72: event 0 (day 8000, withheld, Day-Ahead, unit 12): Q is 5; expected 0",
+        11,
+        &format!("order as-written\nunit 12 group 7 capability 1\n{events}"),
+        "FILE: line 4, column 3: event 1 (day 8000, withheld, Day-Ahead, unit 12): the same as event 0; events have to rise strictly by day, kind, market, unit, component",
     );
-    let order = format!(
-        "order as-written\n{WITHHELD} 12\nunit 12 group 7 capability 1\nunit 11 group 7 capability 1\n"
-    );
-    refused(
-        6,
-        &order,
-        "FILE: line 4, column 6: units, record 1 (unit 11): unit number is 11, after 12; unit numbers have to rise strictly",
-    );
+}
+
+#[test]
+fn a_period_that_is_not_its_days_is_warned_of() {
+    let text = format!("{UNITS}{} 12\n", WITHHELD.replace("44", "43"));
+    let warning = "casetool: warning: standard input: line 4, column 48, '43': day 8000 (26 November 2021) is in capability period 44; 43 is written\n";
+    for arguments in [&["check"][..], &["settle", "--format", "json"], &WORKING] {
+        let ran = casetool(arguments, text.as_bytes());
+        assert_eq!((ran.status, ran.errors.as_str()), (0, warning));
+    }
 }
 
 #[test]

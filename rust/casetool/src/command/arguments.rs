@@ -88,6 +88,16 @@ pub struct Given {
     pub hour: usize,
 }
 
+/// The words of `--as`.
+const FORMS: [(&str, As); 2] = [("text", As::Text), ("case", As::Case)];
+
+/// The words of `--format`.
+const FORMATS: [(&str, Format); 3] = [
+    ("text", Format::Text),
+    ("json", Format::Json),
+    ("csv", Format::Csv),
+];
+
 /// The options and files of a command, as far as they are read.
 #[derive(Default)]
 struct Found {
@@ -202,19 +212,13 @@ impl Found {
                 flag(&mut self.allow_empty, option)
             }
             "--as" if !converts => {
-                let forms = [("text", As::Text), ("case", As::Case)];
-                let form = one_of(option, value(option, rest)?, &forms)?;
+                let form = one_of(option, value(option, rest)?, &FORMS)?;
                 once(&mut self.taken_as, option, form)
             }
             "--format" if !converts => {
-                let formats = [
-                    ("text", Format::Text),
-                    ("json", Format::Json),
-                    ("csv", Format::Csv),
-                ];
                 // Only a settlement has rows.
                 let taken = if topic == Topic::Settle { 3 } else { 2 };
-                let format = one_of(option, value(option, rest)?, &formats[..taken])?;
+                let format = one_of(option, value(option, rest)?, &FORMATS[..taken])?;
                 once(&mut self.format, option, format)
             }
             "--event" if topic == Topic::Working => {

@@ -2,6 +2,9 @@
 
 use std::fmt;
 
+use crate::record::event::Event;
+use crate::text::calendar;
+
 /// A value.
 #[derive(Clone, Debug, PartialEq, Eq)]
 pub enum Json {
@@ -59,6 +62,18 @@ impl<T: Into<Json>> FromIterator<T> for Json {
     fn from_iter<I: IntoIterator<Item = T>>(values: I) -> Json {
         Json::List(values.into_iter().map(Into::into).collect())
     }
+}
+
+/// What an event is known by, for an object.
+pub fn event_fields(event: &Event<'_>) -> Vec<(&'static str, Json)> {
+    vec![
+        ("day", event.day.into()),
+        ("date", calendar::numeric_date(event.day).into()),
+        ("kind", event.kind_word().into()),
+        ("market", event.market_word().into()),
+        ("unit", event.unit.into()),
+        ("component", event.component_word().into()),
+    ]
 }
 
 impl Json {

@@ -1,6 +1,7 @@
 //! Answers as they are printed.
 
 pub mod check;
+mod csv;
 pub mod json;
 pub mod notes;
 mod rows;

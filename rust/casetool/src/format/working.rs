@@ -3,7 +3,7 @@
 
 use attachment_h::{Comparison, Component, Kind, Working};
 
-use super::json::Json;
+use super::json::{Json, event_fields};
 use crate::record::event::Event;
 use crate::record::fields;
 use crate::text::amounts::{Measure, Signed, number};
@@ -67,33 +67,20 @@ impl Hour<'_> {
 
     /// The working as JSON, with every figure that the library gives.
     pub fn json(&self, working: &Working) -> String {
-        let event = &self.event;
-        let is_bid = event.kind == Kind::BIDS;
-        let component = words::COMPONENTS.word(i64::from(event.component.0));
-        let steps = self.steps(working);
-        let comparisons = steps.iter().zip(&working.comparisons).enumerate();
-        let a = match is_bid {
-            true => Json::from(working.a.cast_signed()),
-            false => Json::from(working.a),
+        let a = match self.event.kind {
+            Kind::BIDS => Json::from(working.a.cast_signed()),
+            _ => Json::from(working.a),
         };
-        let json = Json::Object(vec![
+        let failed = Some(working.failed).filter(|&step| step > 0);
+        let mut fields = vec![
             ("answer", "working".into()),
             ("event", self.number.into()),
             ("hour", self.hour.into()),
-            ("day", event.day.into()),
-            ("date", calendar::numeric_date(event.day).into()),
-            ("kind", words::KINDS.word(i64::from(event.kind.0)).into()),
-            (
-                "market",
-                words::MARKETS.word(i64::from(event.market.0)).into(),
-            ),
-            ("unit", event.unit.into()),
-            ("component", component.filter(|_| is_bid).into()),
+        ];
+        fields.extend(event_fields(&self.event));
+        fields.extend([
             ("flagged", working.flagged.into()),
-            (
-                "failed_step",
-                Some(working.failed).filter(|&step| step > 0).into(),
-            ),
+            ("failed_step", failed.into()),
             ("tight", working.tight.into()),
             ("a", a),
             ("r", working.reference.into()),
@@ -103,14 +90,17 @@ impl Hour<'_> {
             ("time_sum", working.total.into()),
             ("n3", working.n3.into()),
             ("n2", working.n2.into()),
-            (
-                "comparisons",
-                comparisons
-                    .map(|(place, (step, comparison))| step_json(place + 1, step, comparison))
-                    .collect(),
-            ),
+            ("comparisons", self.comparisons_json(working)),
         ]);
-        json.to_string()
+        Json::Object(fields).to_string()
+    }
+
+    fn comparisons_json(&self, working: &Working) -> Json {
+        let steps = self.steps(working);
+        let comparisons = steps.iter().zip(&working.comparisons).enumerate();
+        comparisons
+            .map(|(place, (step, comparison))| step_json(place + 1, step, comparison))
+            .collect()
     }
 
     fn heading(&self) -> String {

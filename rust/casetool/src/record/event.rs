@@ -47,6 +47,22 @@ impl<'a> Event<'a> {
         }
     }
 
+    /// The word that a text has for its kind.
+    pub fn kind_word(&self) -> Option<&'static str> {
+        words::KINDS.word(i64::from(self.kind.0))
+    }
+
+    /// The word that a text has for its market.
+    pub fn market_word(&self) -> Option<&'static str> {
+        words::MARKETS.word(i64::from(self.market.0))
+    }
+
+    /// The word that a text has for its component; bids alone have one.
+    pub fn component_word(&self) -> Option<&'static str> {
+        let word = words::COMPONENTS.word(i64::from(self.component.0));
+        word.filter(|_| self.kind == Kind::BIDS)
+    }
+
     /// What events rise strictly by.
     pub fn order(&self) -> (u32, Kind, Market, u16, Component) {
         (self.day, self.kind, self.market, self.unit, self.component)

@@ -195,7 +195,7 @@ impl Field {
                     meant.map_or_else(|| self.allowed(), near::question)
                 }),
             },
-            Form::Mark => match word {
+            Form::Mark => match word.to_ascii_lowercase().as_str() {
                 "yes" => Ok(1),
                 "no" => Ok(0),
                 _ => Measure::Plain

@@ -189,27 +189,19 @@ impl<'a> Reader<'a> {
 
     fn event(&mut self, first: Word<'a>, rest: &[Word<'a>]) {
         let line = Line::of(first, rest, &mut self.mistakes);
-        let Some(kind) = early_value(&line, &fields::KIND).map(Kind) else {
-            self.record_of(
-                Section::Events,
-                &line,
-                &fields::OF_EVERY_EVENT,
-                Unknown::Left,
-            );
-            self.above = Above::Unread;
-            return;
+        let (shape, certain) = match shape_of(&line) {
+            Some(found) => found,
+            None => {
+                let fields = &fields::OF_EVERY_EVENT;
+                self.record_of(Section::Events, &line, fields, Unknown::Left);
+                self.above = Above::Unread;
+                return;
+            }
         };
-        let market = early_value(&line, &fields::MARKET).map(Market);
-        let component = early_value(&line, &fields::component_of_event(kind)).map(Component);
-        let shape = Shape {
-            kind,
-            market: market.unwrap_or_default(),
-            component: component.unwrap_or_default(),
-        };
-        let certain = market.is_some() && component.is_some();
         // What a market or a component asks for is not known before they are.
         let fields = fields::event(shape).map(|field| {
-            field.needed_where(field.needed && (certain || !fields::is_p_q_or_r(&field)))
+            let known = certain.market && certain.component || !fields::is_p_q_or_r(&field);
+            field.needed_where(field.needed && known)
         });
         let record = self.record(Section::Events, &line, &fields);
         if let Some(record) = &record {
@@ -221,15 +213,15 @@ impl<'a> Reader<'a> {
                 last: line.last,
             });
         }
-        self.above = match component {
-            Some(_) => Above::Event(OpenEvent {
+        self.above = match certain.component {
+            true => Above::Event(OpenEvent {
                 first,
                 shape,
                 written: 0,
                 unread: false,
                 record,
             }),
-            None => Above::Unread,
+            false => Above::Unread,
         };
     }
 
@@ -346,8 +338,31 @@ impl<'a> Reader<'a> {
         let found = values(&line, &fields, Unknown::Wrong, &mut self.mistakes);
         if let (Some(record), Some(cell)) = (&mut event.record, found) {
             for hour in Mask(mask).hours() {
-                record.put_cell(hour, &cell, which);
+                record.put_cell(hour, &cell);
             }
         }
     }
+}
+
+/// Which parts of a shape could be read.
+struct Certain {
+    market: bool,
+    component: bool,
+}
+
+/// What says how the fields of an event are read, 0 in the parts that could not be; nothing without its kind.
+fn shape_of(line: &Line<'_>) -> Option<(Shape, Certain)> {
+    let kind = early_value(line, &fields::KIND).map(Kind)?;
+    let market = early_value(line, &fields::MARKET).map(Market);
+    let component = early_value(line, &fields::component_of_event(kind)).map(Component);
+    let certain = Certain {
+        market: market.is_some(),
+        component: component.is_some(),
+    };
+    let shape = Shape {
+        kind,
+        market: market.unwrap_or_default(),
+        component: component.unwrap_or_default(),
+    };
+    Some((shape, certain))
 }

@@ -11,19 +11,17 @@ pub struct Record<'a> {
     pub first: Word<'a>,
     /// The bytes.
     pub bytes: Vec<u8>,
-    /// The offset of each field that the text has, with its value; of an hour cell also the hours, at the cell's own
-    /// offset where the text has no field there.
+    /// The offset of each field that the text has, with its value.
     pub words: Vec<(usize, Word<'a>)>,
 }
 
 impl<'a> Record<'a> {
-    /// Puts the cell of an hour into an event, with the word that names its hours.
-    pub fn put_cell(&mut self, hour: usize, cell: &Values<'a>, hours: Word<'a>) {
+    /// Puts the cell of an hour into an event.
+    pub fn put_cell(&mut self, hour: usize, cell: &Values<'a>) {
         let at = EVENT_HEAD_BYTES + CELL_BYTES * hour;
         self.bytes[at..at + CELL_BYTES].copy_from_slice(&cell.bytes);
         let words = cell.words.iter().map(|(field, word)| (at + field, *word));
         self.words.extend(words);
-        self.words.push((at, hours));
     }
 }
 
@@ -57,17 +55,11 @@ impl Positions {
         }))
     }
 
-    /// Where the field at an offset of a record stands: its value; of a field that was left out the hours that it
-    /// belongs to, or else the beginning of its record.
+    /// Where the field at an offset of a record stands: its value, or of a field that was left out the beginning of
+    /// its record.
     pub fn find(&self, section: Section, record: usize, at: usize) -> Option<Position> {
         let record = self.0[section as usize].get(record)?;
-        let found = |at: usize| {
-            let field = record.fields.iter().find(|(field, _)| *field == at);
-            field.map(|(_, position)| *position)
-        };
-        let hours = at
-            .checked_sub(EVENT_HEAD_BYTES)
-            .map(|in_cells| at - in_cells % CELL_BYTES);
-        Some(found(at).or_else(|| found(hours?)).unwrap_or(record.first))
+        let field = record.fields.iter().find(|(field, _)| *field == at);
+        Some(field.map_or(record.first, |(_, position)| *position))
     }
 }

@@ -179,50 +179,57 @@ pub fn schema() -> Value {
 pub fn broken(value: &Value, schema: &Value, whole: &Value) -> Option<String> {
     schema.object().iter().find_map(|(keyword, rule)| {
         let holds = match keyword.as_str() {
-            "title" | "description" | "$schema" | "$defs" => true,
             "$ref" => {
                 let name = rule.text().strip_prefix("#/$defs/").expect("a definition");
                 return broken(value, whole.at("$defs").at(name), whole);
             }
-            "oneOf" => {
-                let fitting = rule.list().iter();
-                fitting
-                    .filter(|rule| broken(value, rule, whole).is_none())
-                    .count()
-                    == 1
-            }
-            "const" => value == rule,
-            "enum" => rule.list().contains(value),
-            "type" => match rule {
-                Value::List(names) => names.iter().any(|name| is_a(value, name.text())),
-                name => is_a(value, name.text()),
-            },
-            "minimum" => number(value).is_none_or(|number| number >= rule.integer()),
-            "maximum" => number(value).is_none_or(|number| number <= rule.integer()),
-            "minItems" => length(value).is_none_or(|length| length >= rule.integer()),
-            "maxItems" => length(value).is_none_or(|length| length <= rule.integer()),
-            "pattern" => matches(value.text(), rule.text()),
             "items" => return items(value, rule, whole),
-            "required" => match value {
-                Value::Object(values) => rule
-                    .list()
-                    .iter()
-                    .all(|name| values.contains_key(name.text())),
-                _ => true,
-            },
             "properties" => return properties(value, rule, whole),
-            "additionalProperties" => match value {
-                Value::Object(values) => {
-                    assert_eq!(*rule, Value::Bool(false));
-                    let known = schema.at("properties").object();
-                    values.keys().all(|name| known.contains_key(name))
-                }
-                _ => true,
-            },
-            keyword => panic!("{keyword} is not known"),
+            "oneOf" => {
+                let fits = |rule: &&Value| broken(value, rule, whole).is_none();
+                rule.list().iter().filter(fits).count() == 1
+            }
+            "additionalProperties" => {
+                assert_eq!(*rule, Value::Bool(false));
+                let known = schema.at("properties").object();
+                names(value).all(|name| known.contains_key(name))
+            }
+            keyword => plain_rule(keyword, rule, value),
         };
         (!holds).then(|| format!("{keyword} {rule:?}: {value:?}"))
     })
+}
+
+/// Whether a rule that asks for no other holds of a value.
+fn plain_rule(keyword: &str, rule: &Value, value: &Value) -> bool {
+    match keyword {
+        "title" | "description" | "$schema" | "$defs" => true,
+        "const" => value == rule,
+        "enum" => rule.list().contains(value),
+        "type" => match rule {
+            Value::List(names) => names.iter().any(|name| is_a(value, name.text())),
+            name => is_a(value, name.text()),
+        },
+        "minimum" => number(value).is_none_or(|number| number >= rule.integer()),
+        "maximum" => number(value).is_none_or(|number| number <= rule.integer()),
+        "minItems" => length(value).is_none_or(|length| length >= rule.integer()),
+        "maxItems" => length(value).is_none_or(|length| length <= rule.integer()),
+        "pattern" => matches(value.text(), rule.text()),
+        "required" => {
+            let is_there = |name: &Value| names(value).any(|known| known == name.text());
+            !is_a(value, "object") || rule.list().iter().all(is_there)
+        }
+        keyword => panic!("{keyword} is not known"),
+    }
+}
+
+/// The names of an object; none of another value.
+fn names(value: &Value) -> impl Iterator<Item = &str> {
+    let values = match value {
+        Value::Object(values) => Some(values),
+        _ => None,
+    };
+    values.into_iter().flatten().map(|(name, _)| name.as_str())
 }
 
 fn items(value: &Value, rule: &Value, whole: &Value) -> Option<String> {
@@ -270,37 +277,21 @@ fn length(value: &Value) -> Option<i128> {
 
 /// Whether a text is of a pattern of digits, `[0-9]`, and single signs, with `{n}`, `+` and `?` after them.
 fn matches(text: &str, pattern: &str) -> bool {
-    let mut pattern = pattern.strip_prefix('^').expect("a whole pattern");
-    pattern = pattern.strip_suffix('$').expect("a whole pattern");
+    let pattern = pattern
+        .strip_prefix('^')
+        .and_then(|rest| rest.strip_suffix('$'));
+    let mut pattern = pattern.expect("a whole pattern");
     let mut rest = text;
     while !pattern.is_empty() {
-        let (is_digit, sign, after) = match pattern.strip_prefix("[0-9]") {
-            Some(after) => (true, '0', after),
-            None => {
-                let bracketed = pattern
-                    .strip_prefix('[')
-                    .and_then(|rest| rest.split_once(']'));
-                let (sign, after) = bracketed.unwrap_or_else(|| pattern.split_at(1));
-                (false, sign.chars().next().expect("a sign"), after)
-            }
+        let (class, after) = match pattern.strip_prefix('[') {
+            Some(bracketed) => bracketed.split_once(']').expect("a class"),
+            None => pattern.split_at(1),
         };
-        let fits = |letter: char| {
-            if is_digit {
-                letter.is_ascii_digit()
-            } else {
-                letter == sign
-            }
+        let fits = |letter: char| match class {
+            "0-9" => letter.is_ascii_digit(),
+            sign => sign == letter.to_string(),
         };
-        let (least, most, after) = match after.chars().next() {
-            Some('+') => (1, usize::MAX, &after[1..]),
-            Some('?') => (0, 1, &after[1..]),
-            Some('{') => {
-                let (count, after) = after[1..].split_once('}').expect("a count");
-                let count = count.parse().expect("a count");
-                (count, count, after)
-            }
-            _ => (1, 1, after),
-        };
+        let (least, most, after) = repeated(after);
         pattern = after;
         let count = rest
             .chars()
@@ -313,4 +304,18 @@ fn matches(text: &str, pattern: &str) -> bool {
         rest = &rest[count..];
     }
     rest.is_empty()
+}
+
+/// How often a class stands there at least and at most, and what is after that.
+fn repeated(after: &str) -> (usize, usize, &str) {
+    match after.chars().next() {
+        Some('+') => (1, usize::MAX, &after[1..]),
+        Some('?') => (0, 1, &after[1..]),
+        Some('{') => {
+            let (count, after) = after[1..].split_once('}').expect("a count");
+            let count = count.parse().expect("a count");
+            (count, count, after)
+        }
+        _ => (1, 1, after),
+    }
 }
