@@ -124,6 +124,8 @@ fn values() {
             "MW",
             "the value has this word already",
         ),
+        (capability, "5 mw", "mw", "capability is in MW"),
+        (capability, "5 min", "min", "capability is in MW"),
         (capability, "5mw", "5mw", power),
         (capability, "5.05 MW", "5.05", power),
         (capability, "5.05MW", "5.05MW", power),

@@ -151,7 +151,7 @@ impl<'a> Line<'a> {
                 mistakes.add(key.missing(format!("expected a value for {}", key.shown())));
                 break;
             };
-            let measure = words.next_if(|word| MEASURE_WORDS.contains(&word.text));
+            let measure = words.next_if(|word| is_measure(word.text));
             if is_new {
                 line.pairs.push(Pair {
                     key,
@@ -167,4 +167,13 @@ impl<'a> Line<'a> {
     pub fn pair(&self, key: &str) -> Option<&Pair<'a>> {
         self.pairs.iter().find(|pair| pair.key.text == key)
     }
+}
+
+/// Whether a word is that of a measure, in whatever letters. One in other letters is no key either, and told as a wrong
+/// measure.
+fn is_measure(word: &str) -> bool {
+    let words = MEASURE_WORDS.iter().chain(&["minute", "min"]);
+    words
+        .into_iter()
+        .any(|known| known.eq_ignore_ascii_case(word))
 }
