@@ -1,8 +1,6 @@
 //! What people write is taken where it can be meant in one way, and gives the same file as the form of `show`.
 
-mod support;
-
-use support::{casetool, written};
+use crate::support::{casetool, written};
 
 const UNIT: &str = "unit 12 group 7 capability 1500.0 MW response-rate 10.0 MW/min\n";
 

@@ -1,8 +1,6 @@
 //! Exit statuses: 0 done, 1 refused or unreadable, 2 misuse, of every command in every format.
 
-mod support;
-
-use support::{casetool, file_with, repository, written};
+use crate::support::{casetool, file_with, repository, written};
 
 const HOUR: [&str; 4] = ["--event", "0", "--hour", "0"];
 

@@ -1,13 +1,11 @@
 //! Good texts with changes, case files and noise as texts, noise as cases: never a panic, and what is written comes back.
 
-mod support;
-
+use crate::support::casetool;
 use attachment_h::layout::Sections;
 use cases::Random;
 use cases::generator::{Size, Wanted, case, random_bytes};
 use casetool::text::show::case_text;
 use casetool::text::write::{Written, case_file};
-use support::casetool;
 
 /// A good text with bytes, words or lines changed.
 fn changed(random: &mut Random, text: &str) -> Vec<u8> {

@@ -1,9 +1,7 @@
 //! All mistakes of a text at once: in order, the first twenty, each once, and with the name that was meant.
 
-mod support;
-
+use crate::support::casetool;
 use casetool::text::near::meant;
-use support::casetool;
 
 /// What is said of a text, without the name of its source.
 fn said(text: &str) -> Vec<String> {
@@ -246,4 +244,6 @@ fn what_is_near() {
     }
     assert_eq!(meant(&"price".repeat(10_000), &names), None);
     assert_eq!(meant("type", &["price"]), None);
+    assert_eq!(meant("houre", &["hour", "hours"]), None);
+    assert_eq!(meant("hourss", &["hour", "hours"]), Some("hours"));
 }
