@@ -1,5 +1,5 @@
-//! Cases of the Attachment H settlement as text: writes a case file from text, shows one as text,
-//! says what is wrong with a refused one, and prints a settlement for people.
+//! Cases of the Attachment H settlement as text: reads a text or a case file, says what is wrong with it, and prints its
+//! settlement for people and for programs; writes a case file from text and shows one as text.
 //!
 //! Every figure comes from the proved library, `attachment_h`. This crate reads and writes text.
 

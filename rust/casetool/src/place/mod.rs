@@ -11,7 +11,7 @@ use attachment_h::layout::{Section, Sections};
 
 use crate::record::field::{Field, Form};
 use crate::text::amounts::Measure;
-use crate::text::bytes::{is_text, utf_16};
+use crate::text::bytes::{is_like_text, is_text, text_of, utf_16};
 
 /// What a place is in.
 #[derive(Clone, Copy, Debug, PartialEq, Eq)]
@@ -60,6 +60,12 @@ pub fn hint(given: Given, bytes: &[u8]) -> Option<String> {
     if let Some(name) = utf_16(bytes) {
         return Some(format!(
             "{what} looks like text in {name}: it has to be UTF-8"
+        ));
+    }
+    if let (true, Err(error)) = (is_like_text(bytes), text_of(bytes)) {
+        let (line, column) = (error.line, error.column);
+        return Some(format!(
+            "{what} looks like text, but line {line}, column {column} is no UTF-8"
         ));
     }
     is_text(bytes).then(|| format!("{what} looks like text: {command}"))

@@ -7,6 +7,13 @@ pub fn is_text(bytes: &[u8]) -> bool {
     !bytes.is_empty() && !bytes.contains(&0) && std::str::from_utf8(bytes).is_ok()
 }
 
+/// Whether bytes look like a text, though it may be in another code: no zero byte, and mostly letters, digits and signs.
+pub fn is_like_text(bytes: &[u8]) -> bool {
+    let plain = |byte: &&u8| byte.is_ascii_graphic() || byte.is_ascii_whitespace();
+    let count = bytes.iter().filter(plain).count();
+    !bytes.contains(&0) && 4 * count > 3 * bytes.len()
+}
+
 /// The text of bytes that came from outside, which may begin with a byte order mark; it may be empty.
 pub fn text_of(bytes: &[u8]) -> Result<&str, TextError> {
     if let Some(name) = utf_16(bytes) {

@@ -124,6 +124,25 @@ fn a_text_given_as_a_case_file() {
     }
 }
 
+#[test]
+fn a_text_in_another_code_is_named() {
+    // As Windows-1252 and the like have it.
+    let text = b"unit 12 group 7 capability 500.0 MW\n# caf\xE9\n";
+    for command in ["check", "settle", "show"] {
+        let ran = casetool(&[command], text);
+        let hint = "this file looks like text, but line 2, column 6 is no UTF-8\n";
+        assert_eq!((ran.status, said(&ran).ends_with(hint)), (1, true));
+    }
+    let case = file_with("text-or-case.code", b"unit 12 group 7 capability 1");
+    let arguments = ["check", &case, "--allow-empty", "--correction", "-"];
+    let ran = casetool(
+        &arguments,
+        b"reference unit 12 component energy value $1 # \xE9",
+    );
+    let hint = "the correction looks like text, but line 1, column 47 is no UTF-8\n";
+    assert_eq!((ran.status, ran.text().ends_with(hint)), (1, true));
+}
+
 /// A text in UTF-16, with its byte order mark or without.
 fn utf_16(text: &str, mark: bool, bytes: fn(u16) -> [u8; 2]) -> Vec<u8> {
     let mark = mark.then_some(0xFEFF);
