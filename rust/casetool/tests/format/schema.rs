@@ -3,12 +3,13 @@
 use std::io::Write;
 use std::process::{Command, Stdio};
 
-use crate::support::json::{Value, answer, broken, parse, schema};
-use crate::support::{casetool, casetool_with, repository};
 use attachment_h::{ROWS_LENGTH, Row, Working, settle, working};
 use cases::Random;
 use cases::faults::FAULTS;
 use cases::generator::{Size, Wanted, any_case, case};
+
+use crate::support::json::{Value, answer, broken, parse, schema};
+use crate::support::{casetool, casetool_with, repository};
 
 #[test]
 fn refusals_as_json() {

@@ -1,13 +1,14 @@
 //! Settlements as JSON and CSV, beside the library's rows, and held to the schema of docs/.
 
-use crate::support::json::{Value, answer, parse, schema};
-use crate::support::{casetool, casetool_with, file_with, repository};
 use attachment_h::{ROWS_LENGTH, Row, Settled, settle};
 use cases::case::Input;
 use cases::generator::{Generated, any_case};
 use cases::{Event, Kind, Random};
 use casetool::format::json::Json;
 use casetool::text::calendar::day_of;
+
+use crate::support::json::{Value, answer, parse, schema};
+use crate::support::{casetool, casetool_with, file_with, repository};
 
 fn settled_by_the_library(input: &Input) -> (Settled, Vec<Row>) {
     let mut rows = vec![0; ROWS_LENGTH];

@@ -1,7 +1,6 @@
 //! Units, references and events of a text in any order: they are sorted, events are numbered as the rows are, and two
 //! equal ones are a mistake. `order as-written` keeps every file as it is.
 
-use crate::support::{casetool, repository, written};
 use attachment_h::layout::{Section, Sections};
 use attachment_h::{ROWS_LENGTH, check};
 use cases::Random;
@@ -9,6 +8,8 @@ use cases::case::file_of;
 use cases::generator::any_case;
 use casetool::text::show::case_text;
 use casetool::text::write::{case_file, correction};
+
+use crate::support::{casetool, repository, written};
 
 /// The records of a text, each with its hours, and all else in front.
 fn blocks(text: &str) -> Vec<String> {

@@ -1,7 +1,8 @@
 //! Texts with something wrong, by hand: the line, the column, the word and what was expected.
 
-use crate::support::casetool;
 use casetool::text::write::{case_file, correction};
+
+use crate::support::casetool;
 
 const UNIT: &str = "unit 12 group 7 capability 500.0 MW";
 const EVENT: &str = "event day 8000 kind bids market day-ahead unit 12 period 44 component energy impact-hours none";

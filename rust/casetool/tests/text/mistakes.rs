@@ -1,7 +1,8 @@
 //! All mistakes of a text at once: in order, the first twenty, each once, and with the name that was meant.
 
-use crate::support::casetool;
 use casetool::text::near::meant;
+
+use crate::support::casetool;
 
 /// What is said of a text, without the name of its source.
 fn said(text: &str) -> Vec<String> {

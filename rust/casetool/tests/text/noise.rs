@@ -1,11 +1,16 @@
 //! Good texts with changes, case files and noise as texts, noise as cases: never a panic, and what is written comes back.
 
-use crate::support::casetool;
+use std::collections::BTreeMap;
+
 use attachment_h::layout::Sections;
 use cases::Random;
 use cases::generator::{Size, Wanted, case, random_bytes};
+use casetool::text::bytes::text_of;
 use casetool::text::show::case_text;
 use casetool::text::write::{Written, case_file};
+
+use crate::support::casetool;
+use crate::support::json::{answer, schema};
 
 /// A good text with bytes, words or lines changed.
 fn changed(random: &mut Random, text: &str) -> Vec<u8> {
@@ -85,4 +90,48 @@ fn noise_as_a_case_never_panics() {
         let ran = casetool(&["show", "--correction"], &input.correction);
         assert!(ran.status <= 1);
     }
+}
+
+#[test]
+fn changed_texts_are_always_answered() {
+    let schema = schema();
+    let mut random = Random::new(723);
+    let mut answers: BTreeMap<String, usize> = BTreeMap::new();
+    for place in 0..1_500 {
+        let file = case(&mut random, Wanted::of(Size::Small)).input().file;
+        let text = case_text(&Sections::of(&file).expect("an accepted case"));
+        let bytes = match place % 3 {
+            0 => changed(&mut random, &text),
+            _ => with_other_digits(&mut random, &text),
+        };
+        let arguments = ["check", "--format", "json", "--allow-empty", "--as", "text"];
+        let ran = casetool(&arguments, &bytes);
+        let value = answer(&ran, &schema);
+        let kind = value.at("answer").text();
+        assert_eq!(ran.status, u8::from(kind != "accepted"));
+        // Every refusal of a text has its place there.
+        if kind == "refused" {
+            assert!((6..=14).contains(&value.at("number").integer()));
+            let lines = text_of(&bytes).expect("a text").lines().count();
+            assert!((1..=lines as i128).contains(&value.at("line").integer()));
+            assert!(value.at("column").integer() >= 1);
+        }
+        *answers.entry(kind.to_string()).or_default() += 1;
+    }
+    println!("{answers:?}");
+    assert!(answers.len() == 3 && answers.values().all(|&count| count > 100));
+}
+
+/// A text with some of its digits changed, so that it can often be read.
+fn with_other_digits(random: &mut Random, text: &str) -> Vec<u8> {
+    let mut bytes = text.as_bytes().to_vec();
+    let digits: Vec<usize> = (0..bytes.len())
+        .filter(|&at| bytes[at].is_ascii_digit())
+        .collect();
+    for _ in 0..random.below(4) {
+        if !digits.is_empty() {
+            bytes[random.pick(&digits)] = random.pick(b"0123456789");
+        }
+    }
+    bytes
 }

@@ -1,9 +1,10 @@
 //! `check`, `settle` and `working` of a text: what is one and what is a case file, `--as`, and the line and the column
 //! of a refusal. A text gives what the case file gives that `write` makes of it.
 
-use crate::support::{Ran, casetool, file_with, repository, written};
 use cases::Random;
 use cases::generator::any_case;
+
+use crate::support::{Ran, casetool, file_with, repository, written};
 
 const WORKING: [&str; 5] = ["working", "--event", "0", "--hour", "0"];
 
