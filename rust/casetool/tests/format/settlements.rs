@@ -58,6 +58,12 @@ fn same_row(value: &Value, place: usize, row: &Row, generated: &Generated) {
             "{name} of event {place}"
         );
     }
+    same_words(value, row, event);
+    same_bids(value, row, event);
+}
+
+/// That what stands in words and in lists is the library's.
+fn same_words(value: &Value, row: &Row, event: &Event) {
     assert_eq!(day_of(value.at("date").text()), Some(event.day));
     let multipliers = ["0", "", "1", "1.5", "2", "", "3"];
     for (name, expected) in [
@@ -73,14 +79,13 @@ fn same_row(value: &Value, place: usize, row: &Row, generated: &Generated) {
         ("make_up_dollars", &dollars(row.make_up.0.into())),
         ("multiplier", multipliers[usize::from(row.multiplier.0)]),
     ] {
-        assert_eq!(value.at(name).text(), expected, "{name} of event {place}");
+        assert_eq!(value.at(name).text(), expected, "{name}");
     }
     assert_eq!(integers(value.at("flagged_hours")), hours(row.flags.0));
     assert_eq!(
         integers(value.at("mitigated_hours")),
         hours(row.mitigated.0)
     );
-    same_bids(value, row, event);
 }
 
 /// That the bids in force are the library's.

@@ -35,6 +35,10 @@ fn amounts() {
             &format!("unit 1 group 1 {as_shown}"),
         );
     }
+}
+
+#[test]
+fn a_minus_before_or_after_the_dollars() {
     let event = "event day 8000 kind fuel market day-ahead unit 12 period 44 inaccurate-hours none tcc-change 0";
     for change in ["$-40.00", "-$40.00", "-40", "−40", "$−40.00", "−$40.0"] {
         let text = |change: &str| {

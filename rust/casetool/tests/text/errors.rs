@@ -20,58 +20,61 @@ fn wrong(text: &str, message: &str) {
     wrong_all(text, &[message]);
 }
 
+/// Texts with a record or a key that is wrong, and what is said of them.
+const RECORDS_AND_KEYS: [(&str, &str); 12] = [
+    (
+        "# nothing\n\n  powerhouse 12",
+        "line 3, column 3, 'powerhouse': expected unit, reference, past, event, hour or hours",
+    ),
+    (
+        "unit 12 group 7 capability 1 color 3",
+        "line 1, column 30, 'color': unknown key; expected unit, group, area, capability, response-rate, average-price, constrained-hours",
+    ),
+    (
+        "unit 12 capability 1 group 7 group 7",
+        "line 1, column 30, 'group': this key is there twice",
+    ),
+    (
+        "unit 12 group 7",
+        "line 1, column 16: expected the key capability",
+    ),
+    (
+        "unit 12 capability 5 MW",
+        "line 1, column 24: expected the key group",
+    ),
+    (
+        "unit 12 capability 5 MW group # 7",
+        "line 1, column 30: expected a value for group",
+    ),
+    (
+        "reference unit 12 value 3",
+        "line 1, column 26: expected the key component",
+    ),
+    (
+        "past group 7 kind fuel",
+        "line 1, column 23: expected the keys market, period, day",
+    ),
+    (
+        "event day 3",
+        "line 1, column 12: expected the keys kind, market, unit, period",
+    ),
+    (
+        "event day 3 kind bids market 0 unit 1 period 0 impact-hours none",
+        "line 1, column 65: expected the key component",
+    ),
+    (
+        "event day 3 kind fuel market 1 unit 1 period 0 inaccurate-hours none guarantee-change 0 shadow-price-hours 3",
+        "line 1, column 89, 'shadow-price-hours': unknown key; expected day, kind, market, unit, period, component, impact, inaccurate-hours, guarantee-change, tcc-change",
+    ),
+    (
+        "hour 3 bid 4",
+        "line 1, column 1, 'hour': hours follow the line of their event",
+    ),
+];
+
 #[test]
 fn records_and_keys() {
-    for (text, message) in [
-        (
-            "# nothing\n\n  powerhouse 12",
-            "line 3, column 3, 'powerhouse': expected unit, reference, past, event, hour or hours",
-        ),
-        (
-            "unit 12 group 7 capability 1 color 3",
-            "line 1, column 30, 'color': unknown key; expected unit, group, area, capability, response-rate, average-price, constrained-hours",
-        ),
-        (
-            "unit 12 capability 1 group 7 group 7",
-            "line 1, column 30, 'group': this key is there twice",
-        ),
-        (
-            "unit 12 group 7",
-            "line 1, column 16: expected the key capability",
-        ),
-        (
-            "unit 12 capability 5 MW",
-            "line 1, column 24: expected the key group",
-        ),
-        (
-            "unit 12 capability 5 MW group # 7",
-            "line 1, column 30: expected a value for group",
-        ),
-        (
-            "reference unit 12 value 3",
-            "line 1, column 26: expected the key component",
-        ),
-        (
-            "past group 7 kind fuel",
-            "line 1, column 23: expected the keys market, period, day",
-        ),
-        (
-            "event day 3",
-            "line 1, column 12: expected the keys kind, market, unit, period",
-        ),
-        (
-            "event day 3 kind bids market 0 unit 1 period 0 impact-hours none",
-            "line 1, column 65: expected the key component",
-        ),
-        (
-            "event day 3 kind fuel market 1 unit 1 period 0 inaccurate-hours none guarantee-change 0 shadow-price-hours 3",
-            "line 1, column 89, 'shadow-price-hours': unknown key; expected day, kind, market, unit, period, component, impact, inaccurate-hours, guarantee-change, tcc-change",
-        ),
-        (
-            "hour 3 bid 4",
-            "line 1, column 1, 'hour': hours follow the line of their event",
-        ),
-    ] {
+    for (text, message) in RECORDS_AND_KEYS {
         wrong(text, message);
     }
     wrong_all(
@@ -90,120 +93,124 @@ const PAST: (&str, &str) = ("past group 1 period 0 kind ", "");
 
 const COMPONENTS: &str = "expected energy, minimum-generation, reserve-or-regulation, start-up-cost, start-up-time, minimum-run-time, minimum-down-time, minimum-parameter, maximum-parameter, or its number, 0 to 8";
 
+const UNIT_NUMBER: (&str, &str) = ("unit ", " group 7 capability 5");
+const CAPABILITY: (&str, &str) = ("unit 1 group 7 capability ", "");
+const DOLLARS: &str = "expected dollars with at most two decimals, such as $40.00";
+const POWER: &str = "expected MW with at most one decimal, such as 50.1 MW";
+const DAY: &str = "expected a day number, from 0 on 1 January 2000, or a date such as 2021-11-26";
+
+/// Words before and after a value, the value, the word of it that is wrong, and what is said of that.
+const VALUES: [((&str, &str), &str, &str, &str); 38] = [
+    (
+        UNIT_NUMBER,
+        "65536",
+        "65536",
+        "too large: expected 0 to 65,535",
+    ),
+    (UNIT_NUMBER, "-1", "-1", "too small: expected 0 to 65,535"),
+    (UNIT_NUMBER, "1.0", "1.0", "expected a whole number"),
+    (UNIT_NUMBER, "$1", "$1", "expected a whole number"),
+    (
+        UNIT_NUMBER,
+        "99999999999999999999",
+        "99999999999999999999",
+        "too large: expected 0 to 65,535",
+    ),
+    (UNIT_NUMBER, "1 MW", "MW", "unit has no such word after it"),
+    (UNIT_NUMBER, "1MW", "MW", "unit has no such word after it"),
+    (CAPABILITY, "5 MWh", "MWh", "capability is in MW"),
+    (CAPABILITY, "5MWh", "MWh", "capability is in MW"),
+    (
+        CAPABILITY,
+        "5MW MW",
+        "MW",
+        "the value has this word already",
+    ),
+    (CAPABILITY, "5 mw", "mw", "capability is in MW"),
+    (CAPABILITY, "5 min", "min", "capability is in MW"),
+    (CAPABILITY, "5mw", "5mw", POWER),
+    (CAPABILITY, "5.05 MW", "5.05", POWER),
+    (CAPABILITY, "5.05MW", "5.05MW", POWER),
+    (CAPABILITY, "5. MW", "5.", POWER),
+    // The limit is that of the rules, though the field has room for more.
+    (
+        CAPABILITY,
+        "429496729.6",
+        "429496729.6",
+        "too large: expected 0.1 MW to 5,000.0 MW",
+    ),
+    (
+        CAPABILITY,
+        "99999999999999999999.9 MW",
+        "99999999999999999999.9",
+        "too large: expected 0.1 MW to 5,000.0 MW",
+    ),
+    (
+        UNIT_AND,
+        "average-price -$99999999999999999999",
+        "-$99999999999999999999",
+        "too small: expected $0.00 to $10,000.00",
+    ),
+    (
+        UNIT_AND,
+        "constrained-hours 65536",
+        "65536",
+        "too large: expected 0 to 8,784",
+    ),
+    // What may be meant as decimals, or as nothing, is not taken.
+    (UNIT_AND, "average-price 1,00", "1,00", DOLLARS),
+    (UNIT_AND, "average-price 0,500", "0,500", DOLLARS),
+    (UNIT_AND, "average-price ,500", ",500", DOLLARS),
+    (UNIT_AND, "average-price 1,5000", "1,5000", DOLLARS),
+    (UNIT_AND, "average-price 1,500,", "1,500,", DOLLARS),
+    (UNIT_AND, "average-price 1, 500", "1, 500", DOLLARS),
+    (UNIT_AND, "average-price 1.500,00", "1.500,00", DOLLARS),
+    (UNIT_AND, "average-price -$-5", "-$-5", DOLLARS),
+    (UNIT_AND, "average-price $$5", "$$5", DOLLARS),
+    (UNIT_AND, "average-price --5", "--5", DOLLARS),
+    (
+        UNIT_AND,
+        "area maybe",
+        "maybe",
+        "expected 0 or 1, or no or yes",
+    ),
+    (REFERENCE, "power", "power", COMPONENTS),
+    (
+        PAST,
+        "-1 market 0 day 0",
+        "-1",
+        "too small: expected withheld, fuel, or its number, 1 or 3",
+    ),
+    (
+        PAST,
+        "fuel day 0 market 300",
+        "300",
+        "too large: expected day-ahead, real-time, or its number, 0 or 1",
+    ),
+    (PAST, "fuel market 0 day 2021-02-29", "2021-02-29", DAY),
+    (
+        PAST,
+        "fuel market 0 day 4294967296",
+        "4294967296",
+        "too large: expected 0 to 1,000,000",
+    ),
+    (
+        PAST,
+        "fuel day 0 market dayahead",
+        "dayahead",
+        "did you mean day-ahead?",
+    ),
+    (
+        ("reference unit 1 component start-up-time value ", ""),
+        "1.5 minutes",
+        "1.5",
+        "expected whole minutes, such as 180 minutes",
+    ),
+];
+
 #[test]
 fn values() {
-    let unit_number = ("unit ", " group 7 capability 5");
-    let capability = ("unit 1 group 7 capability ", "");
-    let dollars = "expected dollars with at most two decimals, such as $40.00";
-    let power = "expected MW with at most one decimal, such as 50.1 MW";
-    let day = "expected a day number, from 0 on 1 January 2000, or a date such as 2021-11-26";
-    for ((before, after), value, word, problem) in [
-        (
-            unit_number,
-            "65536",
-            "65536",
-            "too large: expected 0 to 65,535",
-        ),
-        (unit_number, "-1", "-1", "too small: expected 0 to 65,535"),
-        (unit_number, "1.0", "1.0", "expected a whole number"),
-        (unit_number, "$1", "$1", "expected a whole number"),
-        (
-            unit_number,
-            "99999999999999999999",
-            "99999999999999999999",
-            "too large: expected 0 to 65,535",
-        ),
-        (unit_number, "1 MW", "MW", "unit has no such word after it"),
-        (unit_number, "1MW", "MW", "unit has no such word after it"),
-        (capability, "5 MWh", "MWh", "capability is in MW"),
-        (capability, "5MWh", "MWh", "capability is in MW"),
-        (
-            capability,
-            "5MW MW",
-            "MW",
-            "the value has this word already",
-        ),
-        (capability, "5 mw", "mw", "capability is in MW"),
-        (capability, "5 min", "min", "capability is in MW"),
-        (capability, "5mw", "5mw", power),
-        (capability, "5.05 MW", "5.05", power),
-        (capability, "5.05MW", "5.05MW", power),
-        (capability, "5. MW", "5.", power),
-        // The limit is that of the rules, though the field has room for more.
-        (
-            capability,
-            "429496729.6",
-            "429496729.6",
-            "too large: expected 0.1 MW to 5,000.0 MW",
-        ),
-        (
-            capability,
-            "99999999999999999999.9 MW",
-            "99999999999999999999.9",
-            "too large: expected 0.1 MW to 5,000.0 MW",
-        ),
-        (
-            UNIT_AND,
-            "average-price -$99999999999999999999",
-            "-$99999999999999999999",
-            "too small: expected $0.00 to $10,000.00",
-        ),
-        (
-            UNIT_AND,
-            "constrained-hours 65536",
-            "65536",
-            "too large: expected 0 to 8,784",
-        ),
-        // What may be meant as decimals, or as nothing, is not taken.
-        (UNIT_AND, "average-price 1,00", "1,00", dollars),
-        (UNIT_AND, "average-price 0,500", "0,500", dollars),
-        (UNIT_AND, "average-price ,500", ",500", dollars),
-        (UNIT_AND, "average-price 1,5000", "1,5000", dollars),
-        (UNIT_AND, "average-price 1,500,", "1,500,", dollars),
-        (UNIT_AND, "average-price 1, 500", "1, 500", dollars),
-        (UNIT_AND, "average-price 1.500,00", "1.500,00", dollars),
-        (UNIT_AND, "average-price -$-5", "-$-5", dollars),
-        (UNIT_AND, "average-price $$5", "$$5", dollars),
-        (UNIT_AND, "average-price --5", "--5", dollars),
-        (
-            UNIT_AND,
-            "area maybe",
-            "maybe",
-            "expected 0 or 1, or no or yes",
-        ),
-        (REFERENCE, "power", "power", COMPONENTS),
-        (
-            PAST,
-            "-1 market 0 day 0",
-            "-1",
-            "too small: expected withheld, fuel, or its number, 1 or 3",
-        ),
-        (
-            PAST,
-            "fuel day 0 market 300",
-            "300",
-            "too large: expected day-ahead, real-time, or its number, 0 or 1",
-        ),
-        (PAST, "fuel market 0 day 2021-02-29", "2021-02-29", day),
-        (
-            PAST,
-            "fuel market 0 day 4294967296",
-            "4294967296",
-            "too large: expected 0 to 1,000,000",
-        ),
-        (
-            PAST,
-            "fuel day 0 market dayahead",
-            "dayahead",
-            "did you mean day-ahead?",
-        ),
-        (
-            ("reference unit 1 component start-up-time value ", ""),
-            "1.5 minutes",
-            "1.5",
-            "expected whole minutes, such as 180 minutes",
-        ),
-    ] {
+    for ((before, after), value, word, problem) in VALUES {
         let at = value.rfind(word).expect("the word");
         let column = before.chars().count() + value[..at].chars().count() + 1;
         let message = format!("line 1, column {column}, '{word}': {problem}");
@@ -251,6 +258,16 @@ fn hours() {
             &format!("line 3, column 7, '{list}': {problem}"),
         );
     }
+    let masks = format!("{hours}, or none for no hours");
+    let event = EVENT.replace("none", "32");
+    wrong(
+        &event,
+        &format!("line 1, column {}, '32': {masks}", event.len() - 1),
+    );
+}
+
+#[test]
+fn cells_of_hours() {
     let bid = "expected -$10,000.00 to $10,000.00";
     for (text, message) in [
         (
@@ -288,12 +305,6 @@ fn hours() {
             "{UNIT}\nevent day 1 kind withheld market 0 unit 12 period 0 impact 0\nhour 0 price 0 withheld 429496729.6"
         ),
         "line 3, column 25, '429496729.6': too large: expected at most the capability of its unit",
-    );
-    let masks = "expected hours from 0 to 23, as in 0,5-7, or none for no hours";
-    let event = EVENT.replace("none", "32");
-    wrong(
-        &event,
-        &format!("line 1, column {}, '32': {masks}", event.len() - 1),
     );
 }
 

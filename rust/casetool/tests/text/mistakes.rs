@@ -158,51 +158,54 @@ fn what_stands_after_a_near_miss_is_told_too() {
     );
 }
 
+/// Texts with a word that is near to a name.
+const NEAR_MISSES: [(&str, &str, &str); 13] = [
+    ("plant 12 group 7 capability 1", "plant", "unit"),
+    ("Unit 12 group 7 capability 1", "Unit", "unit"),
+    ("refrence unit 12", "refrence", "reference"),
+    ("history group 7", "history", "past"),
+    ("unit 12 owner 7 capability 1", "owner", "group"),
+    ("unit 12 group 7 Capability 1", "Capability", "capability"),
+    (
+        "unit 12 group 7 capability 1 responserate 1",
+        "responserate",
+        "response-rate",
+    ),
+    (
+        "unit 12 group 7 capability 1 average_price 1",
+        "average_price",
+        "average-price",
+    ),
+    (
+        "unit 12 group 7 capability 1 rate 1",
+        "rate",
+        "response-rate",
+    ),
+    (
+        "past group 7 kind fuel market 0 period 44 date 8000",
+        "date",
+        "day",
+    ),
+    (
+        "past group 7 type fuel market 0 period 44 day 8000",
+        "type",
+        "kind",
+    ),
+    (
+        "past group 7 kind fule market 0 period 44 day 8000",
+        "fule",
+        "fuel",
+    ),
+    (
+        "past group 7 kind fuel market realtime period 44 day 8000",
+        "realtime",
+        "real-time",
+    ),
+];
+
 #[test]
 fn near_misses_by_name() {
-    for (text, word, name) in [
-        ("plant 12 group 7 capability 1", "plant", "unit"),
-        ("Unit 12 group 7 capability 1", "Unit", "unit"),
-        ("refrence unit 12", "refrence", "reference"),
-        ("history group 7", "history", "past"),
-        ("unit 12 owner 7 capability 1", "owner", "group"),
-        ("unit 12 group 7 Capability 1", "Capability", "capability"),
-        (
-            "unit 12 group 7 capability 1 responserate 1",
-            "responserate",
-            "response-rate",
-        ),
-        (
-            "unit 12 group 7 capability 1 average_price 1",
-            "average_price",
-            "average-price",
-        ),
-        (
-            "unit 12 group 7 capability 1 rate 1",
-            "rate",
-            "response-rate",
-        ),
-        (
-            "past group 7 kind fuel market 0 period 44 date 8000",
-            "date",
-            "day",
-        ),
-        (
-            "past group 7 type fuel market 0 period 44 day 8000",
-            "type",
-            "kind",
-        ),
-        (
-            "past group 7 kind fule market 0 period 44 day 8000",
-            "fule",
-            "fuel",
-        ),
-        (
-            "past group 7 kind fuel market realtime period 44 day 8000",
-            "realtime",
-            "real-time",
-        ),
-    ] {
+    for (text, word, name) in NEAR_MISSES {
         let column = text.find(word).expect("the word") + 1;
         let expected = format!("line 1, column {column}, '{word}': did you mean {name}?");
         assert_eq!(said(text), [expected], "{text}");

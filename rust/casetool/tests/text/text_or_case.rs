@@ -211,7 +211,7 @@ const UNITS: &str = "# the plants\nunit 13 group 7 capability 1,500.0 MW\nunit 1
 const WITHHELD: &str = "event day 8000 kind withheld market DAM period 44 impact yes unit";
 
 #[test]
-fn a_refusal_has_its_line_and_column() {
+fn a_refusal_of_a_record_has_its_line_and_column() {
     for (number, text, place) in [
         (
             6,
@@ -230,6 +230,14 @@ fn a_refusal_has_its_line_and_column() {
             ),
             "FILE: line 4, column 19: past, record 0 (group 7, dispatch, Real-Time): kind is 2 (dispatch); expected 1 (withheld) or 3 (fuel)",
         ),
+    ] {
+        refused(number, &text, place);
+    }
+}
+
+#[test]
+fn a_refusal_of_an_event_has_its_line_and_column() {
+    for (number, text, place) in [
         (
             10,
             format!("{UNITS}{WITHHELD} 12\nhours 3, 4 withheld 1 price $-10,000.01"),
