@@ -97,7 +97,7 @@ fn changed_texts_are_always_answered() {
     let schema = schema();
     let mut random = Random::new(723);
     let mut answers: BTreeMap<String, usize> = BTreeMap::new();
-    for place in 0..1_500 {
+    for place in 0..600 {
         let file = case(&mut random, Wanted::of(Size::Small)).input().file;
         let text = case_text(&Sections::of(&file).expect("an accepted case"));
         let bytes = match place % 3 {
@@ -119,7 +119,7 @@ fn changed_texts_are_always_answered() {
         *answers.entry(kind.to_string()).or_default() += 1;
     }
     println!("{answers:?}");
-    assert!(answers.len() == 3 && answers.values().all(|&count| count > 100));
+    assert!(answers.len() == 3 && answers.values().all(|&count| count > 30));
 }
 
 /// A text with some of its digits changed, so that it can often be read.
