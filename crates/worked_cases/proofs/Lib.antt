@@ -2,5 +2,4 @@ pub mod Refusals
 pub mod MixedSettlements
 pub mod Settlements
 pub mod FuelMultipliers
-pub mod WorseCases
 pub mod Workings

@@ -1,1 +1,1 @@
-// Cases settled by computation, and demand 3 at work on one of them.
+// Cases settled and hours worked by computation.

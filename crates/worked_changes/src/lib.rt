@@ -1,0 +1,1 @@
+// Demand 3 at work on a case, and where it stops.
