@@ -10,7 +10,7 @@ use Rattle.binary.specs.Bytes.{bytesOf}
 use Rattle.binary.specs.Lists.{joinTo}
 use Rattle.binary.proofs.ByteLaws.{bytes-length}
 use Rattle.binary.proofs.ListLaws.{join-more, join-length}
-use Rattle.sanctions.specs.Penalties.{multiplier, penalty}
+use Rattle.casefile.specs.Layout.{bidsOffset, mostHours}
 use Rattle.settlement.specs.StageRow.{wordOf, wordsOf, writtenRow}
 use Rattle.settlement.specs.declared.rows.Row.{Row}
 
@@ -32,24 +32,24 @@ word-length bids h = bytes-length 4 (getD bids h 0)
 
 -- one bid more
 pub words-more : (l bids : List ℕ) (h : ℕ)
-    → sets (sets l 32 (joinTo h (wordOf bids))) (32 + 4 * h) (wordOf bids h) ≡ sets l 32 (joinTo (h + 1) (wordOf bids))
+    → sets (sets l bidsOffset (joinTo h (wordOf bids))) (bidsOffset + 4 * h) (wordOf bids h) ≡ sets l bidsOffset (joinTo (h + 1) (wordOf bids))
 words-more l bids h = rw (← join-length 4 (wordOf bids) (word-length bids) h, sets-append, join-more)
 
-words-length : (bids : List ℕ) → length (wordsOf bids) ≡ 96
+words-length : (bids : List ℕ) → length (wordsOf bids) ≡ 4 * mostHours
 unfolding wordsOf
-words-length bids = join-length 4 (wordOf bids) (word-length bids) 24
+words-length bids = join-length 4 (wordOf bids) (word-length bids) mostHours
 
-pub row-bytes-length : (r : Row) → length (writtenRow r) ≡ 128
+pub row-bytes-length : (r : Row) → length (writtenRow r) ≡ bidsOffset + 4 * mostHours
 unfolding writtenRow
 row-bytes-length r = simp (length-append, bytes-length, words-length)
 
 -- the row after each of the ten stores
-pub row-stored : (r : Row) (l0 l1 l2 l3 l4 l5 l6 l7 l8 l9 l10 : List ℕ) → length l0 ≡ 128
+pub row-stored : (r : Row) (l0 l1 l2 l3 l4 l5 l6 l7 l8 l9 l10 : List ℕ) → length l0 ≡ bidsOffset + 4 * mostHours
     → l1 ≡ sets l0 0 (bytesOf 4 (r .flags)) → l2 ≡ sets l1 4 (bytesOf 4 (r .mitigated))
     → l3 ≡ sets l2 8 (bytesOf 8 (r .penalty)) → l4 ≡ sets l3 16 (bytesOf 8 (r .«make_up»))
     → l5 ≡ sets l4 24 (bytesOf 1 (r .multiplier)) → l6 ≡ sets l5 25 (bytesOf 1 0)
     → l7 ≡ sets l6 26 (bytesOf 2 (r .n3)) → l8 ≡ sets l7 28 (bytesOf 2 (r .n2))
-    → l9 ≡ sets l8 30 (bytesOf 2 0) → l10 ≡ sets l9 32 (wordsOf (r .bids)) → l10 ≡ writtenRow r
+    → l9 ≡ sets l8 30 (bytesOf 2 0) → l10 ≡ sets l9 bidsOffset (wordsOf (r .bids)) → l10 ≡ writtenRow r
 unfolding writtenRow
 row-stored r l0 l1 l2 l3 l4 l5 l6 l7 l8 l9 l10 n e1 e2 e3 e4 e5 e6 e7 e8 e9 e10 =
     let f9 = join 30 2 0 l8 l9 l10 (wordsOf (r .bids)) e9 e10 in

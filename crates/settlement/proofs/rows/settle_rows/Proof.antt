@@ -1,4 +1,4 @@
-use Prim.Native.Nat.{ℕ, _-_, _*_, _≤_, _<_}
+use Prim.Native.Nat.{ℕ, _+_, _-_, _*_, _≤_, _<_}
 use mathlib.Core.List.{_++_}
 use mathlib.Core.Path.{_≡_, _∙_, refl, ap}
 use borrow.Author.Needs.{needs}
@@ -9,6 +9,7 @@ use Rattle.binary.specs.Bounded.{sumTo}
 use Rattle.binary.specs.Lists.{joinTo, Holds}
 use Rattle.binary.proofs.BoundedLaws.{sum-none}
 use Rattle.binary.proofs.ListLaws.{join-none, join-part}
+use Rattle.casefile.specs.Layout.{bidsOffset, rowWidth, mostHours, mostEvents}
 use Rattle.casefile.specs.Decode.{formatIn, sectionOf, decode}
 use Rattle.sanctions.specs.Penalties.{penalty}
 use Rattle.sanctions.proofs.FoundLaws.{SanctionTurn}
@@ -23,8 +24,8 @@ use Rattle.settlement.proofs.rows.settle_rows.Tie as tie
 abbrev Inv-loop : tie.InvT-loop
 Inv-loop file places levels corrects groups leaders masks rows₀ format units past events n penalties₀ total₀ due₀ i₀ rows penalties total due i =
     (i ≤ decode file .events .count) × (length rows ≡ length rows₀)
-    × (rows ≡ joinTo i (λ (j : ℕ). writtenRow (rowIn file levels corrects j)) ++ drop (128 * i) rows₀)
-    × (length penalties ≡ 200) × Holds i penalties (penalty (decode file)) × (total ≡ sumTo i (penalty (decode file)))
+    × (rows ≡ joinTo i (λ (j : ℕ). writtenRow (rowIn file levels corrects j)) ++ drop (rowWidth (formatIn file) * i) rows₀)
+    × (length penalties ≡ mostEvents) × Holds i penalties (penalty (decode file)) × (total ≡ sumTo i (penalty (decode file)))
     × (due ≡ sumTo i (λ (j : ℕ). rowIn file levels corrects j .«make_up»)) × (due ≤ highestMakeUp * i)
 
 abbrev μ-loop : tie.MeasureT-loop
@@ -102,7 +103,7 @@ settle-rows-spec =
     (λ c κs. has-section _ (c .before .before .before .before .pre .0 .0) 2 (omega arith))
     (λ c κs. has-section _ (c .before .before .before .before .before .pre .0 .0) 3 (omega arith))
     (λ c κs. tt)
-    (λ c. (omega arith, refl, join-none _ 128 _, refl, (λ j q. absurd (let z : ⊥ = omega arith in z)), sum-none _, sum-none _, omega arith))
+    (λ c. (omega arith, refl, join-none _ (bidsOffset + 4 * mostHours) _, refl, (λ j q. absurd (let z : ⊥ = omega arith in z)), sum-none _, sum-none _, omega arith))
     (λ c κs.
     let t = c .before in
     let l = at t in
@@ -145,7 +146,7 @@ settle-rows-spec =
     let a = first l .args in (
       (let q = below (entered r) in omega arith),
       search needs,
-      join-part 128 _ (λ j. row-bytes-length (rowIn (a .file .now) (a .levels .now) (a .corrects .now) j)) (a .rows .now) (l .loop .rows) (w .write-row .last .0) (l .loop .i) (l .loop .inv .2)
+      join-part (bidsOffset + 4 * mostHours) _ (λ j. row-bytes-length (rowIn (a .file .now) (a .levels .now) (a .corrects .now) j)) (a .rows .now) (l .loop .rows) (w .write-row .last .0) (l .loop .i) (l .loop .inv .2)
           (w .write-row .ensures ∙ ap writtenRow (made r)),
       length-set (l .loop .penalties) (l .loop .i) (r .row-of .result .penalty) ∙ l .loop .inv .3,
       rw (paid r) (turned r .held),

@@ -3,6 +3,7 @@ use mathlib.Core.Path.{_≡_, _∙_, refl}
 use borrow.Author.Needs.{needs}
 use native.Mathlib.Omega.{arith}
 use lib.Seq.{sets, length-sets}
+use Rattle.casefile.specs.Layout.{bidsOffset, mostHours}
 use Rattle.binary.specs.Lists.{joinTo}
 use Rattle.settlement.specs.StageRow.{wordOf, wordsOf}
 use Rattle.settlement.proofs.WriteLaws.{words-more}
@@ -10,10 +11,10 @@ use Rattle.settlement.proofs.rows.write_bids.Statement.{statement}
 use Rattle.settlement.proofs.rows.write_bids.Tie as tie
 
 abbrev Inv-loop : tie.InvT-loop
-Inv-loop row₀ bids h₀ row h = (h ≤ 24) × (row ≡ sets row₀ 32 (joinTo h (wordOf bids)))
+Inv-loop row₀ bids h₀ row h = (h ≤ mostHours) × (row ≡ sets row₀ bidsOffset (joinTo h (wordOf bids)))
 
 abbrev μ-loop : tie.MeasureT-loop
-μ-loop row₀ bids h₀ row h = 24 - h
+μ-loop row₀ bids h₀ row h = mostHours - h
 
 loop-holds : tie.Need-loop-holds Inv-loop μ-loop
 unfolding joinTo
@@ -31,7 +32,7 @@ returns : tie.Need-returns Inv-loop μ-loop
 unfolding wordsOf
 returns c =
     let l = c .before .loop in
-    let e : l .h ≡ 24 = omega arith in
+    let e : l .h ≡ mostHours = omega arith in
     rw (← e) (l .inv .1)
 
 pub write-bids-spec : {M : Type 1} → statement M
