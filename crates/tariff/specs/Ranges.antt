@@ -1,4 +1,4 @@
--- The limits of the fields of a case (docs/RULES.md, L6 to L10) and of the arguments of the smaller calls (C4 to C17), each under
+-- The limits of the fields of a case (docs/RULES.md, L6 to L10) and of the arguments of the smaller calls (C4 to C17 and C20), each under
 -- one name.
 use Prim.Native.Nat.{ℕ}
 use mathlib.Core.Bool.{Bool, cond}

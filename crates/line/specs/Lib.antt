@@ -1,0 +1,4 @@
+pub mod OpenLine
+pub mod BidLine
+pub mod LineCall
+pub mod LineSheet
