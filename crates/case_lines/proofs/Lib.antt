@@ -1,0 +1,2 @@
+pub mod CaseLineLaws
+pub mod CaseLines

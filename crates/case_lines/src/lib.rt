@@ -1,0 +1,1 @@
+// The lines of the bids of a case.
