@@ -183,6 +183,10 @@ static void call_rules(void) {
     expect_answer("bid -1", attachment_h_bid_fails(0, 624, -1, 0, false, 0, 0), 0, 0);
     expect_answer("tight 2,877", attachment_h_bid_fails(0, 2000, 2877, 1, true, 5000, 1000), 0, 1);
     expect_answer("r 1,000,001", attachment_h_bid_fails(0, 1000001, 0, 0, false, 0, 0), 7, 0);
+    expect_answer("line of r 624", attachment_h_line(0, 624, 0, false, 0, 0), 0, 2499);
+    expect_answer("line, tight", attachment_h_line(0, 2000, 1, true, 5000, 1000), 0, 2876);
+    expect_answer("line, component 8", attachment_h_line(8, 101, 0, false, 0, 0), 0, 51);
+    expect_answer("line, unread hours", attachment_h_line(8, 101, 0, false, 0, 8785), 16, 0);
     attachment_h_times times = attachment_h_times_fail(120, 181, -5);
     expect("times", times.number, 0);
     expect("times, start-up", times.start_up, 0);

@@ -15,7 +15,8 @@
  *    8  the same of the correction, or its length
  *
  * and a smaller call first with 7 for a reference out of its component's range (skipped where no such component
- * exists), then with 10 for any other argument out of its range. The ranges stand with each call.
+ * exists), then with 10 for any other argument out of its range; attachment_h_line refuses all of them with 16. The
+ * ranges stand with each call.
  *
  * Memory. A slice is a pointer and a number of elements. A pointer that does not lead to so many readable elements
  * (rows, out: writable) is the caller's fault, and nothing here can notice it; with a length of 0 the pointer may be NULL. Beyond that every
@@ -148,6 +149,16 @@ size_t attachment_h_listing(const uint8_t *file, size_t file_length, uint8_t *ro
 attachment_h_answer attachment_h_bid_fails(uint8_t component, uint32_t reference, int32_t bid,
                                            uint8_t market, bool tight,
                                            uint32_t average_price, uint16_t constrained_hours);
+
+/*
+ * Where the line of a component runs: the highest bid in range that passes its conduct test, for component 8 the lowest;
+ * components 4 to 6 get their single test. A bid in range passes exactly where it is not above the line, for component 8
+ * not below it. The line is a bid in range, never below 0. Ranges as for attachment_h_bid_fails; 16, the only refusal, for any
+ * argument out of its range, also where the component does not read it.
+ */
+attachment_h_answer attachment_h_line(uint8_t component, uint32_t reference, uint8_t market,
+                                      bool tight, uint32_t average_price,
+                                      uint16_t constrained_hours);
 
 /*
  * Which of components 4, 5 and 6 of one unit, day, market and hour fail, from their increases over the reference in

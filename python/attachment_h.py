@@ -50,12 +50,15 @@ _OF_A_CASE = {
 # and of a smaller call: docs/RULES.md, C2 and C3
 _OF_A_CALL = {7: "a reference is out of the range of its component", 10: "an argument is out of its range"}
 
+# and of the line: docs/RULES.md, C23
+_OF_THE_LINE = {16: "an argument of the line is out of its range"}
+
 # of an event or an hour that a case does not have
 _OF_AN_HOUR = {10: "the case has no such event or hour"}
 
 
 class Refused(Exception):
-    """A refusal with its number, 1 to 15 for a case, 7 or 10 for a smaller call, and what that means."""
+    """A refusal with its number, 1 to 15 for a case, 7 or 10 for a smaller call, 16 for the line, and what that means."""
 
     def __init__(self, number, meanings=_OF_A_CASE):
         self.number = number
@@ -156,6 +159,7 @@ _settle = _declare("settle", _Outcome, *[POINTER(c_uint8), c_size_t] * 3, meanin
 _working = _declare("working", _Hour, *[POINTER(c_uint8), c_size_t] * 2, c_size_t, c_size_t, meanings=_OF_AN_HOUR)
 _listing = _declare("listing", c_size_t, *[POINTER(c_uint8), c_size_t] * 3)
 _bid_fails = _declare("bid_fails", _Answer, c_uint8, c_uint32, c_int32, c_uint8, c_bool, c_uint32, c_uint16)
+_line = _declare("line", _Answer, c_uint8, c_uint32, c_uint8, c_bool, c_uint32, c_uint16, meanings=_OF_THE_LINE)
 _times_fail = _declare("times_fail", _TimeAnswer, c_int32, c_int32, c_int32)
 _withheld_fails = _declare("withheld_fails", _Answer, c_uint32, c_uint32, c_uint32, c_uint32, c_bool)
 _dispatch_fails = _declare("dispatch_fails", _Answer, c_uint32, c_uint32, c_uint32, c_bool)
@@ -216,6 +220,11 @@ def listing(file):
 def bid_fails(component, reference, bid, market, tight=False, average_price=0, constrained_hours=0):
     """Whether a bid fails the conduct test of its component."""
     return _bid_fails(component, reference, bid, market, tight, average_price, constrained_hours).figure != 0
+
+
+def line(component, reference, market, tight, average_price, constrained_hours):
+    """The highest bid in range that passes the conduct test of its component (4 to 6: the single test), of component 8 the lowest."""
+    return _line(component, reference, market, tight, average_price, constrained_hours).figure
 
 
 def times_fail(start_up, minimum_run, minimum_down):

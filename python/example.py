@@ -74,6 +74,8 @@ expect("501 of 5,000 fails", attachment_h.withheld_fails(501, 5_000, 501, 20_000
 expect("501 at 4,005", attachment_h.withheld_penalty(2, [501], [4_005]), 200_651)
 expect("501 at -100", attachment_h.withheld_penalty(2, [501], [-100]), 0)
 expect("r 624, a 2,500 fails", attachment_h.bid_fails(0, 624, 2_500, 0), True)
+expect("the line of r 624", attachment_h.line(0, 624, 0, False, 0, 0), 2_499)
+expect("the line of a tight hour", attachment_h.line(0, 2_000, 1, True, 5_000, 1_000), 2_876)
 expect("times 121, 120, 120", attachment_h.times_fail(121, 120, 120), (True, True, True))
 expect("E -10,000,000, T 2,000,000, M 3", attachment_h.fuel_penalty(-10_000_000, 2_000_000, 3), 500_000)
 expect("hour 10, R 8", attachment_h.mitigated_span(1 << 10, 8), 0x3FC00)
@@ -83,6 +85,8 @@ expect("reference 1,000,001", refusal(attachment_h.bid_fails, 0, 1_000_001, 0, 0
 expect("N3 457", refusal(attachment_h.multiplier, 457, 1), 10)
 expect("what 12 means", sentence(attachment_h.settle, case(unit=99)), "refused 12: an event's unit is not listed")
 expect("what 10 means of a call", sentence(attachment_h.multiplier, 457, 1), "refused 10: an argument is out of its range")
+of_the_line = "refused 16: an argument of the line is out of its range"
+expect("what 16 means", sentence(attachment_h.line, 8, 101, 0, False, 0, 8_785), of_the_line)
 expect("and of an hour", sentence(attachment_h.working, case(), 0, 24), "refused 10: the case has no such event or hour")
 field = "refused 10: an event has a field out of its limits"
 expect("and of the case of an hour", sentence(attachment_h.working, case(price=1_000_001), 0, 24), field)

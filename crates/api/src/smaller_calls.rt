@@ -1,8 +1,10 @@
-// The smaller public calls: first 7 for a reference out of its component's range, then 10 for any other argument.
+// The smaller public calls: first 7 for a reference out of its component's range, then 10 for any other argument; the line has 16
+// for both.
 ghost use mathlib.Core.Path.{_≡_};
 ghost use Rattle.calls.specs.ConductCalls.{bidAnswer, timesAnswer, withheldAnswer, dispatchAnswer};
 ghost use Rattle.calls.specs.SanctionCalls.{multiplierAnswer, withheldPenaltyAnswer, dispatchPenaltyAnswer, fuelPenaltyAnswer, fuelDayAnswer, periodAnswer};
 ghost use Rattle.calls.specs.DefaultBidCalls.{spanAnswer, inForceAnswer, correctedInForceAnswer, makeUpAnswer};
+ghost use Rattle.line.specs.LineCall.{lineAnswer};
 ghost use Rattle.api.specs.Exported.{exported, exportedTimes};
 use crate::exported_answers::ExportedAnswer;
 use crate::exported_answers::ExportedTimes;
@@ -12,6 +14,7 @@ use crate::exported_answers::of_verdict;
 use calls::conduct_calls;
 use calls::default_bid_calls;
 use calls::sanction_calls;
+use line::line_call;
 
 // Whether a bid fails the conduct test of its component (4 to 6: the single test).
 #[no_mangle]
@@ -30,6 +33,28 @@ pub extern "C" fn attachment_h_bid_fails(
         component,
         reference,
         bid,
+        market,
+        tight,
+        average_price,
+        constrained_hours,
+    ))
+}
+
+// Where the line of a component runs: the highest bid in range that passes, of component 8 the lowest (4 to 6: the single test).
+#[no_mangle]
+pub extern "C" fn attachment_h_line(
+    component: u8,
+    reference: u32,
+    market: u8,
+    tight: bool,
+    average_price: u32,
+    constrained_hours: u16,
+) -> ExportedAnswer
+    ensures { λ r. ⌜ r ≡ exported (lineAnswer component reference market tight «average_price» «constrained_hours») ⌝ }
+{
+    of_figure(line_call::line(
+        component,
+        reference,
         market,
         tight,
         average_price,

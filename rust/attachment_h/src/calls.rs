@@ -50,6 +50,23 @@ pub fn bid_fails(
     .verdict()
 }
 
+/// Where the line of a component runs: the highest bid in range that passes the conduct test, for
+/// component 8 the lowest; components 4 to 6 get their single test, "d > 180".
+///
+/// A bid in range passes exactly where it is not above the line, for component 8 not below it. Ranges are
+/// those of [`bid_fails`]; 16 is the only refusal, for any argument out of its range.
+pub fn line(component: Component, reference: u32, hour: BidHour) -> Result<i32, Refused> {
+    ffi::attachment_h_line(
+        component.0,
+        reference,
+        hour.market.0,
+        hour.tight,
+        hour.average_price,
+        hour.constrained_hours,
+    )
+    .bid()
+}
+
 /// Which of start-up, minimum run and minimum down time fail, in one unit, day, market and hour,
 /// from their increases over the reference in minutes, each within ±1,000,000,000.
 pub fn times_fail(start_up: i32, minimum_run: i32, minimum_down: i32) -> Result<Times, Refused> {

@@ -186,6 +186,14 @@ unsafe extern "C" {
         average_price: u32,
         constrained_hours: u16,
     ) -> Answer;
+    pub safe fn attachment_h_line(
+        component: u8,
+        reference: u32,
+        market: u8,
+        tight: bool,
+        average_price: u32,
+        constrained_hours: u16,
+    ) -> Answer;
     pub safe fn attachment_h_times_fail(
         start_up: i32,
         minimum_run: i32,

@@ -26,7 +26,7 @@ use std::fmt;
 
 pub use calls::{
     BidHour, Times, bid_fails, bid_in_force, corrected_bid_in_force, dispatch_fails,
-    dispatch_penalty, fuel_day_counts, fuel_penalty, make_up, mitigated_span, multiplier,
+    dispatch_penalty, fuel_day_counts, fuel_penalty, line, make_up, mitigated_span, multiplier,
     period_counts, times_fail, withheld_fails, withheld_penalty,
 };
 use layout::{ROW_BYTES, Section};
@@ -34,10 +34,10 @@ pub use numbers::{Cents, Component, Kind, Market, Mask, Multiplier};
 pub use row::Row;
 pub use working::{Comparison, Working, working};
 
-/// A refusal with its number: 1 to 15 for a case, 7 or 10 for a smaller call.
+/// A refusal with its number: 1 to 15 for a case, 7 or 10 for a smaller call, 16 for [`line()`].
 #[derive(Clone, Copy, Debug, PartialEq, Eq, PartialOrd, Ord, Hash)]
 pub struct Refused(
-    /// The number of "What a case can break".
+    /// The number of "What a case can break"; 16 is the line's.
     pub u8,
 );
 
@@ -50,7 +50,7 @@ impl fmt::Display for Refused {
 impl Error for Refused {}
 
 impl Refused {
-    /// What the number means of a case: docs/RULES.md, L.
+    /// What the number means of a case (docs/RULES.md, L); 16 is of the line (C23).
     pub fn meaning(self) -> &'static str {
         match self.0 {
             1 => "the file's length is outside 36 to 65,000 bytes",
@@ -74,6 +74,7 @@ impl Refused {
                 "an event of kind 4 has no reference r, or no correct reference c where its component reads one"
             }
             15 => "the rows buffer has fewer than 128 bytes for each event",
+            16 => "an argument of the line is out of its range",
             _ => "no limit has this number",
         }
     }

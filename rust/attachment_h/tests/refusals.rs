@@ -147,20 +147,20 @@ fn random_and_cut_bytes() {
 
 #[test]
 fn every_number_has_a_meaning() {
-    let meanings: Vec<&str> = (1..=15).map(|number| Refused(number).meaning()).collect();
+    let meanings: Vec<&str> = (1..=16).map(|number| Refused(number).meaning()).collect();
     for (place, text) in meanings.iter().enumerate() {
         assert!(!meanings[..place].contains(text));
-        assert_ne!(*text, Refused(16).meaning());
+        assert_ne!(*text, Refused(17).meaning());
     }
-    assert_eq!(Refused(16).meaning(), "no limit has this number");
+    assert_eq!(Refused(17).meaning(), "no limit has this number");
 }
 
 #[test]
 fn python_has_the_same_meanings() {
     let module = concat!(env!("CARGO_MANIFEST_DIR"), "/../../python/attachment_h.py");
     let module = std::fs::read_to_string(module).expect("the module");
-    for number in 1..=15 {
-        let line = format!("    {number}: \"{}\",\n", Refused(number).meaning());
-        assert_eq!(module.matches(&line).count(), 1, "{line}");
+    for number in 1..=16 {
+        let words = format!("{number}: \"{}\"", Refused(number).meaning());
+        assert_eq!(module.matches(&words).count(), 1, "{words}");
     }
 }
