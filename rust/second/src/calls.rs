@@ -1,8 +1,8 @@
 //! The smaller public calls: one rule each, on plain numbers, with the refusals of the last
 //! paragraph of "What a case can break".
 //!
-//! Every call first returns 7 for a reference out of its component's range (skipped where no such
-//! component exists) and then 10 for any other argument out of its range.
+//! Every call but [`line()`] first returns 7 for a reference out of its component's range (skipped
+//! where no such component exists) and then 10 for any other argument out of its range.
 
 use crate::rules::{self, BidConditions};
 use crate::terms::{
@@ -21,6 +21,7 @@ const LARGEST_N3: u16 = 456;
 
 const REFERENCE: u8 = 7;
 const ARGUMENT: u8 = 10;
+const LINE_ARGUMENT: u8 = 16;
 
 /// Refuses with 10 unless the argument is in its range.
 fn within(in_range: bool) -> Result<(), u8> {
@@ -80,6 +81,32 @@ pub fn bid_test(component: u8, hour: BidHour, reference: u32, bid: i32) -> Resul
         i64::from(reference),
         i64::from(bid),
     ))
+}
+
+/// Where the line of a component runs: the highest bid in range that passes [`bid_test`], for
+/// component 8 the lowest. Any argument out of its range is refused with 16.
+pub fn line(component: u8, hour: BidHour, reference: u32) -> Result<i32, u8> {
+    let component = Component::from_number(component).ok_or(LINE_ARGUMENT)?;
+    let conditions = hour.conditions().map_err(|_| LINE_ARGUMENT)?;
+    let reference = i64::from(reference);
+    if !component.allows_reference(reference) {
+        return Err(LINE_ARGUMENT);
+    }
+    // The good end of the range passes every test, and just beyond the other end counts as failing.
+    let (lowest, highest) = component.bids().into_inner();
+    let (mut passing, mut failing) = match component {
+        Component::MaximumParameter => (highest, lowest - 1),
+        _ => (lowest, highest + 1),
+    };
+    while passing.abs_diff(failing) > 1 {
+        let bid = passing.midpoint(failing);
+        if rules::bid_fails(component, &conditions, reference, bid) {
+            failing = bid;
+        } else {
+            passing = bid;
+        }
+    }
+    Ok(passing as i32)
 }
 
 /// The conduct tests of components 4, 5 and 6 of one unit, day, market and hour together, from

@@ -1,5 +1,7 @@
 //! Markets, components, masks of hours and money: the terms that every rule uses.
 
+use std::ops::RangeInclusive;
+
 /// Hours in a day; an event has one cell for each.
 pub const HOURS: usize = 24;
 
@@ -122,13 +124,17 @@ impl Component {
     }
 
     /// "Bids: ±1,000,000 for components 0 and 1, 0 to 1,000,000 for 2, 0 to 1,000,000,000 above."
-    pub fn allows_bid(self, value: i64) -> bool {
-        let range = match self {
+    pub fn bids(self) -> RangeInclusive<i64> {
+        match self {
             Component::Energy | Component::MinimumGeneration => -1_000_000..=1_000_000,
             Component::Reserve => 0..=1_000_000,
             _ => 0..=1_000_000_000,
-        };
-        range.contains(&value)
+        }
+    }
+
+    /// Whether the bid is in its range.
+    pub fn allows_bid(self, value: i64) -> bool {
+        self.bids().contains(&value)
     }
 
     /// "Only components 0, 1 and 3 read c."

@@ -3,16 +3,8 @@
 mod common;
 
 use cases::{Case, Event, Market, Unit};
-use common::{past_fuel, past_withheld, reference, rows_of, unit};
+use common::{PLAIN, TIGHT, past_fuel, past_withheld, reference, rows_of, unit};
 use second::calls::{self, BidHour};
-
-/// Day-Ahead, not tight.
-const PLAIN: BidHour = BidHour {
-    market: Market::DAY_AHEAD.0,
-    tight: false,
-    constrained_hours: 0,
-    average_price: 0,
-};
 
 /// The flag mask of a single withheld event of unit 12 (5,000) in hour 0, in a G of 20,000.
 fn withheld_row(a: u32, b: i32) -> cases::Row {
@@ -113,33 +105,27 @@ fn energy_bids_against_three_references_or_100_dollars() {
 
 #[test]
 fn constrained_hours_test_of_energy_bids() {
-    let hour = BidHour {
-        market: Market::REAL_TIME.0,
-        tight: true,
-        constrained_hours: 1_000,
-        average_price: 5_000,
-    };
-    assert_eq!(calls::bid_test(0, hour, 2_000, 2_876), Ok(false));
-    assert_eq!(calls::bid_test(0, hour, 2_000, 2_877), Ok(true));
+    assert_eq!(calls::bid_test(0, TIGHT, 2_000, 2_876), Ok(false));
+    assert_eq!(calls::bid_test(0, TIGHT, 2_000, 2_877), Ok(true));
     let day_ahead = BidHour {
         market: Market::DAY_AHEAD.0,
-        ..hour
+        ..TIGHT
     };
     let not_tight = BidHour {
         tight: false,
-        ..hour
+        ..TIGHT
     };
     let no_hours = BidHour {
         constrained_hours: 0,
-        ..hour
+        ..TIGHT
     };
     for other in [day_ahead, not_tight, no_hours] {
         assert_eq!(calls::bid_test(0, other, 2_000, 2_877), Ok(false));
     }
     // Of the other components only 1 has this test, and there is no floor: d 877 at r 0.
-    assert_eq!(calls::bid_test(1, hour, 0, 877), Ok(true));
-    assert_eq!(calls::bid_test(1, hour, 0, 876), Ok(false));
-    assert_eq!(calls::bid_test(2, hour, 2_000, 2_877), Ok(false));
+    assert_eq!(calls::bid_test(1, TIGHT, 0, 877), Ok(true));
+    assert_eq!(calls::bid_test(1, TIGHT, 0, 876), Ok(false));
+    assert_eq!(calls::bid_test(2, TIGHT, 2_000, 2_877), Ok(false));
 }
 
 #[test]

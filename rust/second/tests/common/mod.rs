@@ -4,7 +4,24 @@
 
 use cases::case::{ROW_BYTES, correction_bytes};
 use cases::{Case, Component, Kind, Market, Past, Reference, Row, Unit};
+use second::calls::BidHour;
 use second::{Outcome, refusal, settle};
+
+/// Day-Ahead, not tight.
+pub const PLAIN: BidHour = BidHour {
+    market: Market::DAY_AHEAD.0,
+    tight: false,
+    constrained_hours: 0,
+    average_price: 0,
+};
+
+/// Real-Time and tight, where an increase of 876 passes and one of 877 fails.
+pub const TIGHT: BidHour = BidHour {
+    market: Market::REAL_TIME.0,
+    tight: true,
+    constrained_hours: 1_000,
+    average_price: 5_000,
+};
 
 /// A unit of capability 5,000 and rate 1,000, outside a Constrained Area.
 pub fn unit(unit: u16, group: u16) -> Unit {
