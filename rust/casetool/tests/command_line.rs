@@ -123,6 +123,14 @@ fn misuse() {
             "there is no option '--allow-empty'; see casetool working --help",
         ),
         (
+            &["line", "--allow-empty"],
+            "there is no option '--allow-empty'; see casetool line --help",
+        ),
+        (
+            &["working", "--component", "energy"],
+            "there is no option '--component'; see casetool working --help",
+        ),
+        (
             &["settle", "--correction", "-"],
             "the case and the correction can't both be standard input; see casetool settle --help",
         ),

@@ -16,6 +16,7 @@ fn a_named_correction_that_is_empty() {
         ("settle", &[][..]),
         ("check", &[]),
         ("working", &["--event", "0", "--hour", "0"]),
+        ("line", &[]),
     ] {
         for (correction, name) in [(empty.as_str(), empty.as_str()), ("-", "standard input")] {
             let arguments = [&[command, &case, "--correction", correction], more].concat();
@@ -111,6 +112,16 @@ fn a_text_with_no_event() {
             (checked.status, checked.text()),
             (0, "accepted, 0 events\n")
         );
+    }
+}
+
+#[test]
+fn a_text_with_no_event_where_nothing_can_be_asked_of_it() {
+    let message = "casetool: standard input: this text has no event\n";
+    for arguments in [&["working", "--event", "0", "--hour", "0"][..], &["line"]] {
+        let ran = casetool(arguments, UNIT.as_bytes());
+        assert_eq!((ran.status, ran.output.len()), (1, 0));
+        assert_eq!(ran.errors, message);
     }
 }
 

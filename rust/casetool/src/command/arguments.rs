@@ -5,6 +5,7 @@ use std::fmt;
 use std::path::PathBuf;
 
 use crate::command::help::Topic;
+use crate::command::one_line;
 
 /// A command line that casetool does not take: what is wrong, and whose help to read.
 #[derive(Clone, Debug, PartialEq, Eq)]
@@ -82,10 +83,12 @@ pub struct Given {
     pub taken_as: Option<As>,
     /// How the answer is printed.
     pub format: Format,
-    /// The event of a working.
-    pub event: usize,
+    /// The event that is asked about; nothing for every one that has a line.
+    pub event: Option<usize>,
     /// The hour of a working.
     pub hour: usize,
+    /// The arguments of one line, each as its option and its word; none where a case is asked about.
+    pub one_line: Vec<(&'static str, String)>,
 }
 
 /// The words of `--as`.
@@ -110,6 +113,7 @@ struct Found {
     format: Option<Format>,
     event: Option<usize>,
     hour: Option<usize>,
+    one_line: Vec<(&'static str, String)>,
 }
 
 /// Reads a command line without the name of the program.
@@ -145,7 +149,9 @@ fn topic(name: &OsStr) -> Result<Topic, String> {
         .ok_or_else(|| format!("there is no command {}", shown(name)))
 }
 
-fn shown(argument: &OsStr) -> String {
+/// An argument in a message.
+pub fn shown(argument: impl AsRef<OsStr>) -> String {
+    let argument = argument.as_ref();
     format!("'{}'", argument.to_string_lossy().escape_debug())
 }
 
@@ -208,9 +214,7 @@ impl Found {
             "--correction" if converts => flag(&mut self.is_correction, option),
             "--correction" => once(&mut self.correction, option, source(value(option, rest)?)),
             "-o" | "--output" => once(&mut self.output, option, value(option, rest)?.into()),
-            "--allow-empty" if !matches!(topic, Topic::Show | Topic::Working) => {
-                flag(&mut self.allow_empty, option)
-            }
+            "--allow-empty" if topic.allows_empty() => flag(&mut self.allow_empty, option),
             "--as" if !converts => {
                 let form = one_of(option, value(option, rest)?, &FORMS)?;
                 once(&mut self.taken_as, option, form)
@@ -221,7 +225,7 @@ impl Found {
                 let format = one_of(option, value(option, rest)?, &FORMATS[..taken])?;
                 once(&mut self.format, option, format)
             }
-            "--event" if topic == Topic::Working => {
+            "--event" if matches!(topic, Topic::Working | Topic::Line) => {
                 let event = number(option, value(option, rest)?, usize::MAX)?;
                 once(&mut self.event, option, event)
             }
@@ -229,7 +233,37 @@ impl Found {
                 let hour = number(option, value(option, rest)?, 23)?;
                 once(&mut self.hour, option, hour)
             }
-            _ => Err(format!("there is no option {}", shown(OsStr::new(option)))),
+            _ => match one_line::OPTIONS.iter().find(|known| **known == option) {
+                Some(known) if topic == Topic::Line => self.argument(known, value(option, rest)?),
+                _ => Err(format!("there is no option {}", shown(option))),
+            },
+        }
+    }
+
+    /// An argument of one line.
+    fn argument(&mut self, option: &'static str, word: &OsStr) -> Result<(), String> {
+        if self.one_line.iter().any(|(known, _)| *known == option) {
+            return Err(format!("{option} is there twice"));
+        }
+        let word = word.to_string_lossy().into_owned();
+        self.one_line.push((option, word));
+        Ok(())
+    }
+
+    /// A line is asked of a case or of arguments, and not of both.
+    fn one_form(&self) -> Result<(), String> {
+        let of_a_case = [
+            ("a case", self.source.is_some()),
+            ("--correction", self.correction.is_some()),
+            ("--as", self.taken_as.is_some()),
+            ("--event", self.event.is_some()),
+        ];
+        let of_a_case = of_a_case.iter().find(|(_, given)| *given);
+        match (of_a_case, self.one_line.first()) {
+            (Some((name, _)), Some((option, _))) => Err(format!(
+                "{name} and {option} can't both be given: a line is that of a case or of arguments"
+            )),
+            _ => Ok(()),
         }
     }
 
@@ -244,6 +278,7 @@ impl Found {
     }
 
     fn given(self, topic: Topic) -> Result<Given, String> {
+        self.one_form()?;
         let source = self.source.unwrap_or(Source::Input);
         if source == Source::Input && self.correction == Some(Source::Input) {
             return Err("the case and the correction can't both be standard input".to_string());
@@ -262,8 +297,9 @@ impl Found {
             allow_empty: self.allow_empty,
             taken_as: self.taken_as,
             format: self.format.unwrap_or_default(),
-            event: self.event.unwrap_or(0),
+            event: self.event,
             hour: self.hour.unwrap_or(0),
+            one_line: self.one_line,
         })
     }
 }

@@ -1,4 +1,4 @@
-//! `check`, `settle` and `working`: what is answered of a case, in the format that was asked for.
+//! `check`, `settle`, `working` and `line`: what is answered of a case, in the format that was asked for.
 
 use std::io::Read;
 
@@ -8,7 +8,7 @@ use attachment_h::{ROWS_LENGTH, settle, working};
 use super::arguments::{Format, Given};
 use super::help::Topic;
 use super::input::Inputs;
-use super::{Answer, Failure, mistake};
+use super::{Answer, Failure, line, mistake};
 use crate::format::check::{accepted, accepted_json, mistakes_json, refused_json};
 use crate::format::notes::Correction;
 use crate::format::settlement::Settlement;
@@ -17,7 +17,7 @@ use crate::record::event::Event;
 
 /// The answer of a command that reads a case.
 pub fn answer(topic: Topic, given: &Given, input: &mut dyn Read) -> Result<Answer, Failure> {
-    let inputs = match Inputs::read(given, input) {
+    let inputs = match Inputs::read(topic, given, input) {
         // What a program reads of a check has its mistakes too.
         Err(Failure::Mistakes(name, mistakes))
             if topic == Topic::Check && given.format == Format::Json =>
@@ -29,6 +29,7 @@ pub fn answer(topic: Topic, given: &Given, input: &mut dyn Read) -> Result<Answe
     let mut answer = match topic {
         Topic::Check => checked(&inputs, given.format),
         Topic::Settle => settled(&inputs, given.format)?,
+        Topic::Line => line::beside_lines(&inputs, given)?,
         _ => worked(&inputs, given)?,
     };
     answer.done.warnings = inputs.warnings;
@@ -90,24 +91,29 @@ fn worked(inputs: &Inputs, given: &Given) -> Result<Answer, Failure> {
     let file = &inputs.case.bytes;
     let none = || mistake("such hour in this accepted case");
     let sections = Sections::of(file).ok_or_else(none)?;
-    let Some(record) = sections.records(Section::Events).nth(given.event) else {
-        let events = match sections.count(Section::Events) {
-            0 => "no events".to_string(),
-            1 => "one event, 0".to_string(),
-            count => format!("{count} events, 0 to {}", count - 1),
-        };
-        let problem = format!("--event {}: this case has {events}", given.event);
-        return Err(Failure::Misuse(problem));
-    };
+    let number = given.event.unwrap_or_default();
     let hour = Hour {
-        number: given.event,
-        event: Event::of(record),
+        number,
+        event: event_of(&sections, number)?,
         hour: given.hour,
     };
-    let working = working(file, inputs.correction_bytes(), given.event, given.hour)
+    let working = working(file, inputs.correction_bytes(), number, given.hour)
         .map_err(|refused| format!("{refused}: {}", none()))?;
     Ok(Answer::done(match given.format {
         Format::Json => hour.json(&working),
         _ => hour.text(&working),
     }))
+}
+
+/// The event that `--event` asks for, which the case may not have.
+pub fn event_of<'a>(sections: &Sections<'a>, number: usize) -> Result<Event<'a>, Failure> {
+    let record = sections.records(Section::Events).nth(number);
+    record.map(Event::of).ok_or_else(|| {
+        let events = match sections.count(Section::Events) {
+            0 => "no events".to_string(),
+            1 => "one event, 0".to_string(),
+            count => format!("{count} events, 0 to {}", count - 1),
+        };
+        Failure::Misuse(format!("--event {number}: this case has {events}"))
+    })
 }

@@ -20,14 +20,12 @@ pub fn write(text: &[u8], given: &Given) -> Result<Answer, Failure> {
     let written = written.map_err(|mistakes| Failure::Mistakes(name.clone(), mistakes))?;
     if !given.allow_empty {
         if given.is_correction && written.bytes.is_empty() {
-            return Err(Failure::Message(input::has_no(
-                "reference",
-                &name,
-                "written",
-            )));
+            let message = input::has_no("reference", &name, Some("written"));
+            return Err(Failure::Message(message));
         }
         if !given.is_correction && input::is_empty_case(&written.bytes) {
-            return Err(Failure::Message(input::has_no("event", &name, "written")));
+            let message = input::has_no("event", &name, Some("written"));
+            return Err(Failure::Message(message));
         }
     }
     let warnings = written.warnings.iter();

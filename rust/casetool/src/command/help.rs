@@ -15,16 +15,19 @@ pub enum Topic {
     Settle,
     /// `casetool working`.
     Working,
+    /// `casetool line`.
+    Line,
 }
 
 impl Topic {
     /// The commands.
-    pub const COMMANDS: [Topic; 5] = [
+    pub const COMMANDS: [Topic; 6] = [
         Topic::Write,
         Topic::Show,
         Topic::Check,
         Topic::Settle,
         Topic::Working,
+        Topic::Line,
     ];
 
     /// The name of a command; nothing for the tool.
@@ -36,7 +39,13 @@ impl Topic {
             Topic::Check => "check",
             Topic::Settle => "settle",
             Topic::Working => "working",
+            Topic::Line => "line",
         }
+    }
+
+    /// Whether it has the option `--allow-empty`.
+    pub fn allows_empty(self) -> bool {
+        matches!(self, Topic::Write | Topic::Check | Topic::Settle)
     }
 
     /// What to type for help.
@@ -56,6 +65,7 @@ impl Topic {
             Topic::Check => CHECK,
             Topic::Settle => SETTLE,
             Topic::Working => WORKING,
+            Topic::Line => LINE,
         }
     }
 }
@@ -66,11 +76,12 @@ casetool: cases of the Attachment H settlement, as text and in words
   casetool settle   settles a case: a block for each plant, then the totals; or JSON, or CSV
   casetool check    says whether a case is accepted, or what is wrong and where
   casetool working  the pencil working of one hour of one event
+  casetool line     how high a bid may go: a table for each event of bids, or one figure
   casetool write    makes a case file of a text
   casetool show     shows a case file as text
 
 casetool COMMAND --help has the options of a command; casetool --version the version.
-The first three take a text or a case file. Text is valid UTF-8, not empty, with no zero byte;
+The first four take a text or a case file. Text is valid UTF-8, not empty, with no zero byte;
 all else is a case file. A file that is - or left out is standard input; -o FILE takes the
 answer, otherwise it goes to standard output. Where a command fails, a FILE that was there is
 renamed FILE.old, so that nothing takes it for the answer. Events and other records are counted
@@ -179,6 +190,42 @@ settle and casetool show number them.
                      --correction; it may not be empty
   --format FORMAT    text, or json: docs/casetool.schema.json
   --as FORM          what is read is a text, or a case file, whatever its bytes look like
+  -o, --output FILE  writes to a file instead of standard output
+  -h, --help         this help
+";
+
+const LINE: &str = "\
+casetool line [TEXT or CASE] [--event N] [--correction FILE] [--format text|json]
+              [--as text|case] [-o FILE]
+casetool line --component NAME --reference VALUE [--market NAME] [--tight yes|no]
+              [--average-price VALUE] [--constrained-hours N] [--format text|json] [-o FILE]
+
+Where the line of bids runs, by the proved library: the highest bid that passes the conduct test
+of its component; of maximum-parameter the lowest. For the three times it is the line of one time
+alone: their sum may flag an hour up to it.
+
+Of a case it prints, for each event of bids, the reference, the line of its tight hours and that
+of the others, and a table of its hours, neighbours that are alike in one row: the bid, the line
+that holds for it, whether the hour is tight and whether it is flagged.
+
+Without a case it prints one line, and under it what was read. The values are written as in a
+text: energy, 50.00, RTM, yes. A shell takes an unquoted $50.00 for 0.00: the $ has to be quoted,
+or left out. Nothing that the line depends on may be missing: --component and --reference are
+always needed; for energy and minimum-generation --market, in Real-Time also --tight, and in a
+tight hour of Real-Time --average-price and --constrained-hours. What is given beyond that is held
+to its range all the same. An argument out of its range is refused with 16.
+
+  --event N          the event, from 0; without it every event of bids
+  --correction FILE  the correction of the case, as text or as a file of casetool write
+                     --correction; it may not be empty
+  --as FORM          what is read is a text, or a case file, whatever its bytes look like
+  --component NAME   the component, by its word or its number
+  --reference VALUE  the reference, in dollars, minutes or a plain number, as the component has it
+  --market NAME      day-ahead or real-time
+  --tight MARK       whether the hour is tight: yes or no
+  --average-price VALUE, --constrained-hours N
+                     those of the unit's area
+  --format FORMAT    text, or json: docs/casetool.schema.json
   -o, --output FILE  writes to a file instead of standard output
   -h, --help         this help
 ";

@@ -8,6 +8,7 @@ use attachment_h::{ROWS_LENGTH, Refused, check};
 use super::Failure;
 use super::arguments::{As, Given, Source};
 use super::files;
+use super::help::Topic;
 use crate::place::Part;
 use crate::place::refusal::Refusal;
 use crate::text::bytes::is_text;
@@ -37,10 +38,14 @@ pub struct Inputs {
 
 impl Inputs {
     /// Reads what was given.
-    pub fn read(given: &Given, input: &mut dyn Read) -> Result<Inputs, Failure> {
+    pub fn read(topic: Topic, given: &Given, input: &mut dyn Read) -> Result<Inputs, Failure> {
         let mut warnings = Vec::new();
         let bytes = files::read(&given.source, input)?;
         let case = read_case(given, bytes, &mut warnings)?;
+        if case.positions.is_some() && is_empty_case(&case.bytes) && !given.allow_empty {
+            let done = topic.allows_empty().then_some("taken");
+            return Err(Failure::Message(has_no("event", &case.name, done)));
+        }
         let correction = match &given.correction {
             Some(source) => {
                 let bytes = files::read(source, input)?;
@@ -95,11 +100,7 @@ fn read_case(given: &Given, bytes: Vec<u8>, warnings: &mut Vec<String>) -> Resul
     if !is_text {
         return Ok(file(name, bytes));
     }
-    let input = text(name, write::case_file(&bytes), warnings)?;
-    if is_empty_case(&input.bytes) && !given.allow_empty {
-        return Err(Failure::Message(has_no("event", &input.name, "taken")));
-    }
-    Ok(input)
+    text(name, write::case_file(&bytes), warnings)
 }
 
 /// A correction that was named: one that corrects nothing is a misuse.
@@ -149,7 +150,11 @@ pub fn is_empty_case(file: &[u8]) -> bool {
     Sections::of(file).is_some_and(|sections| sections.count(Section::Events) == 0)
 }
 
-/// That a text has no record of a kind without which a failed export looks like a good text.
-pub fn has_no(record: &str, name: &str, done: &str) -> String {
-    format!("{name}: this text has no {record}; with --allow-empty it is {done} all the same")
+/// That a text has no record of a kind without which a failed export looks like a good text, and what `--allow-empty`
+/// does with it, where the command has that option.
+pub fn has_no(record: &str, name: &str, done: Option<&str>) -> String {
+    let offer = done.map_or(String::new(), |done| {
+        format!("; with --allow-empty it is {done} all the same")
+    });
+    format!("{name}: this text has no {record}{offer}")
 }

@@ -6,6 +6,8 @@ mod convert;
 pub mod files;
 pub mod help;
 mod input;
+mod line;
+mod one_line;
 pub mod output;
 
 use std::io::{Read, Write};
@@ -101,7 +103,10 @@ pub fn run(
         Topic::Casetool => Answer::done(topic.text()),
         Topic::Write => convert::write(&files::read(&given.source, input)?, given)?,
         Topic::Show => convert::show(&files::read(&given.source, input)?, given)?,
-        Topic::Check | Topic::Settle | Topic::Working => case::answer(topic, given, input)?,
+        Topic::Line if !given.one_line.is_empty() => one_line::answer(given)?,
+        Topic::Check | Topic::Settle | Topic::Working | Topic::Line => {
+            case::answer(topic, given, input)?
+        }
     };
     output::write(&answer.bytes, given.output.as_deref(), output)?;
     Ok(answer.done)

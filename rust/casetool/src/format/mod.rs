@@ -3,6 +3,7 @@
 pub mod check;
 mod csv;
 pub mod json;
+pub mod line;
 pub mod notes;
 mod rows;
 pub mod settlement;

@@ -113,7 +113,7 @@ fn fields_of(
 }
 
 /// What bids are counted in, in a word.
-fn measure_name(measure: Measure) -> &'static str {
+pub(super) fn measure_name(measure: Measure) -> &'static str {
     match measure {
         Measure::Dollars => "cents",
         Measure::Minutes => "minutes",
@@ -125,7 +125,7 @@ fn dollars(cents: Cents) -> String {
     Measure::Dollars.decimal(cents.0)
 }
 
-fn hours_of(mask: Mask) -> Json {
+pub(super) fn hours_of(mask: Mask) -> Json {
     mask.hours().collect()
 }
 

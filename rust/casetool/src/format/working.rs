@@ -7,8 +7,6 @@ use super::json::{Json, event_fields};
 use crate::record::event::Event;
 use crate::record::fields;
 use crate::text::amounts::{Measure, Signed, number};
-use crate::text::calendar;
-use crate::text::words;
 
 /// An hour of an event.
 #[derive(Clone, Copy, Debug)]
@@ -54,7 +52,8 @@ impl Step {
 impl Hour<'_> {
     /// The working as text.
     pub fn text(&self, working: &Working) -> String {
-        let mut text = self.heading();
+        let mut text = self.event.heading(self.number);
+        text += &format!("Hour {}\n", self.hour);
         for (name, figure) in self.figures(working) {
             text += &format!("    {name:7}{figure}\n");
         }
@@ -101,23 +100,6 @@ impl Hour<'_> {
         comparisons
             .map(|(place, (step, comparison))| step_json(place + 1, step, comparison))
             .collect()
-    }
-
-    fn heading(&self) -> String {
-        let event = &self.event;
-        let mut text = format!(
-            "Event {}: day {} ({}), {}, {}, unit {}",
-            self.number,
-            event.day,
-            calendar::date(event.day),
-            words::kind(event.kind),
-            words::market(event.market),
-            event.unit
-        );
-        if event.kind == Kind::BIDS {
-            text += &format!(", {}", words::component(event.component));
-        }
-        text + &format!("\nHour {}\n", self.hour)
     }
 
     /// The figures behind the comparisons, as the kind has them, each with what it is.

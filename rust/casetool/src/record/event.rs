@@ -6,6 +6,7 @@ use attachment_h::layout::{u16_at, u32_at};
 use attachment_h::{Component, Kind, Market};
 
 use crate::record::needs::Shape;
+use crate::text::calendar;
 use crate::text::words;
 
 /// An event record with the fields that events are sorted by.
@@ -61,6 +62,22 @@ impl<'a> Event<'a> {
     pub fn component_word(&self) -> Option<&'static str> {
         let word = words::COMPONENTS.word(i64::from(self.component.0));
         word.filter(|_| self.kind == Kind::BIDS)
+    }
+
+    /// The heading of an answer about this event, with its number.
+    pub fn heading(&self, number: usize) -> String {
+        let mut text = format!(
+            "Event {number}: day {} ({}), {}, {}, unit {}",
+            self.day,
+            calendar::date(self.day),
+            words::kind(self.kind),
+            words::market(self.market),
+            self.unit
+        );
+        if self.kind == Kind::BIDS {
+            text += &format!(", {}", words::component(self.component));
+        }
+        text + "\n"
     }
 
     /// What events rise strictly by.

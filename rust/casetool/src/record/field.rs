@@ -185,7 +185,8 @@ impl Field {
         }
     }
 
-    fn number(&self, word: &str) -> Result<i64, String> {
+    /// Reads its value from text, whether its bytes have room for it or not.
+    pub fn number(&self, word: &str) -> Result<i64, String> {
         match self.form {
             Form::Amount(measure) | Form::Signed(measure) => measure.read(word),
             Form::Name(names) => match names.number(word) {
@@ -224,7 +225,7 @@ impl Field {
     }
 
     /// What the limits allow, for a text.
-    fn allowed(&self) -> String {
+    pub fn allowed(&self) -> String {
         let allowed = match self.limit {
             Limit::Any => {
                 let (low, high) = self.range();

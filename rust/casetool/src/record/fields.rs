@@ -34,11 +34,19 @@ pub const UNIT: [Field; 12] = [
         Form::Amount(Measure::Rate),
     )
     .within(0, LARGEST_POWER),
-    Field::new(("Average Price", "average-price"), (16, 4), DOLLARS).within(0, LARGEST_PRICE),
-    Field::new(("Constrained Hours", "constrained-hours"), (20, 2), PLAIN).within(0, 8_784),
+    AVERAGE_PRICE,
+    CONSTRAINED_HOURS,
     Field::spare("spare-22", 22),
     Field::spare("spare-23", 23),
 ];
+
+/// The Average Price of a unit's area.
+pub const AVERAGE_PRICE: Field =
+    Field::new(("Average Price", "average-price"), (16, 4), DOLLARS).within(0, LARGEST_PRICE);
+
+/// The Constrained Hours of a unit's area.
+pub const CONSTRAINED_HOURS: Field =
+    Field::new(("Constrained Hours", "constrained-hours"), (20, 2), PLAIN).within(0, 8_784);
 
 /// The day of a past entry or an event.
 const DAY: Field = Field::new(("day", "day"), (8, 4), Form::Day)

@@ -12,6 +12,6 @@ pub mod order;
 mod read;
 pub mod show;
 pub mod source;
-mod values;
+pub mod values;
 pub mod words;
 pub mod write;

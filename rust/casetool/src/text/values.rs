@@ -4,7 +4,7 @@ use super::amounts::MEASURE_WORDS;
 use super::line::{Line, Pair, TextError, Word};
 use super::mistakes::Mistakes;
 use super::near;
-use crate::record::field::Field;
+use crate::record::field::{Field, Form};
 
 /// The fields of a record, or of the cells of some hours, with the words that they came from.
 pub struct Values<'a> {
@@ -118,8 +118,37 @@ fn unknown_key(
     meant
 }
 
-/// The value of a pair. The word of its measure may stand after it, or be a part of it: `500 MW`, `500MW`.
 fn value(pair: &Pair<'_>, field: &Field) -> Result<i64, TextError> {
+    field
+        .read(without_measure(pair, field)?)
+        .map_err(|problem| pair.value.wrong(problem))
+}
+
+/// Reads a value that stands in no line, whether its field has room for it or not; or what was expected.
+pub fn alone(text: &str, field: &Field) -> Result<i64, String> {
+    let word = |text| Word {
+        line: 1,
+        column: 1,
+        text,
+    };
+    let (value, measure) = match field.form {
+        Form::Amount(_) | Form::Signed(_) => match text.trim().split_once(char::is_whitespace) {
+            Some((value, measure)) => (value, Some(word(measure.trim_start()))),
+            None => (text.trim(), None),
+        },
+        _ => (text, None),
+    };
+    let pair = Pair {
+        key: word(field.key),
+        value: word(value),
+        measure,
+    };
+    let number = without_measure(&pair, field).map_err(|error| error.problem)?;
+    field.number(number)
+}
+
+/// What a pair has without the word of its measure, which may stand after it, or be a part of it: `500 MW`, `500MW`.
+fn without_measure<'a>(pair: &Pair<'a>, field: &Field) -> Result<&'a str, TextError> {
     let (number, joined) = with_measure(pair.value);
     if let (Some(_), Some(again)) = (joined, pair.measure) {
         return Err(again.wrong("the value has this word already"));
@@ -133,9 +162,7 @@ fn value(pair: &Pair<'_>, field: &Field) -> Result<i64, TextError> {
         };
         return Err(measure.wrong(expected));
     }
-    field
-        .read(number)
-        .map_err(|problem| pair.value.wrong(problem))
+    Ok(number)
 }
 
 /// A value that ends in the word of a measure, after a digit, as its number and that word.

@@ -11,6 +11,7 @@ fn commands() -> Vec<Vec<&'static str>> {
         ("check", &["text", "json"][..], &[][..]),
         ("settle", &["text", "json", "csv"], &[]),
         ("working", &["text", "json"], &HOUR),
+        ("line", &["text", "json"], &[]),
     ] {
         found.push([&[name], more].concat());
         found.extend(
@@ -19,7 +20,7 @@ fn commands() -> Vec<Vec<&'static str>> {
                 .map(|format| [&[name, "--format", format], more].concat()),
         );
     }
-    assert_eq!(found.len(), 10);
+    assert_eq!(found.len(), 13);
     found
 }
 

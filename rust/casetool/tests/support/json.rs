@@ -214,7 +214,7 @@ fn plain_rule(keyword: &str, rule: &Value, value: &Value) -> bool {
         "maximum" => number(value).is_none_or(|number| number <= rule.integer()),
         "minItems" => length(value).is_none_or(|length| length >= rule.integer()),
         "maxItems" => length(value).is_none_or(|length| length <= rule.integer()),
-        "pattern" => matches(value.text(), rule.text()),
+        "pattern" => !is_a(value, "string") || matches(value.text(), rule.text()),
         "required" => {
             let is_there = |name: &Value| names(value).any(|known| known == name.text());
             !is_a(value, "object") || rule.list().iter().all(is_there)

@@ -1,4 +1,4 @@
-//! `check`, `settle` and `working` of a text: what is one and what is a case file, `--as`, and the line and the column
+//! `check`, `settle`, `working` and `line` of a text: what is one and what is a case file, `--as`, and the line and the column
 //! of a refusal. A text gives what the case file gives that `write` makes of it.
 
 use cases::Random;
@@ -21,7 +21,7 @@ fn said(ran: &Ran) -> String {
 fn a_text_and_the_file_of_it_give_the_same() {
     let text = example("two-plants.txt");
     let case = casetool(&["write"], &text).output;
-    for arguments in [&["settle"][..], &["check"], &WORKING] {
+    for arguments in [&["settle"][..], &["check"], &WORKING, &["line"]] {
         let of_text = casetool(arguments, &text);
         assert_eq!((of_text.status, of_text.errors.as_str()), (0, ""));
         assert_eq!(of_text, casetool(arguments, &case));
@@ -196,7 +196,7 @@ fn utf_16_is_named() {
 /// That a text is refused with this number, and where: the line after the number's.
 fn refused(number: u8, text: &str, place: &str) {
     let path = file_with("text-or-case.refused", text.as_bytes());
-    for arguments in [&["check"][..], &["settle"], &WORKING] {
+    for arguments in [&["check"][..], &["settle"], &WORKING, &["line"]] {
         let ran = casetool(&[arguments, &[&path]].concat(), b"");
         let said = said(&ran).replace(&path, "FILE");
         let said = said.trim_start_matches("casetool: ");
@@ -285,7 +285,12 @@ fn a_field_that_was_left_out_has_the_line_of_its_record() {
 fn a_period_that_is_not_its_days_is_warned_of() {
     let text = format!("{UNITS}{} 12\n", WITHHELD.replace("44", "43"));
     let warning = "casetool: warning: standard input: line 4, column 48, '43': day 8000 (26 November 2021) is in capability period 44; 43 is written\n";
-    for arguments in [&["check"][..], &["settle", "--format", "json"], &WORKING] {
+    for arguments in [
+        &["check"][..],
+        &["settle", "--format", "json"],
+        &WORKING,
+        &["line"],
+    ] {
         let ran = casetool(arguments, text.as_bytes());
         assert_eq!((ran.status, ran.errors.as_str()), (0, warning));
     }
