@@ -7,7 +7,7 @@ ghost use Rattle.settlement.specs.Settled.{answerOf, rowsAfter};
 ghost use Rattle.working.specs.Working.{workingOf};
 ghost use Rattle.report.specs.Listing.{listedLength, listedOut, listedRows};
 ghost use Rattle.api.specs.Exported.{exportedSettlement};
-use limits::check;
+use case_check::check;
 use report::case_listing;
 use settlement::settle;
 use settlement::settle::Settlement;

@@ -8,7 +8,7 @@ use native.Mathlib.Nat.{add-zero, add-suc, suc-add, mul-suc, mul-zero, le-refl, 
 use native.Mathlib.Numerals.{add-one}
 use native.Mathlib.Omega.{arith}
 use lib.ListN.{length, getD, drop, set, length-append, List·getD-append}
-use lib.Seq.{drop-cons, set-at, append-snoc, getD-at, take-at, drop-at, drop-drop, getD-append-add}
+use lib.Seq.{drop-cons, set-at, append-snoc, getD-at, take-at, drop-at, drop-drop, getD-append-add, getD-set-same, getD-set-other}
 use borrow.Rule.Slice.PartMut.{putMid}
 use Rattle.binary.specs.Lists.{listTo, joinTo, firstFrom, Holds}
 
@@ -139,3 +139,15 @@ from-passed (suc k) j m p l h = pick (p j) refl h (λ t r. from-passed k (suc j)
 -- what a loop of stores leaves holds the figures
 pub holds-fill : (n : ℕ) (f : ℕ → ℕ) (l d : List ℕ) → l ≡ listTo n f ++ drop n d → Holds n l f
 holds-fill n f l d e i h = rw e (fill-at f n i 0 (drop n d) h)
+
+-- ---- one place more
+
+-- what is so at n and below is so below n + 1
+pub up-to : (P : ℕ → Type 0) (n i : ℕ) → i < n + 1 → P n → (i < n → P i) → P i
+up-to P n i l p q = let u : i ≤ n = omega arith in ⊎-elim (λ (e : i ≡ n). subst P (sym e) p) q (eq-or-lt-of-le u)
+
+-- a store at n of what is to stand there
+pub holds-more : (n : ℕ) (l : List ℕ) (f : ℕ → ℕ) (v : ℕ) → n < length l → Holds n l f → v ≡ f n → Holds (n + 1) (set l n v) f
+holds-more n l f v long h e i q =
+    up-to (λ (j : ℕ). getD (set l n v) j 0 ≡ f j) n i q (getD-set-same l n v 0 long ∙ e)
+    (λ s. getD-set-other l n i v 0 (λ t. omega arith) ∙ h i s)

@@ -16,8 +16,7 @@ use Rattle.casefile.specs.Decode.{formatIn, sectionOf, unitsIn, referencesIn, e
 use Rattle.casefile.specs.Lookup.{placeOf, unitOf, isReference, hasReference, levelOf, referenceOf, correctReferences}
 use Rattle.limits.specs.Refusal.{unitFieldsFine, unitFine, unitsFine, eventsListed, referenceFieldsFine, referenceFine, referencesFine, cellFine, hourFine, eventFine, eventsFine, referenceFound, referencesFound, refusal}
 use Rattle.limits.proofs.RangeLaws.{or-right, of-kind}
-use Rattle.limits.proofs.LookupLaws.{last-below}
-use Rattle.limits.proofs.EventLaws.{events-place}
+use Rattle.limits.proofs.LookupLaws.{last-below, events-place}
 use Rattle.limits.proofs.AcceptedLaws as accepted
 use Rattle.conduct.specs.Flags.{timeTotal, bidFlag, flagged}
 use Rattle.calls.specs.Answers.{given}

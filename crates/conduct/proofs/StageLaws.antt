@@ -16,7 +16,7 @@ use Rattle.casefile.specs.Case.{Events}
 use Rattle.casefile.specs.Decode.{unitsIn, eventsIn, caseIn}
 use Rattle.casefile.specs.Lookup.{unitOf, groupOf}
 use Rattle.limits.specs.Refusal.{eventsListed}
-use Rattle.limits.proofs.EventLaws.{events-place}
+use Rattle.limits.proofs.LookupLaws.{events-place}
 use Rattle.conduct.specs.Flags.{together}
 use Rattle.conduct.specs.StageParties.{sameRun, RunStart, leaderOf, sameGroup, leaderIn}
 

@@ -1,10 +1,8 @@
 pub mod LookupLaws
 pub mod SearchLaws
 pub mod RangeLaws
-pub mod EventLaws
 pub mod RefusalLaws
 pub mod LimitLaws
-pub mod CheckedLaws
 pub mod SectionLaws
 pub mod AcceptedLaws
 pub mod RunLaws

@@ -1,20 +1,15 @@
 -- A unit or a reference that is there stands at the place that is found.
-use Prim.Native.Nat.{ℕ, zero, suc, _+_, _≤_, _<_}
+use Prim.Native.Nat.{ℕ, zero, suc, _<_}
 use mathlib.Core.Bool.{Bool, true, false}
-use mathlib.Core.Logic.{⊎-elim}
-use mathlib.Core.Path.{_≡_, refl, sym, subst}
-use native.Mathlib.Nat.{eq-or-lt-of-le}
+use mathlib.Core.Path.{_≡_, refl}
 use native.Mathlib.Omega.{arith}
 use borrow.Author.Tests.{eqb-true}
 use Rattle.binary.specs.Bounded.{anyTo, lastTo}
 use Rattle.binary.proofs.Implies.{or-l, or-r}
-use Rattle.binary.proofs.BoundedLaws.{last-bound, last-holds}
-use Rattle.casefile.specs.Case.{Units}
+use Rattle.binary.proofs.BoundedLaws.{all-at, last-bound, last-holds}
+use Rattle.casefile.specs.Case.{Units, Events}
 use Rattle.casefile.specs.Lookup.{isUnit, isListed, placeOf}
-
--- what is so at n and below is so below n + 1
-pub up-to : (P : ℕ → Type 0) (n i : ℕ) → i < n + 1 → P n → (i < n → P i) → P i
-up-to P n i l p q = let u : i ≤ n = omega arith in ⊎-elim (λ (e : i ≡ n). subst P (sym e) p) q (eq-or-lt-of-le u)
+use Rattle.limits.specs.Refusal.{eventListed, eventsListed}
 
 -- where some place passes, the last is below the bound
 pub last-below : (n : ℕ) (p : ℕ → Bool) → anyTo n p ≡ true → lastTo n p < n
@@ -39,3 +34,8 @@ listed-number u number h = eqb-true _ _ (last-holds (u .count) (isUnit u number)
 pub unlisted-place : (u : Units) (number : ℕ) → isListed u number ≡ false → placeOf u number ≡ 0
 unfolding isListed placeOf
 unlisted-place u number h = last-nowhere (u .count) (isUnit u number) h
+
+-- the unit of an event, where every event's is listed
+pub events-place : (u : Units) (e : Events) (i : ℕ) → eventsListed u e ≡ true → i < e .count → placeOf u (e .unit i) < u .count
+unfolding eventsListed eventListed
+events-place u e i h l = listed-place u (e .unit i) (all-at (e .count) i (eventListed u e) l h)

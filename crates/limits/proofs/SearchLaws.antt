@@ -10,10 +10,11 @@ use borrow.Author.Tests.{ltb-true, ltb-false, eqb-true, eq-eqb}
 use Rattle.binary.specs.Bounded.{lastTo}
 use Rattle.binary.proofs.Implies.{and-l, and-r}
 use Rattle.binary.proofs.BoundedLaws.{any-true, last-holds}
+use Rattle.binary.proofs.ListLaws.{up-to}
 use Rattle.casefile.specs.Case.{Units, References}
 use Rattle.casefile.specs.Lookup.{isUnit, isListed, placeOf, isReference, hasReference, levelOf, referenceKey}
 use Rattle.limits.specs.StageLookup.{Rising, Between}
-use Rattle.limits.proofs.LookupLaws.{up-to, last-below, listed-place, listed-number, unlisted-place}
+use Rattle.limits.proofs.LookupLaws.{last-below, listed-place, listed-number, unlisted-place}
 
 -- ---- one halving
 

@@ -19,7 +19,7 @@ use Rattle.casefile.specs.Decode.{formatIn, lengthOf, sectionOf, unitsIn, pastI
 use Rattle.casefile.specs.Lookup.{placeOf}
 use Rattle.limits.specs.StageLookup.{Rising}
 use Rattle.limits.specs.Refusal.{sizeFine, sizesFine, rises, unitFine, unitsFine, hourFine, eventFine, eventsFine, eventKey, orderFine, eventsListed, withinCapability, amountFine, amountsFine}
-use Rattle.limits.proofs.EventLaws.{events-place}
+use Rattle.limits.proofs.LookupLaws.{events-place}
 use Rattle.limits.proofs.RangeLaws.{or-right, EventRange, CellRange, capability-range, event-range, cell-range, rising}
 use Rattle.limits.proofs.RefusalLaws.{HeaderFine, has-section}
 

@@ -1,5 +1,4 @@
-pub mod StageLookup
 pub mod Refusal
+pub mod StageLookup
 pub mod StageRefusal
-pub mod StageReading
 pub mod StageChecked

@@ -21,7 +21,7 @@ use Rattle.casefile.specs.Case.{Case}
 use Rattle.casefile.specs.Decode.{pastIn, eventsIn, caseIn, cellsFrom, cellsIn}
 use Rattle.casefile.specs.Lookup.{groupOf}
 use Rattle.casefile.specs.StageRead.{cellOf}
-use Rattle.limits.proofs.CheckedLaws.{holds-more}
+use Rattle.binary.proofs.ListLaws.{holds-more}
 use Rattle.conduct.specs.Flags.{sumTogether, fuelFlag, flagged, flagMask}
 use Rattle.conduct.specs.StageParties.{RunsTogether, leaderOf}
 use Rattle.sanctions.specs.Penalties.{flaggedWithImpact, isInstance, countsHere, countsPast, instances, N3, N2, withheldMultiplier, withheldAmount, withheldPenaltyOf, dispatchMultiplier, dispatchRevenue, dispatchPenaltyOf, energyPart, gain, loss, tccChange, lowestUnit, pastFuel, fuelMultiplierAfter, fuelPenaltyUnder, fuelMultiplier, fuelPenaltyOf, multiplier, penalty, countsFuelHere}

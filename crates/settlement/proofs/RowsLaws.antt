@@ -13,7 +13,7 @@ use Rattle.casefile.specs.Decode.{formatIn, sectionOf, unitsIn, pastIn, eventsI
 use Rattle.casefile.specs.Lookup.{unitOf}
 use Rattle.limits.specs.Refusal.{eventsFine}
 use Rattle.limits.proofs.AcceptedLaws as case
-use Rattle.limits.proofs.EventLaws.{events-place}
+use Rattle.limits.proofs.LookupLaws.{events-place}
 use Rattle.conduct.proofs.PartyLaws.{accepted-runs}
 use Rattle.sanctions.specs.declared.sanction.Sanction.{Sanction}
 use Rattle.sanctions.specs.Penalties.{penalty, totalPenalty}

@@ -11,12 +11,12 @@ ghost use Rattle.settlement.specs.Settled.{settlementOf, answerOf, rowsA
 ghost use Rattle.settlement.specs.StageRows.{rowsIn, totalsIn};
 use crate::rows::Totals;
 use crate::rows::settle_rows;
+use case_check::check::check_into;
 use casefile::events::event_count;
 use casefile::header::format_of;
 use casefile::header::section;
 use casefile::layout;
 use conduct::flags::find_flags;
-use limits::check::check_into;
 
 pub enum Settlement {
     Refused(u8),

@@ -21,7 +21,7 @@ use Rattle.casefile.specs.Lookup.{unitOf, groupOf, bidLevel}
 use Rattle.limits.specs.Refusal.{refusal}
 use Rattle.casefile.specs.StageRead.{eventAt}
 use Rattle.limits.specs.StageChecked.{AcceptedFile}
-use Rattle.limits.proofs.EventLaws.{events-place}
+use Rattle.limits.proofs.LookupLaws.{events-place}
 use Rattle.conduct.specs.Flags.{together, sumTogether, timeBid, timeTotal, groupCapability, groupSum, flagged, flagMask}
 use Rattle.conduct.specs.StageParties.{leaderOf}
 use Rattle.conduct.specs.StageMasks.{highestSum}

@@ -8,7 +8,7 @@ use Rattle.binary.specs.Lists.{Holds}
 use Rattle.casefile.specs.Layout.{mostEvents}
 use Rattle.casefile.specs.Decode.{eventsIn, caseIn}
 use Rattle.casefile.specs.Lookup.{groupOf}
-use Rattle.limits.proofs.CheckedLaws.{holds-more}
+use Rattle.binary.proofs.ListLaws.{holds-more}
 use Rattle.conduct.proofs.StageLaws.{place-in, group-in}
 use Rattle.conduct.proofs.parties.party_groups.Statement.{statement}
 use Rattle.conduct.proofs.parties.party_groups.Tie as tie

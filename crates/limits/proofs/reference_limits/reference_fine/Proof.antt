@@ -1,6 +1,6 @@
 use borrow.Author.Needs.{needs}
 use Rattle.casefile.specs.StageRead.{referenceAt}
-use Rattle.limits.specs.StageReading.{referenceFineWhere}
+use Rattle.limits.specs.StageLookup.{referenceFineWhere}
 use Rattle.casefile.specs.Lookup.{referenceKey}
 use Rattle.limits.specs.Refusal.{rises}
 use Rattle.limits.proofs.reference_limits.reference_fine.Statement.{statement}

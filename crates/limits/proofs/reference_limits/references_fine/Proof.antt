@@ -6,9 +6,8 @@ use Rattle.binary.specs.Bounded.{allTo}
 use Rattle.binary.proofs.BoundedLaws.{all-none, all-more}
 use Rattle.casefile.specs.Decode.{unitsIn, referencesIn}
 use Rattle.limits.specs.Refusal.{referenceFine, referencesFine}
-use Rattle.limits.specs.StageLookup.{IsPlace}
+use Rattle.limits.specs.StageLookup.{IsPlace, referenceFineWhere}
 use Rattle.casefile.specs.StageRead.{referenceAt}
-use Rattle.limits.specs.StageReading.{referenceFineWhere}
 use Rattle.limits.proofs.reference_limits.references_fine.Statement.{statement}
 use Rattle.limits.proofs.reference_limits.references_fine.Tie as tie
 

@@ -1,0 +1,68 @@
+use mathlib.Core.Path.{_≡_, sym, _∙_}
+use native.Mathlib.Omega.{arith}
+use Rattle.casefile.specs.Decode.{formatIn, sectionOf}
+use Rattle.limits.specs.StageRefusal.{headerRefusal, recordsRefusal}
+use Rattle.limits.proofs.RangeLaws.{numbers-in-order, references-in-order, correct-in-order}
+use Rattle.limits.proofs.RefusalLaws.{HeaderFine, RecordsFine, header-fine, records-fine, header-long, has-section, refusal-header, refusal-records, refusal-events}
+use Rattle.limits.proofs.SectionLaws.{events-fit}
+use Rattle.case_check.proofs.CheckedLaws.{handed-on}
+use Rattle.case_check.proofs.check.check_into.Statement.{statement}
+use Rattle.case_check.proofs.check.check_into.Tie as tie
+
+-- the header breaks no limit
+header : (c : tie.Else1) → headerRefusal (c .before .before .before .before .args .file .now) 0 ≡ 0
+header c = sym (c .before .header-refusal .ensures) ∙ c .if1 .left
+
+fine : (c : tie.Else1) → HeaderFine (c .before .before .before .before .args .file .now)
+fine c = header-fine _ 0 (header c) .0
+
+-- what the second stage gave, over the file
+records : (c : tie.After-records-refusal) → let s = c .before .before .before .before .before .before .before .before .before .args in
+    c .records-refusal .result
+    ≡ recordsRefusal (formatIn (s .file .now)) (sectionOf (s .file .now) 0) (sectionOf (s .file .now) 1) (s .correction .now) (sectionOf (s .file .now) 2) 0
+records c =
+    rw (c .records-refusal .ensures, c .before .section3 .ensures, c .before .before .section2 .ensures, c .before .before .before .section .ensures, c .before .before .before .before .format-of .ensures)
+
+fine-records : (c : tie.After-records-refusal) → c .records-refusal .result ≡ 0 → let s = c .before .before .before .before .before .before .before .before .before .args in
+    RecordsFine (formatIn (s .file .now)) (sectionOf (s .file .now) 0) (sectionOf (s .file .now) 1) (s .correction .now) (sectionOf (s .file .now) 2)
+fine-records c e = records-fine _ _ _ _ _ 0 (sym (records c) ∙ e) .0
+
+pub check-into-spec : {M : Type 1} → statement M
+check-into-spec =
+    tie.close
+    (tie.spec
+    (λ c κs. tt)
+    (λ c. (refusal-header _ _ _ _ (c .before .header-refusal .ensures) (c .if1 .taken), λ z. absurd (c .if1 .taken z)))
+    (λ c κs. header-long _ (fine c))
+    (λ c κs. has-section _ (fine (c .before)) 0 (omega arith))
+    (λ c κs. has-section _ (fine (c .before .before)) 1 (omega arith))
+    (λ c κs. has-section _ (fine (c .before .before .before)) 2 (omega arith))
+    (λ c κs. tt)
+    (λ c. (refusal-records _ _ _ _ (header (c .before .before .before .before .before .before)) (records (c .before)) (c .if2 .taken), λ z. absurd (c .if2 .taken z)))
+    (λ c κs. has-section _ (fine (c .before .before .before .before .before .before)) 3 (omega arith))
+    (λ c κs. tt)
+    (λ c κs.
+    let r = c .before .before .before .before .before .before in
+    let f = fine-records r (c .before .before .before .before .before .if2 .left) in
+    let t = r .before .before .before .before .format-of .ensures in (
+      rw (t, r .before .before .before .section .ensures) (numbers-in-order _ _ (f .units-fine)),
+      rw (t, r .before .before .section2 .ensures) (references-in-order _ _ _ (f .references-fine)),
+      rw (t, c .before .before .before .correct-references .ensures, r .before .before .section2 .ensures) (correct-in-order _ _ _ _ (f .references-fine) (f .correction-fine)),
+      rw (t, c .before .before .before .before .section4 .ensures) (events-fit _ (fine (r .before .before .before .before .before))),
+    ))
+    (λ c.
+    let r = c .before .before .before .before .before .before .before in
+    let o = r .before .before .before in (
+      rw (
+        ← refusal-events _ _ _ (header (o .before .before)) (sym (records r) ∙ c .before .before .before .before .before .before .if2 .left),
+        c .events-refusal .ensures .0,
+        c .before .before .before .before .correct-references .ensures,
+        c .before .before .before .before .before .section4 .ensures,
+        r .before .before .section2 .ensures,
+        o .section .ensures,
+        o .before .format-of .ensures,
+      ),
+      λ z. handed-on _ _ _ _ _
+          (rw (c .before .before .before .before .correct-references .ensures, c .before .before .before .before .before .section4 .ensures, r .before .before .section2 .ensures, o .section .ensures, o .before .format-of .ensures) at
+          (c .events-refusal .ensures .1 z)),
+    )))

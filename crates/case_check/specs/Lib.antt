@@ -1,0 +1,2 @@
+pub mod StageReading
+pub mod StageFound

@@ -1,0 +1,31 @@
+// Units, references, correction and past: limits 6 to 9, in their order.
+ghost use mathlib.Core.Path.{_≡_};
+ghost use Rattle.limits.specs.StageRefusal.{recordsRefusal};
+use crate::past_limits::past_fine;
+use crate::reference_limits::correction_fine;
+use crate::reference_limits::references_fine;
+use crate::refusal::unless;
+use crate::unit_limits::units_fine;
+use casefile::layout::Format;
+
+// The number of the first limit that units, references, correction or past break, or 0.
+pub fn records_refusal(
+    format: Format,
+    units: &[u8],
+    references: &[u8],
+    correction: &[u8],
+    past: &[u8],
+) -> u8
+    ensures { λ r. ⌜ r ≡ recordsRefusal format (now (units .entry)) (now (references .entry)) (now (correction .entry)) (now (past .entry)) 0 ⌝ }
+{
+    // Units are looked up by their order, which 6 is about.
+    if !units_fine(format, units) {
+        return 6;
+    }
+    let references_good = references_fine(format, units, references);
+    let correction_good = correction_fine(format, units, correction);
+    let past_good = past_fine(past);
+    let from_9 = unless(past_good, 9, 0);
+    let from_8 = unless(correction_good, 8, from_9);
+    unless(references_good, 7, from_8)
+}
