@@ -1,7 +1,6 @@
 -- No two values of an enum give one answer, and a call's answer is that of the value it returns.
 use mathlib.Core.Bool.{Bool, true, false}
 use mathlib.Core.Path.{_≡_, refl, sym, _∙_, ap}
-use Prim.Native.Nat.{ℕ}
 use Rattle.calls.specs.declared.answers.Verdict.{Verdict}
 use Rattle.calls.specs.declared.answers.Verdict.the-variants as verdict
 use Rattle.calls.specs.declared.answers.Figure.{Figure}

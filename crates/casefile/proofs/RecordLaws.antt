@@ -14,7 +14,7 @@ use Rattle.binary.specs.Bytes.{valueAt}
 use Rattle.binary.specs.Lists.{Bytes}
 use Rattle.casefile.specs.declared.layout.Format.{Format}
 use Rattle.casefile.specs.Layout.{referenceWidth, eventWidth, eventUnit, cellWidth, cells, cellsOffset, numberLimit, firstWidths, widthsOf, Fits}
-use Rattle.casefile.specs.Decode.{offsetOf, lengthOf, sectionOf, recordAt, cellsFrom, cellsIn, referencesIn, eventsIn}
+use Rattle.casefile.specs.Decode.{formatIn, offsetOf, lengthOf, sectionOf, recordAt, cellsFrom, cellsIn, referencesIn, eventsIn, caseIn, decode}
 
 -- the part from byte a on
 pub rest : (a : ℕ) (s : List ℕ) → take (length s - a) (drop a s) ≡ drop a s
@@ -106,3 +106,9 @@ event-unit-lt format s i b =
 pub component-byte : (format : Format) (s : List ℕ) → Bytes s → (i : ℕ) → i < referencesIn format s .count → referencesIn format s .component i < 256
 unfolding referencesIn
 component-byte format s b i l = record-bytes (referenceWidth format) s i b 2
+
+-- ---- the sections of a file, as they are handed on
+
+pub count-is : (format : Format) (f e : List ℕ) → format ≡ formatIn f → e ≡ sectionOf f 3 → eventsIn format e .count ≡ decode f .events .count
+unfolding decode caseIn
+count-is format f e ef ee = rw (ef, ee)

@@ -76,7 +76,7 @@ firstWidths =
       «number_width» = 2;
     }
 
--- the widths of a format: an unknown version, which check 2 refuses, is read as the first
+-- the widths of a format: an unknown version, which limit 2 refuses, is read as the first
 unfoldable pub widthsOf : Format → Widths
 widthsOf format = firstWidths
 

@@ -1,4 +1,4 @@
--- A unit found by its number, and a reference by its unit and component. Numbers and references strictly rise (checks 6 to 8),
+-- A unit found by its number, and a reference by its unit and component. Numbers and references strictly rise (limits 6 to 8),
 -- so that the last match is the only one.
 use Prim.Native.Nat.{ℕ, _+_, _*_, _^_}
 use mathlib.Core.Bool.{Bool, cond, _&&_, _||_}

@@ -30,7 +30,7 @@ pub struct Event {
 }
 
 pub fn event_count(format: Format, events: &[u8]) -> usize
-    ensures { λ r. ⌜ (r ≡ eventsIn format (now (events .entry)) .count) × (r ≤ length (now (events .entry))) ⌝ }
+    ensures { λ r. ⌜ r ≡ eventsIn format (now (events .entry)) .count ⌝ }
 {
     let w = widths_of(format);
     count_of(events, w.event_width)

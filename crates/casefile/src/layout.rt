@@ -50,7 +50,7 @@ pub struct Widths {
     pub number_width: usize,
 }
 
-// The widths of a format: an unknown version, which check 2 refuses, is read as the first.
+// The widths of a format: an unknown version, which limit 2 refuses, is read as the first.
 pub fn widths_of(format: Format) -> Widths
     ensures { λ r. ⌜ (r ≡ widthsOf format) × Fits r ⌝ }
 {

@@ -14,9 +14,11 @@ use Rattle.binary.proofs.Implies.{and-l, and-r}
 use Rattle.binary.proofs.BoundedLaws.{sum-same}
 use Rattle.binary.proofs.MaskLaws.{mask-same}
 use Rattle.tariff.specs.ConductTests.{increase}
-use Rattle.casefile.specs.Layout.{mostHours, headerWidth, mostEvents, longestFile}
-use Rattle.casefile.specs.Decode.{formatIn, sectionOf, HasSection, unitsIn, referencesIn, eventsIn, caseIn, decode}
+use Rattle.casefile.specs.Layout.{sectionCount, mostHours, headerWidth, mostPast, mostEvents, longestFile}
+use Rattle.casefile.specs.Decode.{formatIn, sectionOf, HasSection, unitsIn, referencesIn, pastIn, eventsIn, caseIn, decode}
 use Rattle.casefile.specs.Lookup.{unitOf, groupOf, referenceOf, bidLevel}
+use Rattle.casefile.proofs.RecordLaws.{count-is}
+use Rattle.limits.proofs.LookupLaws.{events-place}
 use Rattle.limits.specs.Refusal.{eventsListed}
 use Rattle.limits.specs.StageChecked.{AcceptedFile}
 use Rattle.limits.proofs.AcceptedLaws as case
@@ -104,7 +106,7 @@ module _ (format : Format) (u r p e levels : List ℕ) (t : Holds (eventsIn form
 -- ---- an accepted file
 
 module _ (f : List ℕ) (a : AcceptedFile f) where
-  pub has-section : (i : ℕ) → i < 4 → HasSection f i
+  pub has-section : (i : ℕ) → i < sectionCount → HasSection f i
   has-section = case.has-section f (a .correction) (a .rowsLength) (a .accepted)
 
   short : length (sectionOf f 0) ≤ longestFile
@@ -118,6 +120,10 @@ module _ (f : List ℕ) (a : AcceptedFile f) where
   few : eventsIn (formatIn f) (sectionOf f 3) .count ≤ mostEvents
   unfolding decode caseIn
   few = case.events-count f (a .correction) (a .rowsLength) (a .accepted)
+
+  pub past-few : (p : List ℕ) → p ≡ sectionOf f 2 → pastIn p .count ≤ mostPast
+  unfolding decode caseIn
+  past-few p q = rw q (case.past-count f (a .correction) (a .rowsLength) (a .accepted))
 
   -- the sections, as they are handed on
   module _ (format : Format) (u e : List ℕ) (ef : format ≡ formatIn f) (eu : u ≡ sectionOf f 0) (ee : e ≡ sectionOf f 3) where
@@ -138,8 +144,15 @@ module _ (f : List ℕ) (a : AcceptedFile f) where
     case-of = rw (ef, eu, ee)
 
     counted-events : decode f .events .count ≡ eventsIn format e .count
-    unfolding decode caseIn
-    counted-events = rw (ef, ee)
+    counted-events = sym (count-is format f e ef ee)
+
+    -- the unit of an event is among the units
+    pub file-place : (i place : ℕ) → place ≡ unitOf (decode f) i → i < decode f .events .count → place < unitsIn format u .count
+    unfolding unitOf decode caseIn
+    file-place i place q l =
+        rw (q, ef, eu)
+        (events-place (unitsIn (formatIn f) (sectionOf f 0)) (eventsIn (formatIn f) (sectionOf f 3)) i
+        (case.events f (a .correction) (a .rowsLength) (a .accepted) .events-listed) l)
 
     pub file-places : (places : List ℕ) → Holds (decode f .events .count) places (unitOf (decode f))
         → Holds (eventsIn format e .count) places (unitOf (caseIn format u [] [] e))

@@ -27,6 +27,10 @@ use Rattle.conduct.proofs.PartyLaws.{together-fields, together-sym, tog
 use Rattle.conduct.proofs.MaskLaws.{hours-are, mask-is}
 use Rattle.conduct.proofs.SumLaws.{capability-is}
 
+kind-is : (format : Format) (u e : List ℕ) (i : ℕ) → caseIn format u [] [] e .events .kind i ≡ eventsIn format e .kind i
+unfolding caseIn
+kind-is format u e i = refl
+
 -- ---- the events of a party
 
 module _ (c : Case) (i j : ℕ) (t : together c i j ≡ true) where
@@ -148,17 +152,13 @@ module _ (format : Format) (u e places leaders sums : List ℕ) (f : Led format 
         party = λ n. record { each = λ h b. p .summed .each h b ∙ sym (sum-together (caseIn format u [] [] e) i j t h) };
       }) r
 
-  kind-of : eventsIn format e .kind j ≡ caseIn format u [] [] e .events .kind j
-  unfolding caseIn
-  kind-of = refl
-
   pub member-flags : (place first x : ℕ) → place ≡ unitOf (caseIn format u [] [] e) j → first ≡ flagMaskIn (caseIn format u [] [] e) [] i
       → x ≡ memberMask format u e place first G sums j → x ≡ flagMaskIn (caseIn format u [] [] e) [] j
   unfolding memberMask
   member-flags place first x at ef r = pick (eqb (eventsIn format e .kind j) 3) refl r
     where
       pick : (b : Bool) → eqb (eventsIn format e .kind j) 3 ≡ b → x ≡ cond b first (maskIn format u e place 0 G sums j) → x ≡ flagMaskIn (caseIn format u [] [] e) [] j
-      pick true k r = r ∙ ef ∙ fuel-same format u e i j (with-leader format u e places leaders f i j l q) (sym kind-of ∙ eqb-true _ 3 k)
+      pick true k r = r ∙ ef ∙ fuel-same format u e i j (with-leader format u e places leaders f i j l q) (kind-is format u e j ∙ eqb-true _ 3 k)
       pick false k r = own-flags place x at r
 
 module _ (format : Format) (u e leaders old new : List ℕ) (i : ℕ) where
@@ -198,10 +198,6 @@ module _ (format : Format) (u e leaders old new : List ℕ) (i : ℕ) where
       }
 
 -- ---- the masks of every event
-
-kind-is : (format : Format) (u e : List ℕ) (i : ℕ) → caseIn format u [] [] e .events .kind i ≡ eventsIn format e .kind i
-unfolding caseIn
-kind-is format u e i = refl
 
 leader-bid : (c : Case) (i : ℕ) → c .events .kind i ≡ 4 → leaderOf c i ≡ i
 unfolding leaderOf

@@ -9,6 +9,7 @@ use native.Mathlib.Omega.{arith}
 use borrow.Author.Tests.{eqb-true, eq-eqb, ne-eqb, ltb-true, ltb-false, leb-true, leb-false, le-leb, lt-ltb}
 use lib.Dec.{ltb, leb, eqb}
 use lib.ListN.{getD, replicate}
+use Rattle.tariff.specs.StageSums.{highestSum}
 use Rattle.casefile.specs.declared.layout.Format.{Format}
 use Rattle.binary.specs.Bounded.{sumTo}
 use Rattle.binary.specs.Lists.{Holds}
@@ -25,7 +26,7 @@ use Rattle.casefile.specs.StageRead.{cellOf}
 use Rattle.casefile.specs.declared.cells.Cell.{Cell}
 use Rattle.limits.proofs.AcceptedLaws.{event-ranges, events-rise}
 use Rattle.conduct.specs.Flags.{timeBid}
-use Rattle.conduct.specs.StageMasks.{highestSum, SmallRow}
+use Rattle.conduct.specs.StageMasks.{SmallRow}
 use Rattle.conduct.specs.StageFlags.{counted, Added, HasRow, timeTotalIn, totalRead}
 use Rattle.conduct.specs.StageTime.{BidsInOrder, componentBid, countedIncrease, componentIncrease, cell, HasIncreases, SmallTable, sameTotals, totalBefore}
 use Rattle.conduct.proofs.SumLaws.{sum-beyond, cond-le, and-both, cell-amount, added-same, uncounted, zeros-at}

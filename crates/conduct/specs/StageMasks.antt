@@ -1,11 +1,12 @@
 -- What a conduct test reads of an event beside its hours, and the hours that fail it.
-use Prim.Native.Nat.{ℕ, _^_, _≤_, _<_}
+use Prim.Native.Nat.{ℕ, _≤_, _<_}
 use mathlib.Core.Bool.{Bool, false, cond}
 use mathlib.Core.List.{List}
 use lib.Dec.{ltb, eqb}
 use lib.ListN.{getD}
 use Rattle.binary.specs.Bounded.{bitOf}
 use Rattle.tariff.specs.ConductTests.{withheldTest, dispatchTest, bidTest}
+use Rattle.tariff.specs.StageSums.{highestSum}
 use Rattle.casefile.specs.Layout.{mostHours}
 use Rattle.casefile.specs.Case.{Units, Events}
 use Rattle.casefile.specs.StageRead.{cellOf}
@@ -47,10 +48,6 @@ failsIn test.NoTest a sum tight = false
 
 unfoldable pub failsAt : ConductTest → (tight : ℕ) → (cells sums : List ℕ) → (h : ℕ) → Bool
 failsAt t tight cells sums h = failsIn t (cellOf cells h .a) (getD sums h 0) (bitOf tight h)
-
--- no sum of a case is above 2 ^ 40
-abbrev pub highestSum : ℕ
-highestSum = 2 ^ 40
 
 abbrev pub SmallRow : (row : List ℕ) → Type 0
 SmallRow row = (h : ℕ) → h < mostHours → getD row h 0 ≤ highestSum

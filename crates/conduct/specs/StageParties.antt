@@ -15,7 +15,7 @@ use Rattle.conduct.specs.Flags.{together}
 unfoldable pub sameRun : Events → (i j : ℕ) → Bool
 sameRun e i j = eqb (e .kind j) (e .kind i) && eqb (e .day j) (e .day i) && eqb (e .market j) (e .market i)
 
--- what stands between two events of a run is of the run (check 11)
+-- what stands between two events of a run is of the run (limit 11)
 abbrev pub RunsTogether : Events → Type 0
 RunsTogether e = (i j k : ℕ) → i ≤ j → j ≤ k → k < e .count → sameRun e i k ≡ true → sameRun e i j ≡ true
 

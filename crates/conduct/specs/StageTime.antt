@@ -17,7 +17,7 @@ use Rattle.conduct.specs.Flags.{timeBid}
 use Rattle.conduct.specs.StageMasks.{SmallRow}
 use Rattle.conduct.specs.StageFlags.{totalRead}
 
--- a bid alone has a component (check 10), and the events stand in their order (check 11)
+-- a bid alone has a component (limit 10), and the events stand in their order (limit 11)
 pub record BidsInOrder (e : Events) : Type 0 where
   pub bid : (i : ℕ) → i < e .count → 0 < e .component i → e .kind i ≡ 4
   pub rise : Rising (eventKey e) (e .count)

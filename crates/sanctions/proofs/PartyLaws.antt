@@ -1,4 +1,4 @@
--- Events together are led by the first of them; for kind 3 that is the one of the lowest unit, by the order of check 11.
+-- Events together are led by the first of them; for kind 3 that is the one of the lowest unit, by the order of limit 11.
 use Prim.Native.Nat.{ℕ, _<_}
 use mathlib.Core.Bool.{Bool, true, false, not, _&&_}
 use mathlib.Core.Logic.{⊎-elim}

@@ -16,7 +16,7 @@ use Rattle.casefile.specs.StageRead.{cellOf}
 use Rattle.conduct.specs.Flags.{flagMask}
 use Rattle.conduct.specs.StageParties.{sameRun, RunsTogether, leaderOf}
 
--- the checks that penalties lean on: numbers 5, 6 and 10 to 13
+-- the limits that penalties lean on: 5, 6 and 10 to 13
 pub record Accepted (format : Format) (units past events : List ℕ) : Type 0 where
   pub few-past : pastIn past .count ≤ mostPast
   pub few-events : eventsIn format events .count ≤ mostEvents

@@ -8,12 +8,10 @@ use Rattle.binary.specs.Bounded.{sumTo}
 use Rattle.binary.specs.Lists.{listTo, joinTo, Bytes, Holds}
 use Rattle.binary.proofs.BoundedLaws.{sum-more}
 use Rattle.casefile.specs.declared.layout.Format.{Format}
-use Rattle.casefile.specs.Layout.{sectionCount, mostHours, mostEvents, mostPast, rowWidth}
-use Rattle.casefile.specs.Decode.{formatIn, sectionOf, unitsIn, pastIn, eventsIn, caseIn, decode, HasSection}
-use Rattle.casefile.specs.Lookup.{unitOf}
+use Rattle.casefile.specs.Layout.{mostHours, mostEvents, rowWidth}
+use Rattle.casefile.specs.Decode.{formatIn, sectionOf, eventsIn, caseIn, decode}
 use Rattle.limits.specs.Refusal.{eventsFine}
 use Rattle.limits.proofs.AcceptedLaws as case
-use Rattle.limits.proofs.LookupLaws.{events-place}
 use Rattle.conduct.proofs.PartyLaws.{accepted-runs}
 use Rattle.sanctions.specs.declared.sanction.Sanction.{Sanction}
 use Rattle.sanctions.specs.Penalties.{penalty, totalPenalty}
@@ -28,23 +26,12 @@ use Rattle.settlement.specs.declared.rows.Row.{Row}
 use Rattle.settlement.specs.StageRow.{writtenRow, rowBy, tableRow}
 use Rattle.settlement.specs.StageRows.{FoundFlags, rowIn, rowsIn, totalsIn}
 
-pub count-is : (f : List ℕ) (format : Format) (e : List ℕ) → format ≡ formatIn f → e ≡ sectionOf f 3 → eventsIn format e .count ≡ decode f .events .count
-unfolding decode caseIn
-count-is f format e ef ee = rw (ef, ee)
-
 module _ (f : List ℕ) (acc : AcceptedFile f) where
-  pub has-section : (k : ℕ) → k < sectionCount → HasSection f k
-  has-section = case.has-section f (acc .correction) (acc .rowsLength) (acc .accepted)
-
   pub few : decode f .events .count ≤ mostEvents
   few = case.events-count f (acc .correction) (acc .rowsLength) (acc .accepted)
 
   -- the format and the sections, as they are handed on
   module _ (format : Format) (u p e : List ℕ) (ef : format ≡ formatIn f) (eu : u ≡ sectionOf f 0) (ep : p ≡ sectionOf f 2) (ee : e ≡ sectionOf f 3) where
-    pub past-few : pastIn p .count ≤ mostPast
-    unfolding decode caseIn
-    past-few = rw ep (case.past-count f (acc .correction) (acc .rowsLength) (acc .accepted))
-
     pub fine : eventsFine format e ≡ true
     fine = rw (ef, ee) (case.events f (acc .correction) (acc .rowsLength) (acc .accepted) .events-fine)
 
@@ -57,13 +44,6 @@ module _ (f : List ℕ) (acc : AcceptedFile f) where
           (sanctions.accepted f (acc .correction) (acc .rowsLength) (acc .accepted)) (found .found) (accepted-runs f (acc .correction) (acc .rowsLength) b (acc .accepted)))
 
       module _ (i : ℕ) (l : i < decode f .events .count) where
-        pub place-below : getD places i 0 < unitsIn format u .count
-        unfolding unitOf decode caseIn
-        place-below =
-            rw (found .placed i l, ef, eu)
-            (events-place (unitsIn (formatIn f) (sectionOf f 0)) (eventsIn (formatIn f) (sectionOf f 3)) i
-            (case.events f (acc .correction) (acc .rowsLength) (acc .accepted) .events-listed) l)
-
         pub turn : (s : Sanction) (penalties : List ℕ) (total : ℕ) → s ≡ rowAt format p e groups leaders masks penalties i → i < length penalties
             → Holds i penalties (penalty (decode f)) → total ≡ sumTo i (penalty (decode f)) → SanctionTurn (decode f) i total s penalties
         unfolding decode caseIn

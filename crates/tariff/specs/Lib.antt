@@ -4,3 +4,4 @@ pub mod ConductTests
 pub mod Comparisons
 pub mod SanctionRules
 pub mod DefaultBidRules
+pub mod StageSums

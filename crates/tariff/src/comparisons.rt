@@ -2,6 +2,7 @@
 ghost use mathlib.Core.Bool.{cond};
 ghost use mathlib.Core.Path.{_≡_};
 ghost use Prim.Native.Nat.{_≤_};
+ghost use Rattle.tariff.specs.StageSums.{highestSum};
 ghost use Rattle.tariff.specs.Threshold.{thresholdOf};
 ghost use Rattle.tariff.specs.ConductTests.{compared, exceeds, percentOf, lowerComparison, constrainedComparison, maximumComparison};
 ghost use Rattle.tariff.specs.Comparisons.{noComparison, firstFailed, comparisonsOf, firstBidComparison, secondBidComparison, bidComparisons, withheldComparisons, dispatchComparisons, fuelComparisons};
@@ -246,7 +247,7 @@ pub fn bid_comparisons(
 }
 
 pub fn withheld_comparisons(a: u32, capability: u32, s: u64, g: u64, tight: bool) -> Comparisons
-    requires { ⌜ s ≤ 1099511627776 ⌝ }
+    requires { ⌜ s ≤ highestSum ⌝ }
     ensures { λ r. ⌜ r ≡ withheldComparisons a capability s g tight ⌝ }
 {
     let of_capability = compared(UNIT_SHARE * (a as u64), capability as u64);

@@ -1,6 +1,7 @@
 // The conduct tests (tariff 23.3.1).
 ghost use mathlib.Core.Path.{_≡_};
 ghost use Prim.Native.Nat.{_≤_};
+ghost use Rattle.tariff.specs.StageSums.{highestSum};
 ghost use Rattle.tariff.specs.Threshold.{thresholdOf};
 ghost use Rattle.tariff.specs.ConductTests.{increase, lowerTest, constrainedTest, percentTest, timeTest, maximumTest, bidTest, unitLimit, groupLimit, withheldTest, dispatchTest};
 use crate::threshold::Threshold;
@@ -129,7 +130,7 @@ pub fn group_limit(tight: bool) -> u64
 
 // Whether withheld megawatts fail; s is the group's sum and g its listed capability.
 pub fn withheld_test(a: u32, capability: u32, s: u64, g: u64, tight: bool) -> bool
-    requires { ⌜ s ≤ 1099511627776 ⌝ }
+    requires { ⌜ s ≤ highestSum ⌝ }
     ensures { λ r. ⌜ r ≡ withheldTest a capability s g tight ⌝ }
 {
     let unit = unit_limit(tight);

@@ -13,22 +13,22 @@ use Rattle.binary.specs.Lists.{Holds}
 use Rattle.binary.proofs.Implies.{and-l, and-r}
 use Rattle.binary.proofs.BoundedLaws.{sum-same}
 use Rattle.binary.proofs.MaskLaws.{bit-mask}
-use Rattle.casefile.specs.Layout.{mostPast, mostHours}
+use Rattle.casefile.specs.Layout.{mostHours}
 use Rattle.casefile.specs.Case.{Case}
 use Rattle.casefile.specs.declared.events.Event.{Event}
-use Rattle.casefile.specs.Decode.{formatIn, sectionOf, unitsIn, pastIn, eventsIn, caseIn, decode}
+use Rattle.casefile.specs.Decode.{formatIn, sectionOf, eventsIn, caseIn, decode}
 use Rattle.casefile.specs.Lookup.{unitOf, groupOf, bidLevel}
 use Rattle.limits.specs.Refusal.{refusal}
 use Rattle.casefile.specs.StageRead.{eventAt}
+use Rattle.casefile.proofs.RecordLaws.{count-is}
 use Rattle.limits.specs.StageChecked.{AcceptedFile}
-use Rattle.limits.proofs.LookupLaws.{events-place}
 use Rattle.conduct.specs.Flags.{together, sumTogether, timeBid, timeTotal, groupCapability, groupSum, flagged, flagMask}
 use Rattle.conduct.specs.StageParties.{leaderOf}
-use Rattle.conduct.specs.StageMasks.{highestSum}
+use Rattle.tariff.specs.StageSums.{highestSum}
 use Rattle.conduct.specs.StageFlags.{HasRow, partyFigure, ledSum, partySum, listedCapability, timeTotalIn, totalRead, Led}
 use Rattle.conduct.proofs.PartyLaws.{together-fields, leader-le, leader-eqb}
 use Rattle.conduct.proofs.SumLaws.{cond-le, cond-given, sum-amounts}
-use Rattle.conduct.proofs.FileLaws.{total-is, file-listed, file-led}
+use Rattle.conduct.proofs.FileLaws.{total-is, file-led}
 use Rattle.sanctions.specs.declared.instances.Instances.{Instances}
 use Rattle.sanctions.specs.StageFound.{Accepted, FoundMasks}
 use Rattle.sanctions.specs.StageTables.{instancesAt}
@@ -90,10 +90,6 @@ module _ (c : Case) (i h sum : ℕ) (held : (c .events .kind i ≡ 4 → ⊥) �
 -- ---- the events of a file
 
 module _ (format : Format) (f e : List ℕ) (ef : format ≡ formatIn f) (ee : e ≡ sectionOf f 3) where
-  pub count-is : eventsIn format e .count ≡ decode f .events .count
-  unfolding decode caseIn
-  count-is = rw (ef, ee)
-
   pub kind-of : (event : Event) (i : ℕ) → event ≡ eventAt (eventsIn format e) i → event .kind ≡ decode f .events .kind i
   unfolding decode caseIn eventAt
   kind-of event i q = rw (q, ef, ee)
@@ -104,7 +100,7 @@ module _ (format : Format) (f e : List ℕ) (ef : format ≡ formatIn f) (ee : e
 
   module _ (leaders : List ℕ) (led : Holds (decode f .events .count) leaders (leaderOf (decode f))) where
     pub leader-below : (i : ℕ) → i < decode f .events .count → getD leaders i 0 < eventsIn format e .count
-    leader-below i l = let q = leader-le (decode f) i in let t = led i l in let n = count-is in omega arith
+    leader-below i l = let q = leader-le (decode f) i in let t = led i l in let n = count-is format f e ef ee in omega arith
 
     same-leader : (i j : ℕ) → i < decode f .events .count → j < decode f .events .count → (decode f .events .kind i ≡ 4 → ⊥)
         → eqb (getD leaders j 0) (getD leaders i 0) ≡ together (decode f) i j
@@ -115,7 +111,7 @@ module _ (format : Format) (f e : List ℕ) (ef : format ≡ formatIn f) (ee : e
         → i < decode f .events .count → h < mostHours → (decode f .events .kind i ≡ 4 → ⊥) → getD row h 0 ≡ partySum (decode f) i h
     unfolding ledSum partySum sumTogether
     led-sum row i h r l m n =
-        rw (r .each h m, count-is)
+        rw (r .each h m, count-is format f e ef ee)
         (sum-same (decode f .events .count) _ _
         (λ j q. ap₂ (λ (b : Bool) (x : ℕ). cond b x 0) (same-leader i j l q n) (figure-is j h)))
 
@@ -147,12 +143,6 @@ module _ (format : Format) (f u e : List ℕ) (ef : format ≡ formatIn f) (eu :
   unfolding leaderOf together groupOf unitOf decode caseIn
   leader-case i = rw (ef, eu, ee)
 
-  pub place-below : AcceptedFile f → (i place : ℕ) → place ≡ unitOf (decode f) i → i < decode f .events .count → place < unitsIn format u .count
-  unfolding unitOf decode caseIn
-  place-below acc i place q l =
-      rw (q, ef, eu)
-      (events-place (unitsIn (formatIn f) (sectionOf f 0)) (eventsIn (formatIn f) (sectionOf f 3)) i (file-listed f acc (formatIn f) _ _ refl refl refl) l)
-
   pub listed-is : (i : ℕ) → listedCapability (caseIn format u [] [] e) i ≡ cond (eqb (decode f .events .kind i) 1) (groupCapability (decode f) i) 0
   unfolding listedCapability groupCapability groupOf unitOf decode caseIn
   listed-is i = rw (ef, eu, ee)
@@ -167,9 +157,6 @@ module _ (format : Format) (f u e : List ℕ) (ef : format ≡ formatIn f) (eu :
 module _ (f : List ℕ) (acc : AcceptedFile f) where
   sections : Accepted (formatIn f) (sectionOf f 0) (sectionOf f 2) (sectionOf f 3)
   sections = sanctions.accepted f (acc .correction) (acc .rowsLength) (acc .accepted)
-
-  pub past-few : (p : List ℕ) → p ≡ sectionOf f 2 → pastIn p .count ≤ mostPast
-  past-few p q = rw q (sections .few-past)
 
   pub counts-are : (format : Format) (p e groups leaders masks : List ℕ) (i : ℕ) (x : Instances) → format ≡ formatIn f → p ≡ sectionOf f 2 → e ≡ sectionOf f 3
       → FoundMasks (decode f) (decode f .events .count) groups leaders masks → i < decode f .events .count

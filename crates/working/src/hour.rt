@@ -7,7 +7,7 @@ ghost use Rattle.casefile.specs.Decode.{decode};
 ghost use Rattle.casefile.specs.Lookup.{unitOf, bidLevel};
 ghost use Rattle.limits.specs.StageChecked.{AcceptedFile};
 ghost use Rattle.conduct.specs.StageParties.{leaderOf};
-ghost use Rattle.conduct.specs.StageMasks.{highestSum};
+ghost use Rattle.tariff.specs.StageSums.{highestSum};
 ghost use Rattle.working.specs.Working.{sumsOf, figuresWith, comparisonsFor, decrease, workingFrom, workingAt, refusedWorking, workingOf};
 use crate::figures::Counts;
 use crate::figures::Figures;

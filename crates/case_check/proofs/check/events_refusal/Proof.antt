@@ -33,7 +33,7 @@ answer c =
       c .unless3 .ensures,
       c .before .unless2 .ensures,
       c .before .before .unless .ensures,
-      c .before .before .before .event-count .ensures .0,
+      c .before .before .before .event-count .ensures,
       c .before .before .before .before .references-found .ensures .0,
       c .before .before .before .before .before .before .before .amounts-fine .ensures,
     )

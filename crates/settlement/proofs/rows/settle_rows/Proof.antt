@@ -16,7 +16,9 @@ use Rattle.sanctions.proofs.FoundLaws.{SanctionTurn}
 use Rattle.default_bids.specs.StageFigures.{highestMakeUp}
 use Rattle.settlement.specs.StageRow.{writtenRow}
 use Rattle.settlement.specs.StageRows.{rowIn}
-use Rattle.settlement.proofs.RowsLaws.{has-section, few, count-is, past-few, fine, sound, place-below, turn, row-is, penalty-by, due-more, rows-all}
+use Rattle.casefile.proofs.RecordLaws.{count-is}
+use Rattle.conduct.proofs.FileLaws.{has-section, past-few, file-place}
+use Rattle.settlement.proofs.RowsLaws.{few, fine, sound, turn, row-is, penalty-by, due-more, rows-all}
 use Rattle.settlement.proofs.WriteLaws.{row-bytes-length}
 use Rattle.settlement.proofs.rows.settle_rows.Statement.{statement}
 use Rattle.settlement.proofs.rows.settle_rows.Tie as tie
@@ -53,7 +55,7 @@ events-of l = counted l .before .section3 .ensures
 
 -- the loop's bound is the number of events
 count : (l : tie.At-loop Inv-loop μ-loop) → counted l .event-count .result ≡ decode (first l .args .file .now) .events .count
-count l = counted l .event-count .ensures .0 ∙ count-is (first l .args .file .now) _ _ (formatted l) (events-of l)
+count l = counted l .event-count .ensures ∙ count-is _ (first l .args .file .now) _ (formatted l) (events-of l)
 
 abbrev at : tie.In-loop Inv-loop μ-loop → tie.At-loop Inv-loop μ-loop
 at t = t .before
@@ -111,7 +113,7 @@ settle-rows-spec =
     let f = s .args .file .now in
     let a = s .pre .0 .0 in
     let q = count l in (
-      (omega arith, omega (arith, few f a), past-few f a _ _ _ _ (formatted l) (units-of l) (past-of l) (events-of l)),
+      (omega arith, omega (arith, few f a), past-few f a _ (past-of l)),
       sound f a _ _ _ _ (formatted l) (units-of l) (past-of l) (events-of l) _ _ _ _ (s .pre .0 .1) (λ b. counted l .before .before .before .before .before .before .shared-slice-known .given b .fits),
     ))
     (λ c κs.
@@ -121,7 +123,7 @@ settle-rows-spec =
     let f = s .args .file .now in
     let a = s .pre .0 .0 in (
       (omega arith, inside t, fine f a _ _ _ _ (formatted l) (units-of l) (past-of l) (events-of l)),
-      place-below f a _ _ _ _ (formatted l) (units-of l) (past-of l) (events-of l) _ _ _ _ (s .pre .0 .1) _ (below t),
+      file-place f a _ _ _ (formatted l) (units-of l) (events-of l) _ _ (s .pre .0 .1 .placed _ (below t)) (below t),
     ))
     (λ c. let q = inside (c .before .before .before) in omega arith)
     (λ c. inside (c .before .before .before))

@@ -5,7 +5,7 @@ use lib.ListN.{length}
 use Rattle.limits.specs.Refusal.{refusal}
 use Rattle.limits.proofs.AcceptedLaws as case
 use Rattle.limits.specs.StageChecked.{AcceptedFile, HandedOn}
-use Rattle.settlement.proofs.RowsLaws.{count-is}
+use Rattle.casefile.proofs.RecordLaws.{count-is}
 use Rattle.settlement.proofs.SettleLaws.{refused-answer, refused-told, settled-told, refused-rows, settled-answer, settled-rows}
 use Rattle.settlement.proofs.settle.settle.Statement.{statement}
 use Rattle.settlement.proofs.settle.settle.Tie as tie
@@ -53,7 +53,7 @@ settle-spec =
     let e = c .before .before .before .before .before .before .before .before .before .before in
     let a = first e .args in
     let s = c .before .before .before .before .before .settle-accepted .ensures in
-    let n = c .event-count .ensures .0 ∙ count-is (a .file .now) _ _ (c .before .before .format-of .ensures) (c .before .section .ensures) in (
+    let n = c .event-count .ensures ∙ count-is _ (a .file .now) _ (c .before .before .format-of .ensures) (c .before .section .ensures) in (
       settled-told _ _ _ _ (settled-answer (a .file .now) (a .correction .now) _ _ _ (handed e) _ _ _ (fine e) n (s .0)),
       settled-rows (a .file .now) (a .correction .now) _ _ _ (handed e) (a .rows .now) _ (fine e) (s .1),
     )))

@@ -5,9 +5,9 @@ use Rattle.casefile.specs.Decode.{unitsIn, eventsIn, caseIn, decode}
 use Rattle.casefile.specs.StageRead.{unitAt, eventAt}
 use Rattle.conduct.specs.Flags.{tight}
 use Rattle.conduct.proofs.SumLaws.{cell-amount}
-use Rattle.conduct.proofs.FileLaws.{has-section, header-long}
+use Rattle.casefile.proofs.RecordLaws.{count-is}
+use Rattle.conduct.proofs.FileLaws.{has-section, header-long, file-place}
 use Rattle.working.specs.Working.{figuresWith}
-use Rattle.working.proofs.WorkingLaws.{count-is, place-below}
 use Rattle.working.proofs.hour.figures_at.Statement.{statement}
 use Rattle.working.proofs.hour.figures_at.Tie as tie
 
@@ -20,7 +20,7 @@ below s = let q = count-is _ (first s .args .file .now) _ (s .before .before .fo
 placed : (s : tie.After-section2) → first s .args .place < unitsIn (s .before .before .format-of .result) (s .before .section .result .now) .count
 placed s =
     let p = first s .pre in
-    place-below _ (first s .args .file .now) _ _ (s .before .before .format-of .ensures) (s .before .section .ensures) (s .section2 .ensures) (p .0 .0) _ _ (p .1) (p .0 .1)
+    file-place (first s .args .file .now) (p .0 .0) _ _ _ (s .before .before .format-of .ensures) (s .before .section .ensures) (s .section2 .ensures) _ _ (p .1) (p .0 .1)
 
 pub figures-at-spec : {M : Type 1} → statement M
 unfolding figuresWith tight decode caseIn unitAt eventAt

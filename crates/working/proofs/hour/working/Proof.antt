@@ -3,9 +3,10 @@ use native.Mathlib.Omega.{arith}
 use Rattle.casefile.specs.Decode.{decode}
 use Rattle.limits.specs.Refusal.{refusal}
 use Rattle.limits.specs.StageChecked.{AcceptedFile}
+use Rattle.casefile.proofs.RecordLaws.{count-is}
 use Rattle.conduct.proofs.FileLaws.{has-section, header-long}
 use Rattle.working.specs.Working.{mostRows}
-use Rattle.working.proofs.WorkingLaws.{inside, refused-is, count-is, working-is, outside-is}
+use Rattle.working.proofs.WorkingLaws.{inside, refused-is, working-is, outside-is}
 use Rattle.working.proofs.hour.working.Statement.{statement}
 use Rattle.working.proofs.hour.working.Tie as tie
 
@@ -22,7 +23,7 @@ accepted c = record { correction = first c .args .correction .now; rowsLength = 
 counted : (c : tie.After-event-count) → c .event-count .result ≡ decode (first (c .before .before .before) .args .file .now) .events .count
 counted c =
     let s = c .before .before in
-    c .event-count .ensures .0 ∙ count-is _ (first (s .before) .args .file .now) _ (c .before .format-of .ensures) (s .section .ensures)
+    c .event-count .ensures ∙ count-is _ (first (s .before) .args .file .now) _ (c .before .format-of .ensures) (s .section .ensures)
 
 pub working-spec : {M : Type 1} → statement M
 working-spec =

@@ -4,8 +4,9 @@ use borrow.Author.Needs.{needs}
 use native.Mathlib.Omega.{arith}
 use Rattle.casefile.specs.Layout.{mostEvents}
 use Rattle.casefile.specs.Decode.{eventsIn, decode}
-use Rattle.conduct.proofs.FileLaws.{has-section, header-long, file-few, file-bids}
-use Rattle.working.proofs.WorkingLaws.{count-is, figures-full, past-few, counts-are, flag-is, small-s, working-full}
+use Rattle.casefile.proofs.RecordLaws.{count-is}
+use Rattle.conduct.proofs.FileLaws.{has-section, header-long, past-few, file-few, file-bids}
+use Rattle.working.proofs.WorkingLaws.{figures-full, counts-are, flag-is, small-s, working-full}
 use Rattle.working.proofs.hour.working_at.Statement.{statement}
 use Rattle.working.proofs.hour.working_at.Tie as tie
 
