@@ -3,7 +3,7 @@ use Prim.Native.Nat.{ℕ, zero, suc, _+_, _-_, _*_, _/_, _^_, _≤_, _<_}
 use mathlib.Core.Bool.{Bool, true, false}
 use mathlib.Core.List.{List}
 use mathlib.Core.Logic.{inl}
-use mathlib.Core.Path.{_≡_, refl}
+use mathlib.Core.Path.{_≡_, refl, _∙_}
 use native.Mathlib.Nat.{pow-suc, mul-le-mul-left, mul-div-le, mul-suc}
 use native.Mathlib.Omega.{arith}
 use lib.Dec.{ltb}
@@ -15,6 +15,8 @@ use Rattle.binary.specs.Lists.{Bytes}
 use Rattle.casefile.specs.declared.layout.Format.{Format}
 use Rattle.casefile.specs.Layout.{referenceWidth, eventWidth, eventUnit, cellWidth, cells, cellsOffset, numberLimit, firstWidths, widthsOf, Fits}
 use Rattle.casefile.specs.Decode.{formatIn, offsetOf, lengthOf, sectionOf, recordAt, cellsFrom, cellsIn, referencesIn, eventsIn, caseIn, decode}
+use Rattle.casefile.specs.StageRead.{eventAt}
+use Rattle.casefile.specs.declared.events.Event.{Event}
 
 -- the part from byte a on
 pub rest : (a : ℕ) (s : List ℕ) → take (length s - a) (drop a s) ≡ drop a s
@@ -112,3 +114,16 @@ component-byte format s b i l = record-bytes (referenceWidth format) s i b 2
 pub count-is : (format : Format) (f e : List ℕ) → format ≡ formatIn f → e ≡ sectionOf f 3 → eventsIn format e .count ≡ decode f .events .count
 unfolding decode caseIn
 count-is format f e ef ee = rw (ef, ee)
+
+-- the kind of an event
+pub kind-in : (format : Format) (f e : List ℕ) → format ≡ formatIn f → e ≡ sectionOf f 3 → (i : ℕ) → eventsIn format e .kind i ≡ decode f .events .kind i
+unfolding decode caseIn
+kind-in format f e ef ee i = rw (ef, ee)
+
+pub kind-here : (format : Format) (e : List ℕ) (event : Event) (i : ℕ) → event ≡ eventAt (eventsIn format e) i → event .kind ≡ eventsIn format e .kind i
+unfolding eventAt
+kind-here format e event i q = rw q
+
+pub kind-of : (format : Format) (f e : List ℕ) → format ≡ formatIn f → e ≡ sectionOf f 3 → (event : Event) (i : ℕ) → event ≡ eventAt (eventsIn format e) i
+    → event .kind ≡ decode f .events .kind i
+kind-of format f e ef ee event i q = kind-here format e event i q ∙ kind-in format f e ef ee i

@@ -34,6 +34,9 @@ pub const BIDS_OFFSET: usize = 32;
 
 pub const ROW_WIDTH: usize = BIDS_OFFSET + 4 * HOURS;
 
+// Rows for every case.
+pub const MOST_ROWS: usize = ROW_WIDTH * MOST_EVENTS;
+
 // What a file says of its own layout.
 pub struct Format {
     pub version: u16,

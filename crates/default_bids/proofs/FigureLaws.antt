@@ -30,7 +30,7 @@ use Rattle.default_bids.proofs.SpanLaws.{span-same, mask-nothing}
 -- ---- components 2 and 4 to 8 never read c
 
 -- a component that does not read c restores no bid
-restores-none : (component r c : ℕ) → readsCorrect component ≡ false → restores component r c ≡ false
+pub restores-none : (component r c : ℕ) → readsCorrect component ≡ false → restores component r c ≡ false
 unfolding readsCorrect restores
 restores-none component r c e =
     let p : leb component 1 ≡ false = or-l (leb component 1) (eqb component 3) e in
@@ -67,7 +67,7 @@ unfolding levelOf noReferences
 level-none unit component = refl
 
 -- a figure by c that goes by no c where c is not read is found by c where it is read and 0 elsewhere
-by-read : (c : Case) (correct : References) (i : ℕ) (by : ℕ → ℕ) (figure : References → ℕ) → ((k : References) → by (correctOf c k i) ≡ figure k)
+pub by-read : (c : Case) (correct : References) (i : ℕ) (by : ℕ → ℕ) (figure : References → ℕ) → ((k : References) → by (correctOf c k i) ≡ figure k)
     → (readsLevel (c .events) i ≡ false → (k k′ : References) → figure k ≡ figure k′)
     → by (correctLevel correct (c .events) i) ≡ figure correct
 unfolding correctLevel correctOf
@@ -106,7 +106,7 @@ mitigated-flags c i = go (eqb (c .events .kind i) 4) (eqb (c .events .component 
     go false s = sym (mask-nothing n)
 
 module _ (format : Format) (u r p s : List ℕ) (i : ℕ) where
-  mitigated-bit : (h : ℕ) → h < mostHours → bitOf (mitigatedMask (caseIn format u r p s) i) h ≡ mitigated (caseIn format u r p s) i h
+  pub mitigated-bit : (h : ℕ) → h < mostHours → bitOf (mitigatedMask (caseIn format u r p s) i) h ≡ mitigated (caseIn format u r p s) i h
   unfolding mitigatedMask caseIn eventsIn
   mitigated-bit h l = bit-mask mostHours h (mitigated (caseIn format u r p s) i) l
 
@@ -120,7 +120,7 @@ module _ (format : Format) (u r p s : List ℕ) (i : ℕ) where
   unfolding bidBy failsWith bidInForce correctedInForce tight referenceOf bidLevel caseIn
   bid-is k h l = cond-same (eqb (eventsIn format s .kind i) 4) (λ t. rw (T→true (eqb (eventsIn format s .kind i) 4) t, mitigated-bit h l)) (λ t. refl)
 
-  tenths-are : (k : References)
+  pub tenths-are : (k : References)
       → sumTo mostHours (tenthsAt (cellsFrom format s i) (correctOf (caseIn format u r p s) k i) (mitigatedMask (caseIn format u r p s) i))
       ≡ makeUpTenths (caseIn format u r p s) k i
   unfolding makeUpTenths tenthsAt cellOf caseIn eventsIn amountsIn cellsIn

@@ -39,7 +39,7 @@ fn held_bids(format: Format, events: &[u8], i: usize, level: u32, held: u32) -> 
 }
 
 // The hours of a bid, event i, that fail the conduct test with the correct reference.
-fn failing_with(
+pub fn failing_with(
     format: Format,
     units: &[u8],
     events: &[u8],

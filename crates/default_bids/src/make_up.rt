@@ -21,7 +21,7 @@ use tariff::default_bid_rules::hour_make_up;
 use tariff::default_bid_rules::make_up;
 
 // One hour, in tenths of a cent.
-fn hour_tenths(cells: &[u8], h: usize, correct: u32, mitigated: u32) -> u64
+pub fn hour_tenths(cells: &[u8], h: usize, correct: u32, mitigated: u32) -> u64
     requires { ⌜ (h < mostHours) × (cellWidth * mostHours ≤ length (now cells)) × (cellOf (now cells) h .m ≤ highestMegawatts) ⌝ }
     ensures { λ r. ⌜ (r ≡ tenthsAt (now (cells .entry)) correct mitigated h) × (r ≤ highestTenths) ⌝ }
 {
@@ -34,7 +34,7 @@ fn hour_tenths(cells: &[u8], h: usize, correct: u32, mitigated: u32) -> u64
 }
 
 // The mitigated hours' sum, in tenths of a cent.
-fn sum_tenths(cells: &[u8], correct: u32, mitigated: u32) -> u64
+pub fn sum_tenths(cells: &[u8], correct: u32, mitigated: u32) -> u64
     requires { ⌜ (cellWidth * mostHours ≤ length (now cells)) × MegawattsFine (now cells) ⌝ }
     ensures { λ r. ⌜ (r ≡ sumTo mostHours (tenthsAt (now (cells .entry)) correct mitigated)) × (r ≤ mostHours * highestTenths) ⌝ }
 {

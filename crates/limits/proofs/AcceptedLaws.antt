@@ -5,7 +5,7 @@ use mathlib.Core.Path.{_≡_, sym, _∙_}
 use native.Mathlib.Omega.{arith}
 use lib.ListN.{length}
 use borrow.Author.Tests.{leb-true}
-use Rattle.casefile.specs.Layout.{sectionCount, longestFile, mostPast, mostEvents, numberLimit, rowWidth}
+use Rattle.casefile.specs.Layout.{sectionCount, longestFile, mostUnits, mostPast, mostEvents, numberLimit, rowWidth}
 use Rattle.casefile.specs.Decode.{formatIn, caseIn, lengthOf, sectionOf, FollowOn, HasSection, eventsIn, decode}
 use Rattle.casefile.specs.Lookup.{correctReferences}
 use Rattle.limits.specs.StageLookup.{Rising}
@@ -48,6 +48,10 @@ module _ (f k : List ℕ) (n : ℕ) (h : refusal f k n ≡ 0) where
   section-length = section.section-length f header
 
   -- sizes
+
+  pub units-count : decode f .units .count ≤ mostUnits
+  unfolding decode caseIn
+  units-count = section.units-fit f header
 
   pub past-count : decode f .past .count ≤ mostPast
   unfolding decode caseIn

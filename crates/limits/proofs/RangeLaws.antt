@@ -9,10 +9,9 @@ use native.Mathlib.Omega.{arith}
 use lib.Dec.{ltb, leb, eqb}
 use lib.ListN.{length}
 use borrow.Author.Tests.{ltb-true, leb-true, eqb-true, eq-eqb, ne-eqb}
-use Rattle.binary.specs.Word.{positivePart, within}
+use Rattle.binary.specs.Word.{within}
 use Rattle.binary.proofs.Implies.{and-l, and-r}
 use Rattle.binary.proofs.BoundedLaws.{all-at}
-use Rattle.binary.proofs.WordLaws.{within-positive}
 use Rattle.tariff.specs.Ranges.{highestCapability, highestComponent, highestMarket, highestDay, highestKind, highestPrice, highestRevenue, highestFuelMoney, highestEnergy, highestPriceChange, highestMegawatts, bidInRange}
 use Rattle.casefile.specs.declared.layout.Format.{Format}
 use Rattle.casefile.specs.Case.{Units, Events}
@@ -42,14 +41,14 @@ pub record EventRange (e : Events) (i : ℕ) : Type 0 where
   pub component : e .component i ≤ highestComponent
   pub plain : e .kind i < 4 → e .component i ≡ 0
   pub day : e .day i ≤ highestDay
-  pub guarantee : e .kind i ≡ 3 → positivePart 32 (e .Q i) ≤ highestFuelMoney
-  pub congestion : e .kind i ≡ 3 → positivePart 32 (e .R i) ≤ highestFuelMoney
+  pub guarantee : e .kind i ≡ 3 → within 32 highestFuelMoney (e .Q i) ≡ true
+  pub congestion : e .kind i ≡ 3 → within 32 highestFuelMoney (e .R i) ≡ true
 
 -- the cell of an hour, by kind
 pub record CellRange (kind a b m : ℕ) : Type 0 where
-  pub withheld : kind ≡ 1 → positivePart 32 b ≤ highestPrice
+  pub withheld : kind ≡ 1 → within 32 highestPrice b ≡ true
   pub dispatch : kind ≡ 2 → b ≤ highestRevenue
-  pub fuel : kind ≡ 3 → (a ≤ highestEnergy) × (positivePart 32 b ≤ highestPriceChange)
+  pub fuel : kind ≡ 3 → (a ≤ highestEnergy) × (within 32 highestPriceChange b ≡ true)
   pub bid : kind ≡ 4 → m ≤ highestMegawatts
 
 pub event-range : (e : Events) (a : ℕ → ℕ → ℕ) (i : ℕ) → eventFine e a i ≡ true → EventRange e i
@@ -62,8 +61,8 @@ event-range e a i h =
       plain = λ k. eqb-true (e .component i) 0
           (or-right (eqb (e .kind i) 4) (eqb (e .component i) 0) (search (and-l, and-r) depth 20) (ne-eqb (e .kind i) 4 (λ q. omega arith)));
       day = leb-true (e .day i) highestDay (search (and-l, and-r) depth 20);
-      guarantee = λ k. within-positive 32 highestFuelMoney (e .Q i) (let t = fuel k in search (and-l, and-r));
-      congestion = λ k. within-positive 32 highestFuelMoney (e .R i) (let t = fuel k in search (and-l, and-r));
+      guarantee = λ k. let t = fuel k in search (and-l, and-r);
+      congestion = λ k. let t = fuel k in search (and-l, and-r);
     }
   where
     fuel : e .kind i ≡ 3
@@ -76,13 +75,13 @@ cell-range kind component a b m h =
     record {
       withheld = λ k.
           let t : (within 32 highestPrice b && eqb m 0) ≡ true = of-kind 1 kind _ (search (and-l, and-r)) k in
-          within-positive 32 highestPrice b (search (and-l, and-r));
+          search (and-l, and-r);
       dispatch = λ k.
           let t : (leb b highestRevenue && eqb m 0) ≡ true = of-kind 2 kind _ (search (and-l, and-r)) k in
           leb-true b highestRevenue (search (and-l, and-r));
       fuel = λ k.
           let t : (leb a highestEnergy && within 32 highestPriceChange b && eqb m 0) ≡ true = of-kind 3 kind _ (search (and-l, and-r)) k in
-          (leb-true a highestEnergy (search (and-l, and-r)), within-positive 32 highestPriceChange b (search (and-l, and-r)));
+          (leb-true a highestEnergy (search (and-l, and-r)), search (and-l, and-r));
       bid = λ k.
           let t : (bidInRange component a && within 32 highestPrice b && leb m highestMegawatts) ≡ true = of-kind 4 kind _ (search (and-l, and-r)) k in
           leb-true m highestMegawatts (search (and-l, and-r));

@@ -14,7 +14,7 @@ use Rattle.binary.proofs.BoundedLaws.{all-at}
 use Rattle.tariff.specs.Ranges.{highestCapability}
 use Rattle.casefile.specs.declared.layout.Format.{Format}
 use Rattle.casefile.specs.Case.{Events}
-use Rattle.casefile.specs.Layout.{sectionCount, pastWidth, eventWidth, mostPast, mostEvents}
+use Rattle.casefile.specs.Layout.{sectionCount, unitWidth, pastWidth, eventWidth, mostUnits, mostPast, mostEvents}
 use Rattle.casefile.specs.Decode.{formatIn, lengthOf, sectionOf, unitsIn, pastIn, eventsIn, amountsIn}
 use Rattle.casefile.specs.Lookup.{placeOf}
 use Rattle.limits.specs.StageLookup.{Rising}
@@ -35,7 +35,13 @@ module _ (f : List ℕ) (h : HeaderFine f) where
   unfolding sectionOf
   section-length i l = let s = has-section f h i l in simp (length-take, length-drop) (omega arith)
 
-  -- as many past entries as are counted, and as many events as the tables have room for
+  -- not more units, past entries and events than a file may have
+  pub units-fit : unitsIn (formatIn f) (sectionOf f 0) .count ≤ mostUnits
+  unfolding sizesFine unitsIn
+  units-fit =
+      let t = h .sizes in
+      rw (section-length 0 (omega arith)) (sized (lengthOf f 0) (unitWidth (formatIn f)) mostUnits (search (and-l, and-r)) .1)
+
   pub past-fit : pastIn (sectionOf f 2) .count ≤ mostPast
   unfolding sizesFine pastIn
   past-fit =

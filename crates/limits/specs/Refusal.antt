@@ -236,6 +236,10 @@ firstBroken (l ∷ ls) next = unless (l .met) (l .number) (firstBroken ls next)
 unfoldable pub refusal : (file correction : List ℕ) (rowsLength : ℕ) → ℕ
 refusal f k n = firstBroken (limits f k n) 0
 
+-- rows for every case: a call that writes none takes them as there, so that 15 never applies
+abbrev pub mostRows : (file : List ℕ) → ℕ
+mostRows f = rowWidth (formatIn f) * mostEvents
+
 -- ---- what the number says
 
 abbrev pub MeetsAll : List Limit → Type 0

@@ -4,6 +4,8 @@ use mathlib.Core.List.{List}
 use mathlib.Core.Path.{_≡_}
 use native.Mathlib.Nat.{le-refl}
 use native.Mathlib.Omega.{arith}
+use Rattle.binary.proofs.WordLaws.{within-positive}
+use Rattle.tariff.specs.Ranges.{highestPrice, highestPriceChange, highestFuelMoney}
 use Rattle.casefile.specs.declared.layout.Format.{Format}
 use Rattle.casefile.specs.Layout.{mostHours}
 use Rattle.casefile.specs.Decode.{formatIn, sectionOf, eventsIn, caseIn, decode}
@@ -25,11 +27,13 @@ module _ (format : Format) (u p e : List ℕ) (acc : Accepted format u p e) wher
         hours = λ i. le-refl mostHours;
         withheld = λ i h l m k. (
           amount-bound format u e (acc .units-fine) (acc .events-listed) (acc .amounts-fine) i h l m (omega arith),
-          cell-ranges format e (acc .events-fine) i h l m .withheld k,
+          within-positive 32 highestPrice _ (cell-ranges format e (acc .events-fine) i h l m .withheld k),
         );
         dispatch = λ i h l m k. cell-ranges format e (acc .events-fine) i h l m .dispatch k;
-        fuel = λ i h l m k. cell-ranges format e (acc .events-fine) i h l m .fuel k;
-        money = λ i l k. let v = event-ranges format e (acc .events-fine) i l in (v .guarantee k, v .congestion k);
+        fuel = λ i h l m k.
+            let v = cell-ranges format e (acc .events-fine) i h l m .fuel k in
+            (v .0, within-positive 32 highestPriceChange _ (v .1));
+        money = λ i l k. let v = event-ranges format e (acc .events-fine) i l in (within-positive 32 highestFuelMoney _ (v .guarantee k), within-positive 32 highestFuelMoney _ (v .congestion k));
       }
 
 -- a case that breaks no limit is accepted

@@ -88,21 +88,28 @@ module _ (format : Format) (u r p e groups leaders masks : List ℕ) (acc : Acce
 
   -- ---- Withheld
 
-  instance-mask : (i : ℕ) → i < n → instanceAt format e masks i ≡ isInstance c i
+  pub instance-mask : (i : ℕ) → i < n → instanceAt format e masks i ≡ isInstance c i
   unfolding instanceAt isInstance caseIn
   instance-mask i l = rw (impact-mask i l)
 
+  pub row-counts : (i k j : ℕ) → i < n → j < n
+      → rowCounts format e groups masks (getD groups i 0) (eventsIn format e .market i) (eventsIn format e .period i) k j ≡ countsHere c k i j
+  unfolding rowCounts instanceOf countsHere caseIn
+  row-counts i k j l m = rw (instance-mask j m, found .group-held j m, found .group-held i l)
+
+  pub entry-counts : (i k j : ℕ) → i < n
+      → entryCounts p (getD groups i 0) (eventsIn format e .market i) (eventsIn format e .period i) k j ≡ countsPast c k i (pastIn p .entry j)
+  unfolding entryCounts entryOf countsPast caseIn
+  entry-counts i k j l = rw (found .group-held i l)
+
   rows-here : (i k : ℕ) → i < n
       → countTo i (rowCounts format e groups masks (getD groups i 0) (eventsIn format e .market i) (eventsIn format e .period i) k) ≡ countTo i (countsHere c k i)
-  unfolding rowCounts instanceOf countsHere caseIn
-  rows-here i k l =
-      count-same i _ _ (λ j m. rw (instance-mask j (omega arith), found .group-held j (omega arith), found .group-held i l))
+  rows-here i k l = count-same i _ _ (λ j m. row-counts i k j l (omega arith))
 
   entries : (i k : ℕ) → i < n
       → countTo (pastIn p .count) (entryCounts p (getD groups i 0) (eventsIn format e .market i) (eventsIn format e .period i) k)
       ≡ countTo (pastIn p .count) (λ j. countsPast c k i (pastIn p .entry j))
-  unfolding entryCounts entryOf countsPast caseIn
-  entries i k l = count-same (pastIn p .count) _ _ (λ j m. rw (found .group-held i l))
+  entries i k l = count-same (pastIn p .count) _ _ (λ j m. entry-counts i k j l)
 
   -- N3 and N2 of the case
   pub instances-are : (i : ℕ) → i < n → instancesAt format p e groups masks i ≡ record { n3 = N3 c i; n2 = N2 c i }
@@ -114,9 +121,20 @@ module _ (format : Format) (u r p e groups leaders masks : List ℕ) (acc : Acce
       go true x y = refl
       go false x y = refl
 
-  amount-is : (i : ℕ) → i < n → sumTo mostHours (hourEnergy (positivePart 32) (cellsFrom format e i) (getD masks i 0)) ≡ withheldAmount c i
-  unfolding hourEnergy withheldAmount caseIn eventsIn
-  amount-is i l = sum-same mostHours _ _ (λ h m. rw (mask-bit i h l m, cell-amount format e i h, cell-price format e i h))
+  -- the terms of an event's own hours
+  pub hour-energy-is : (part : ℕ → ℕ) (i h : ℕ) → i < n → h < mostHours
+      → hourEnergy part (cellsFrom format e i) (getD masks i 0) h ≡ cond (flagged c i h) (c .a i h * part (c .events .b i h)) 0
+  unfolding hourEnergy caseIn eventsIn
+  hour-energy-is part i h l m = rw (mask-bit i h l m, cell-amount format e i h, cell-price format e i h)
+
+  pub hour-revenue-is : (i h : ℕ) → i < n → h < mostHours
+      → hourRevenue (cellsFrom format e i) (getD masks i 0) h ≡ cond (flagged c i h) (c .events .b i h) 0
+  unfolding hourRevenue caseIn eventsIn
+  hour-revenue-is i h l m = rw (mask-bit i h l m, cell-price format e i h)
+
+  pub amount-is : (i : ℕ) → i < n → sumTo mostHours (hourEnergy (positivePart 32) (cellsFrom format e i) (getD masks i 0)) ≡ withheldAmount c i
+  unfolding withheldAmount caseIn eventsIn
+  amount-is i l = sum-same mostHours _ _ (λ h m. hour-energy-is (positivePart 32) i h l m)
 
   some : (k i : ℕ) → instances c k i ≡ 0 → ⊥
   unfolding instances
@@ -140,9 +158,9 @@ module _ (format : Format) (u r p e groups leaders masks : List ℕ) (acc : Acce
 
   -- ---- Dispatch
 
-  revenue-is : (i : ℕ) → i < n → sumTo mostHours (hourRevenue (cellsFrom format e i) (getD masks i 0)) ≡ dispatchRevenue c i
-  unfolding hourRevenue dispatchRevenue caseIn eventsIn
-  revenue-is i l = sum-same mostHours _ _ (λ h m. rw (mask-bit i h l m, cell-price format e i h))
+  pub revenue-is : (i : ℕ) → i < n → sumTo mostHours (hourRevenue (cellsFrom format e i) (getD masks i 0)) ≡ dispatchRevenue c i
+  unfolding dispatchRevenue caseIn eventsIn
+  revenue-is i l = sum-same mostHours _ _ (λ h m. hour-revenue-is i h l m)
 
   dispatch-is : (i : ℕ) → i < n → dispatchRow format e masks i ≡ row (dispatchMultiplier c i) 0 0 (dispatchPenaltyOf c i)
   unfolding dispatchRow noSanction dispatchMultiplier dispatchPenaltyOf
@@ -176,17 +194,28 @@ module _ (format : Format) (u r p e groups leaders masks : List ℕ) (acc : Acce
       (ap (λ (b : Bool). fuelMultiplierAfter (b || pastFuel c (eventsIn format e .day i) (groupOf c i)))
       (any-same i _ _ (λ j m. rw (held j m, found .group-held j (omega arith)))))
 
-  fuel-is : (penalties : List ℕ) (i : ℕ) → i < n → Holds i penalties (penalty c) → eventsIn format e .kind i ≡ 3 → leaderOf c i ≡ i
-      → fuelRow format p e groups leaders masks penalties i ≡ row (fuelMultiplier c i) 0 0 (fuelPenaltyOf c i)
-  unfolding fuelRow partyPenalty partyDay fuelPenaltyOf fuelPenaltyUnder gain loss tccChange caseIn
-  fuel-is penalties i l held k lead =
+  -- the sums of the party-day that event i leads
+  pub day-is : (i : ℕ) → i < n → eventsIn format e .kind i ≡ 3 → leaderOf c i ≡ i
+      → partyDay format e leaders (getD masks i 0) i n
+      ≡ record {
+        gain = gain c i;
+        loss = loss c i;
+        rise = sumTogether c i (λ j. positivePart 32 (c .events .R j));
+        fall = sumTogether c i (λ j. negativePart 32 (c .events .R j));
+      }
+  unfolding partyDay gain loss caseIn
+  day-is i l k lead =
       rw (
-        multiplier-is penalties i l held,
         led i _ (energyPart (positivePart 32) c i) l k lead (λ j. energy-is (positivePart 32) i j l k),
         led i _ (energyPart (negativePart 32) c i) l k lead (λ j. energy-is (negativePart 32) i j l k),
         led i (tccAt format (positivePart 32) e) (λ j. positivePart 32 (c .events .R j)) l k lead (λ j. refl),
         led i (tccAt format (negativePart 32) e) (λ j. negativePart 32 (c .events .R j)) l k lead (λ j. refl),
       )
+
+  fuel-is : (penalties : List ℕ) (i : ℕ) → i < n → Holds i penalties (penalty c) → eventsIn format e .kind i ≡ 3 → leaderOf c i ≡ i
+      → fuelRow format p e groups leaders masks penalties i ≡ row (fuelMultiplier c i) 0 0 (fuelPenaltyOf c i)
+  unfolding fuelRow partyPenalty fuelPenaltyOf fuelPenaltyUnder tccChange caseIn
+  fuel-is penalties i l held k lead = rw (multiplier-is penalties i l held, day-is i l k lead)
 
   -- the lowest unit's row is the leader's
   stands-is : (i : ℕ) → i < n

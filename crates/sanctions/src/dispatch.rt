@@ -17,7 +17,7 @@ use casefile::layout::Format;
 use tariff::sanction_rules::dispatch_penalty;
 
 // The added revenue, where the mask has the hour.
-fn hour_revenue(cells: &[u8], mask: u32, h: usize) -> u32
+pub fn hour_revenue(cells: &[u8], mask: u32, h: usize) -> u32
     requires { ⌜ (h < mostHours) × (cellWidth * mostHours ≤ length (now cells)) ⌝ }
     ensures { λ r. ⌜ r ≡ hourRevenue (now (cells .entry)) mask h ⌝ }
 {
@@ -28,7 +28,7 @@ fn hour_revenue(cells: &[u8], mask: u32, h: usize) -> u32
 }
 
 // The sum over flagged hours.
-fn revenue(cells: &[u8], mask: u32) -> u64
+pub fn revenue(cells: &[u8], mask: u32) -> u64
     requires { ⌜ cellWidth * mostHours ≤ length (now cells) ⌝ }
     ensures { λ r. ⌜ (r ≡ sumTo mostHours (hourRevenue (now (cells .entry)) mask)) × (r ≤ 1000000000000000000) ⌝ }
 {

@@ -43,7 +43,7 @@ pub struct PartyDay {
 }
 
 // a × b where the mask has the hour: its gain or its loss.
-fn hour_energy(cells: &[u8], mask: u32, h: usize) -> Energy
+pub fn hour_energy(cells: &[u8], mask: u32, h: usize) -> Energy
     requires { ⌜ (h < mostHours) × (cellWidth * mostHours ≤ length (now cells)) ⌝ }
     ensures { λ r. ⌜ (r .gain ≡ hourEnergy (positivePart 32) (now (cells .entry)) mask h) × (r .loss ≡ hourEnergy (negativePart 32) (now (cells .entry)) mask h) ⌝ }
 {
@@ -109,7 +109,7 @@ fn party_share(
 }
 
 // The sums of the party-day that event i leads: no event before it is of that party-day, and none from its run's end on.
-fn party_day(
+pub fn party_day(
     format: Format,
     events: &[u8],
     leaders: &[usize; layout::MOST_EVENTS],

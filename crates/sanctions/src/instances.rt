@@ -40,7 +40,12 @@ pub fn with_impact(
 }
 
 // Whether event j is an instance.
-fn is_instance(format: Format, events: &[u8], masks: &[u32; layout::MOST_EVENTS], j: usize) -> bool
+pub fn is_instance(
+    format: Format,
+    events: &[u8],
+    masks: &[u32; layout::MOST_EVENTS],
+    j: usize,
+) -> bool
     requires { ⌜ (j < eventsIn format (now events) .count) × (j < mostEvents) ⌝ }
     ensures { λ r. ⌜ r ≡ instanceAt format (now (events .entry)) (now (masks .entry)) j ⌝ }
 {
@@ -50,7 +55,7 @@ fn is_instance(format: Format, events: &[u8], masks: &[u32; layout::MOST_EVENTS]
 }
 
 // Whether event j is an instance of a group and market.
-fn is_instance_of(
+pub fn is_instance_of(
     format: Format,
     events: &[u8],
     groups: &[u16; layout::MOST_EVENTS],
@@ -68,7 +73,7 @@ fn is_instance_of(
     instance & (groups[j] == group) & (its_market == market)
 }
 
-fn period_of(format: Format, events: &[u8], j: usize) -> u16
+pub fn period_of(format: Format, events: &[u8], j: usize) -> u16
     requires { ⌜ j < eventsIn format (now events) .count ⌝ }
     ensures { λ r. ⌜ r ≡ eventsIn format (now (events .entry)) .period j ⌝ }
 {
@@ -104,7 +109,7 @@ fn instances_here(
 }
 
 // Whether past entry j is of kind 1, and of a group and market.
-fn is_entry(past: &[u8], group: u16, market: u8, j: usize) -> bool
+pub fn is_entry(past: &[u8], group: u16, market: u8, j: usize) -> bool
     requires { ⌜ j < pastIn (now past) .count ⌝ }
     ensures { λ r. ⌜ r ≡ entryOf (now (past .entry)) group market j ⌝ }
 {
@@ -115,7 +120,7 @@ fn is_entry(past: &[u8], group: u16, market: u8, j: usize) -> bool
     (kind == 1) & (its_group == group) & (its_market == market)
 }
 
-fn entry_period(past: &[u8], j: usize) -> u16
+pub fn entry_period(past: &[u8], j: usize) -> u16
     requires { ⌜ j < pastIn (now past) .count ⌝ }
     ensures { λ r. ⌜ r ≡ pastIn (now (past .entry)) .entry j .period ⌝ }
 {

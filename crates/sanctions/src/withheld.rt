@@ -22,7 +22,7 @@ use tariff::sanction_rules::ladder;
 use tariff::sanction_rules::withheld_penalty;
 
 // a × (b, or 0 if negative), where the mask has the hour.
-fn hour_amount(cells: &[u8], mask: u32, h: usize) -> u64
+pub fn hour_amount(cells: &[u8], mask: u32, h: usize) -> u64
     requires { ⌜ (h < mostHours) × (cellWidth * mostHours ≤ length (now cells)) ⌝ }
     ensures { λ r. ⌜ r ≡ hourEnergy (positivePart 32) (now (cells .entry)) mask h ⌝ }
 {
@@ -34,7 +34,7 @@ fn hour_amount(cells: &[u8], mask: u32, h: usize) -> u64
 }
 
 // The sum over flagged hours.
-fn amount(cells: &[u8], mask: u32) -> u64
+pub fn amount(cells: &[u8], mask: u32) -> u64
     requires { ⌜ (cellWidth * mostHours ≤ length (now cells)) × SmallAmounts (now cells) ⌝ }
     ensures { λ r. ⌜ (r ≡ sumTo mostHours (hourEnergy (positivePart 32) (now (cells .entry)) mask)) × (r ≤ 10000000000000000) ⌝ }
 {

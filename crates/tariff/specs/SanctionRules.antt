@@ -31,7 +31,11 @@ fuelDayCounts d e = ltb e d && leb d (e + 183)
 unfoldable pub fuelCharge : (M gain loss T : ℕ) → ℕ
 fuelCharge M gain loss T = M * gain + 20 * T - M * loss
 
+-- $5,000 in twentieths of a cent
+abbrev pub leastCharge : ℕ
+leastCharge = 10000000
+
 -- an X below $5,000 is no penalty (S14)
 unfoldable pub fuelPenalty : (M gain loss T : ℕ) → ℕ
 fuelPenalty M gain loss T =
-    cond (ltb (fuelCharge M gain loss T) 10000000) 0 (cents 20 (fuelCharge M gain loss T))
+    cond (ltb (fuelCharge M gain loss T) leastCharge) 0 (cents 20 (fuelCharge M gain loss T))

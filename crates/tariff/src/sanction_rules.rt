@@ -1,7 +1,11 @@
 // Multipliers in halves and penalties in cents (tariff 23.4.3).
 ghost use mathlib.Core.Path.{_≡_};
 ghost use Prim.Native.Nat.{_+_, _≤_, _<_};
-ghost use Rattle.tariff.specs.SanctionRules.{cents, periodCounts, ladder, withheldPenalty, dispatchPenalty, fuelDayCounts, fuelPenalty};
+ghost use Rattle.tariff.specs.SanctionRules.{cents, periodCounts, ladder, withheldPenalty, dispatchPenalty, fuelDayCounts, fuelCharge, fuelPenalty};
+use binary::numbers::difference;
+
+// $5,000 in twentieths of a cent.
+pub const LEAST_CHARGE: u64 = 10_000_000;
 
 // x in that many parts of a cent, rounded halves up to the cent.
 pub fn cents(parts: u64, x: u64) -> u64
@@ -54,15 +58,22 @@ pub fn fuel_day_counts(d: u32, e: u32) -> bool
     (e < d) & ((d as u64) <= (e as u64) + 183)
 }
 
-// The penalty for inaccurate fuel data where E is gain less loss.
+// X in twentieths of a cent, or 0 if negative, where E is gain less loss.
+pub fn fuel_charge(m: u8, gain: u64, loss: u64, t: u64) -> u64
+    requires { ⌜ (m ≤ 3) × (gain ≤ 1000000000000000000) × (loss ≤ 1000000000000000000) × (t ≤ 100000000000000000) ⌝ }
+    ensures { λ r. ⌜ (r ≡ fuelCharge m gain loss t) × (r ≤ 5000000000000000000) ⌝ }
+{
+    difference((m as u64) * gain + 20 * t, (m as u64) * loss)
+}
+
+// The penalty for inaccurate fuel data: none where X is below $5,000.
 pub fn fuel_penalty(m: u8, gain: u64, loss: u64, t: u64) -> u64
     requires { ⌜ (m ≤ 3) × (gain ≤ 1000000000000000000) × (loss ≤ 1000000000000000000) × (t ≤ 100000000000000000) ⌝ }
     ensures { λ r. ⌜ r ≡ fuelPenalty m gain loss t ⌝ }
 {
-    let up = (m as u64) * gain + 20 * t;
-    let down = (m as u64) * loss;
-    if up < 10000000 + down {
+    let x = fuel_charge(m, gain, loss, t);
+    if x < LEAST_CHARGE {
         return 0;
     }
-    cents(20, up - down)
+    cents(20, x)
 }

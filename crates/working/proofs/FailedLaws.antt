@@ -10,12 +10,12 @@ use Rattle.casefile.specs.Layout.{mostHours}
 use Rattle.casefile.specs.Case.{Case}
 use Rattle.casefile.specs.Decode.{decode}
 use Rattle.casefile.specs.Lookup.{unitOf, referenceOf}
-use Rattle.limits.specs.Refusal.{refusal}
+use Rattle.limits.specs.Refusal.{refusal, mostRows}
 use Rattle.conduct.specs.Flags.{tight, sumTogether, timeTotal, bidFlag, groupCapability, groupSum, withheldFlag, dispatchFlag, fuelFlag, flagged}
 use Rattle.casefile.specs.Lookup.{bidLevel}
 use Rattle.conduct.specs.StageFlags.{partySum}
 use Rattle.conduct.proofs.SumLaws.{sum-union}
-use Rattle.working.specs.Working.{fuelEvents, sumsOf, totalOf, figuresWith, figuresOf, comparisonsFor, workingFrom, workingAt, refusedWorking, mostRows, workingOf, FlaggedWhereFailed}
+use Rattle.working.specs.Working.{fuelEvents, sumsOf, totalOf, figuresWith, figuresOf, comparisonsFor, workingFrom, workingAt, refusedWorking, workingOf, FlaggedWhereFailed}
 use Rattle.working.proofs.WorkingLaws.{fuel-sum}
 
 module _ (c : Case) (i h : ℕ) where

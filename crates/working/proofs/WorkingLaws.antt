@@ -15,11 +15,9 @@ use Rattle.binary.proofs.BoundedLaws.{sum-same}
 use Rattle.binary.proofs.MaskLaws.{bit-mask}
 use Rattle.casefile.specs.Layout.{mostHours}
 use Rattle.casefile.specs.Case.{Case}
-use Rattle.casefile.specs.declared.events.Event.{Event}
 use Rattle.casefile.specs.Decode.{formatIn, sectionOf, eventsIn, caseIn, decode}
 use Rattle.casefile.specs.Lookup.{unitOf, groupOf, bidLevel}
-use Rattle.limits.specs.Refusal.{refusal}
-use Rattle.casefile.specs.StageRead.{eventAt}
+use Rattle.limits.specs.Refusal.{refusal, mostRows}
 use Rattle.casefile.proofs.RecordLaws.{count-is}
 use Rattle.limits.specs.StageChecked.{AcceptedFile}
 use Rattle.conduct.specs.Flags.{together, sumTogether, timeBid, timeTotal, groupCapability, groupSum, flagged, flagMask}
@@ -38,7 +36,7 @@ use Rattle.working.specs.declared.figures.Sums.{Sums}
 use Rattle.working.specs.declared.figures.Figures.{Figures}
 use Rattle.working.specs.declared.figures.Counts.{Counts}
 use Rattle.working.specs.declared.figures.Working.{Working}
-use Rattle.working.specs.Working.{fuelEvents, sumsOf, totalOf, figuresWith, figuresOf, workingFrom, countsOf, workingAt, refusedWorking, mostRows, workingOf}
+use Rattle.working.specs.Working.{fuelEvents, sumsOf, totalOf, figuresWith, figuresOf, workingFrom, countsOf, workingAt, refusedWorking, workingOf}
 
 -- ---- sums of a party-day
 
@@ -90,10 +88,6 @@ module _ (c : Case) (i h sum : ℕ) (held : (c .events .kind i ≡ 4 → ⊥) �
 -- ---- the events of a file
 
 module _ (format : Format) (f e : List ℕ) (ef : format ≡ formatIn f) (ee : e ≡ sectionOf f 3) where
-  pub kind-of : (event : Event) (i : ℕ) → event ≡ eventAt (eventsIn format e) i → event .kind ≡ decode f .events .kind i
-  unfolding decode caseIn eventAt
-  kind-of event i q = rw (q, ef, ee)
-
   figure-is : (j h : ℕ) → partyFigure (caseIn format [] [] [] e) j h ≡ partyFigure (decode f) j h
   unfolding partyFigure decode caseIn
   figure-is j h = rw (ef, ee)

@@ -11,11 +11,11 @@ use Rattle.binary.specs.Word.{positivePart, negativePart}
 use Rattle.tariff.specs.declared.comparisons.Comparisons.{Comparisons}
 use Rattle.tariff.specs.ConductTests.{increase}
 use Rattle.tariff.specs.Comparisons.{noComparison, comparisonsOf, withheldComparisons, dispatchComparisons, fuelComparisons, bidComparisons}
-use Rattle.casefile.specs.Layout.{mostHours, mostEvents, rowWidth}
+use Rattle.casefile.specs.Layout.{mostHours}
 use Rattle.casefile.specs.Case.{Case}
-use Rattle.casefile.specs.Decode.{formatIn, decode}
+use Rattle.casefile.specs.Decode.{decode}
 use Rattle.casefile.specs.Lookup.{unitOf}
-use Rattle.limits.specs.Refusal.{refusal}
+use Rattle.limits.specs.Refusal.{refusal, mostRows}
 use Rattle.conduct.specs.Flags.{tight, sumTogether, timeTotal, groupCapability, groupSum, flagged}
 use Rattle.casefile.specs.Lookup.{bidLevel}
 use Rattle.sanctions.specs.Penalties.{N3, N2}
@@ -129,10 +129,6 @@ refusedWorking n =
       left = replicate 4 0;
       right = replicate 4 0;
     }
-
--- rows for every case, so that limit 15 never applies
-abbrev pub mostRows : (file : List ℕ) → ℕ
-mostRows f = rowWidth (formatIn f) * mostEvents
 
 -- the case's refusal, else 10 where there is no such event or hour
 unfoldable pub workingOf : (file correction : List ℕ) (event hour : ℕ) → Working

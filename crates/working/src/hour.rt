@@ -42,9 +42,6 @@ use tariff::comparisons::no_comparisons;
 use tariff::comparisons::withheld_comparisons;
 use tariff::conduct_tests::increase;
 
-// Limit 15 never applies: rows for every case.
-const MOST_ROWS: usize = layout::ROW_WIDTH * layout::MOST_EVENTS;
-
 // What the party-day of event i adds to in hour h.
 fn party_figures(
     file: &[u8],
@@ -249,7 +246,7 @@ pub fn working<'a>(file: &'a [u8], correction: &'a [u8], event: usize, hour: usi
     let number = check_into(
         file,
         correction,
-        MOST_ROWS,
+        layout::MOST_ROWS,
         &mut places,
         &mut levels,
         &mut corrects,

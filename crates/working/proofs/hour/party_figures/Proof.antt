@@ -7,9 +7,9 @@ use Rattle.casefile.specs.Decode.{eventsIn}
 use Rattle.conduct.specs.StageFlags.{Led}
 use Rattle.conduct.proofs.StageLaws.{place-in}
 use Rattle.conduct.proofs.FlagLaws.{party-within}
-use Rattle.casefile.proofs.RecordLaws.{count-is}
+use Rattle.casefile.proofs.RecordLaws.{count-is, kind-of}
 use Rattle.conduct.proofs.FileLaws.{has-section, header-long, file-runs}
-use Rattle.working.proofs.WorkingLaws.{sums-are, kind-of, leader-below, led-sum, listed-is, found-led}
+use Rattle.working.proofs.WorkingLaws.{sums-are, leader-below, led-sum, listed-is, found-led}
 use Rattle.working.proofs.hour.party_figures.Statement.{statement}
 use Rattle.working.proofs.hour.party_figures.Tie as tie
 

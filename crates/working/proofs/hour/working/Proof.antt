@@ -1,11 +1,10 @@
 use mathlib.Core.Path.{_≡_, _∙_, sym}
 use native.Mathlib.Omega.{arith}
 use Rattle.casefile.specs.Decode.{decode}
-use Rattle.limits.specs.Refusal.{refusal}
+use Rattle.limits.specs.Refusal.{refusal, mostRows}
 use Rattle.limits.specs.StageChecked.{AcceptedFile}
 use Rattle.casefile.proofs.RecordLaws.{count-is}
 use Rattle.conduct.proofs.FileLaws.{has-section, header-long}
-use Rattle.working.specs.Working.{mostRows}
 use Rattle.working.proofs.WorkingLaws.{inside, refused-is, working-is, outside-is}
 use Rattle.working.proofs.hour.working.Statement.{statement}
 use Rattle.working.proofs.hour.working.Tie as tie

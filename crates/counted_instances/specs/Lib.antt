@@ -1,0 +1,2 @@
+pub mod CountedInstances
+pub mod StageCounted

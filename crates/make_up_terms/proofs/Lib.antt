@@ -1,0 +1,2 @@
+pub mod MakeUpLaws
+pub mod ByTermsLaws

@@ -1,0 +1,3 @@
+pub mod MakeUpWorking
+pub mod ByTerms
+pub mod StageMakeUp

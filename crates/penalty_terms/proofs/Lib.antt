@@ -1,0 +1,4 @@
+pub mod BearerLaws
+pub mod TermLaws
+pub mod PartyBounds
+pub mod CallLaws

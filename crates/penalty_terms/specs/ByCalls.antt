@@ -1,0 +1,50 @@
+-- The penalty follows from its terms by the smaller calls (docs/RULES.md, R13): what they give for the terms of an event of an accepted case
+-- is the penalty of the row that bears it.
+use Prim.Native.Nat.{ℕ, _-_, _^_}
+use mathlib.Core.Bool.{cond}
+use mathlib.Core.List.{List}
+use mathlib.Core.Path.{_≡_}
+use lib.Dec.{eqb}
+use lib.ListN.{getD}
+use Rattle.binary.specs.Bounded.{sumTo}
+use Rattle.binary.specs.Lists.{listTo}
+use Rattle.calls.specs.Answers.{given}
+use Rattle.calls.specs.SanctionCalls.{withheldPenaltyAnswer, dispatchPenaltyAnswer, fuelPenaltyAnswer}
+use Rattle.casefile.specs.Layout.{mostHours}
+use Rattle.casefile.specs.Case.{Case}
+use Rattle.casefile.specs.Decode.{decode}
+use Rattle.conduct.specs.Flags.{flagged}
+use Rattle.penalty_terms.specs.declared.penalty_working.PenaltyWorking.{PenaltyWorking}
+use Rattle.penalty_terms.specs.PenaltyWorking.{penaltyWorkingOf}
+
+-- a and b of an hour, 0 where it is not flagged
+unfoldable pub flaggedAmount : Case → (i h : ℕ) → ℕ
+flaggedAmount c i h = cond (flagged c i h) (c .a i h) 0
+
+unfoldable pub flaggedRevenue : Case → (i h : ℕ) → ℕ
+flaggedRevenue c i h = cond (flagged c i h) (c .events .b i h) 0
+
+-- the word of 64 bits of a number with that positive and negative part, of which one is 0
+unfoldable pub signedWord : (positive negative : ℕ) → ℕ
+signedWord p n = cond (eqb n 0) p (2 ^ 64 - n)
+
+-- the terms of the hours, added
+abbrev pub hoursAdded : PenaltyWorking → ℕ
+hoursAdded w = sumTo mostHours (λ h. getD (w .hours) h 0)
+
+pub record PenaltyByCalls (c : Case) (i : ℕ) (w : PenaltyWorking) : Type 0 where
+  pub amount : c .events .kind i ≡ 1 → hoursAdded w ≡ w .amount
+  pub revenue : c .events .kind i ≡ 2 → hoursAdded w ≡ w .revenue
+  pub withheld : c .events .kind i ≡ 1
+      → withheldPenaltyAnswer (w .multiplier) (listTo mostHours (flaggedAmount c i)) (listTo mostHours (c .events .b i)) ≡ given (w .penalty)
+  pub dispatch : c .events .kind i ≡ 2 → w .multiplier ≡ 3
+      → dispatchPenaltyAnswer (listTo mostHours (flaggedRevenue c i)) ≡ given (w .penalty)
+  pub fuel : c .events .kind i ≡ 3
+      → fuelPenaltyAnswer (signedWord (w .«e_positive») (w .«e_negative»)) (w .t) (w .multiplier) ≡ given (w .penalty)
+
+-- of every working that is given
+abbrev pub ByCalls : Type 0
+ByCalls =
+    (file correction : List ℕ) (event : ℕ)
+    → penaltyWorkingOf file correction event .number ≡ 0
+    → PenaltyByCalls (decode file) event (penaltyWorkingOf file correction event)

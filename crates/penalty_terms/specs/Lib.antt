@@ -1,0 +1,3 @@
+pub mod PenaltyWorking
+pub mod ByCalls
+pub mod StageTerms

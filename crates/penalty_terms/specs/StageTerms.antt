@@ -1,0 +1,48 @@
+-- The terms as the code finds them in an event's cells, and in the tables of flags and leaders.
+use Prim.Native.Nat.{ℕ, _-_}
+use mathlib.Core.Bool.{false, cond}
+use mathlib.Core.List.{List}
+use lib.Dec.{ltb, eqb}
+use lib.ListN.{getD}
+use Rattle.binary.specs.Bounded.{sumTo}
+use Rattle.binary.specs.Word.{positivePart, negativePart}
+use Rattle.tariff.specs.SanctionRules.{fuelCharge, leastCharge}
+use Rattle.casefile.specs.declared.layout.Format.{Format}
+use Rattle.casefile.specs.Layout.{mostHours}
+use Rattle.casefile.specs.Decode.{eventsIn}
+use Rattle.sanctions.specs.StageTables.{hourEnergy, hourRevenue, partyDay}
+use Rattle.sanctions.specs.declared.fuel.PartyDay.{PartyDay}
+use Rattle.penalty_terms.specs.declared.penalty_working.FuelTerms.{FuelTerms}
+
+-- what hour h adds, and takes from E
+unfoldable pub termIn : (kind : ℕ) (cells : List ℕ) (mask h : ℕ) → ℕ
+termIn kind cells mask h =
+    cond (eqb kind 2) (hourRevenue cells mask h) (cond (eqb kind 4) 0 (hourEnergy (positivePart 32) cells mask h))
+
+unfoldable pub lossIn : (kind : ℕ) (cells : List ℕ) (mask h : ℕ) → ℕ
+lossIn kind cells mask h = cond (eqb kind 3) (hourEnergy (negativePart 32) cells mask h) 0
+
+-- the sums over the hours
+unfoldable pub amountIn : (kind : ℕ) (cells : List ℕ) (mask : ℕ) → ℕ
+amountIn kind cells mask = cond (eqb kind 1) (sumTo mostHours (hourEnergy (positivePart 32) cells mask)) 0
+
+unfoldable pub revenueIn : (kind : ℕ) (cells : List ℕ) (mask : ℕ) → ℕ
+revenueIn kind cells mask = cond (eqb kind 2) (sumTo mostHours (hourRevenue cells mask)) 0
+
+-- the terms of a party-day under M
+unfoldable pub fuelOf : (M : ℕ) → PartyDay → FuelTerms
+fuelOf M d =
+    record {
+      «e_positive» = d .gain - d .loss;
+      «e_negative» = d .loss - d .gain;
+      t = d .rise - d .fall;
+      x = fuelCharge M (d .gain) (d .loss) (d .rise - d .fall);
+      below = ltb (fuelCharge M (d .gain) (d .loss) (d .rise - d .fall)) leastCharge;
+    }
+
+unfoldable pub noFuel : FuelTerms
+noFuel = record { «e_positive» = 0; «e_negative» = 0; t = 0; x = 0; below = false }
+
+unfoldable pub fuelIn : Format → (events leaders masks : List ℕ) (kind M row : ℕ) → FuelTerms
+fuelIn format events leaders masks kind M row =
+    cond (eqb kind 3) (fuelOf M (partyDay format events leaders (getD masks row 0) row (eventsIn format events .count))) noFuel

@@ -1,0 +1,63 @@
+// The terms of an event's hours.
+ghost use mathlib.Core.Path.{_≡_};
+ghost use Prim.Native.Nat.{_*_, _≤_, _<_};
+ghost use lib.ListN.{length};
+ghost use Rattle.binary.specs.Lists.{listTo};
+ghost use Rattle.casefile.specs.Layout.{cellWidth, mostHours};
+ghost use Rattle.penalty_terms.specs.StageTerms.{termIn, lossIn};
+use casefile::layout;
+use sanctions::dispatch::hour_revenue;
+use sanctions::fuel::hour_energy;
+use sanctions::withheld::hour_amount;
+
+// What hour h adds, where the mask has it; a bid has no such term.
+fn term_at(kind: u8, cells: &[u8], mask: u32, h: usize) -> u64
+    requires { ⌜ (h < mostHours) × (cellWidth * mostHours ≤ length (now cells)) ⌝ }
+    ensures { λ r. ⌜ r ≡ termIn kind (now (cells .entry)) mask h ⌝ }
+{
+    if kind == 2 {
+        return hour_revenue(cells, mask, h) as u64;
+    }
+    if kind == 4 {
+        return 0;
+    }
+    hour_amount(cells, mask, h)
+}
+
+pub fn hour_terms(kind: u8, cells: &[u8], mask: u32) -> [u64; layout::HOURS]
+    requires { ⌜ cellWidth * mostHours ≤ length (now cells) ⌝ }
+    ensures { λ r. ⌜ r ≡ listTo mostHours (termIn kind (now (cells .entry)) mask) ⌝ }
+{
+    let mut terms = [0u64; layout::HOURS];
+    let mut h = 0;
+    while h < layout::HOURS {
+        terms[h] = term_at(kind, cells, mask, h);
+        h += 1;
+    }
+    terms
+}
+
+// What hour h takes from E; fuel alone has losses.
+fn loss_at(kind: u8, cells: &[u8], mask: u32, h: usize) -> u64
+    requires { ⌜ (h < mostHours) × (cellWidth * mostHours ≤ length (now cells)) ⌝ }
+    ensures { λ r. ⌜ r ≡ lossIn kind (now (cells .entry)) mask h ⌝ }
+{
+    if kind == 3 {
+        let hour = hour_energy(cells, mask, h);
+        return hour.loss;
+    }
+    0
+}
+
+pub fn hour_losses(kind: u8, cells: &[u8], mask: u32) -> [u64; layout::HOURS]
+    requires { ⌜ cellWidth * mostHours ≤ length (now cells) ⌝ }
+    ensures { λ r. ⌜ r ≡ listTo mostHours (lossIn kind (now (cells .entry)) mask) ⌝ }
+{
+    let mut losses = [0u64; layout::HOURS];
+    let mut h = 0;
+    while h < layout::HOURS {
+        losses[h] = loss_at(kind, cells, mask, h);
+        h += 1;
+    }
+    losses
+}

@@ -1,0 +1,1 @@
+// The working of money by computation.
