@@ -73,7 +73,8 @@ pub fn settle_case(case: &Case) -> Vec<Row> {
     rows
 }
 
-fn unit_of(case: &Case, event: usize) -> &Unit {
+/// The unit of an event.
+pub fn unit_of(case: &Case, event: usize) -> &Unit {
     &case.units[&case.events[event].unit]
 }
 

@@ -191,6 +191,11 @@ impl HourMask {
         HourMask(self.0 | other.0)
     }
 
+    /// An amount that is not negative for each hour of the set, 0 for the others.
+    pub fn amounts(self, amount: impl Fn(usize) -> i64) -> [u64; HOURS] {
+        std::array::from_fn(|hour| if self.has(hour) { amount(hour) as u64 } else { 0 })
+    }
+
     /// The hours of the set, rising.
     pub fn hours(self) -> impl DoubleEndedIterator<Item = usize> {
         (0..HOURS).filter(move |&hour| self.has(hour))
