@@ -5,9 +5,12 @@
 
 #![allow(unsafe_code)]
 
+mod money;
+
 use crate::calls::Times;
 use crate::numbers::{Cents, Mask, Multiplier};
 use crate::{Comparison, Refused, Settled, Working};
+pub use money::{instances, make_up_working, penalty_working};
 
 /// The refusal's number, or 0 and the figure.
 #[repr(C)]
