@@ -1,6 +1,6 @@
-/* Calls the archive from C: settles and lists the shipped case, refuses changes of it, and works the pencil sheet. The argument is the
-   repository's root, the current folder where it is left out. Every buffer that is lent comes from malloc with exactly its length, so
-   that a checker of memory sees the first byte beyond it. Exit status 0 where every answer is right. */
+/* Calls the archive from C: settles and lists the shipped case, refuses changes of it, shows its working and that of a case with bids, and works
+   the pencil sheet. The argument is the repository's root, the current folder where it is left out. Every buffer that is lent comes from malloc
+   with exactly its length, so that a checker of memory sees the first byte beyond it. Exit status 0 where every answer is right. */
 #include "attachment_h.h"
 
 #include <stdio.h>
@@ -173,6 +173,100 @@ static void work_hours(const uint8_t *shipped) {
     free(start);
 }
 
+/* The units and the event of the shipped case, with a reference, a past entry and bids of unit 12 beside them. */
+enum { REFERENCE = 8, PAST = 12, LARGER = HEADER + 2 * UNIT + REFERENCE + PAST + 2 * EVENT };
+
+static uint8_t *larger_case(const uint8_t *shipped) {
+    uint8_t *file = filled(LARGER, 0);
+    uint8_t *reference = file + HEADER + 2 * UNIT;
+    uint8_t *past = reference + REFERENCE;
+    uint8_t *event = past + PAST;
+    uint8_t *bids = event + EVENT;
+    const uint32_t lengths[4] = {2 * UNIT, REFERENCE, PAST, 2 * EVENT};
+    uint32_t offset = HEADER;
+    memcpy(file, shipped, HEADER + 2 * UNIT);
+    for (size_t section = 0; section < 4; section++) {
+        put32(file + 4 + 8 * section, offset);
+        put32(file + 8 + 8 * section, lengths[section]);
+        offset += lengths[section];
+    }
+    put16(reference, 12);
+    put32(reference + 4, 2000);
+    memcpy(past, file + HEADER + 2, 2); /* the group of unit 12 */
+    past[2] = 1;
+    put16(past + 4, 44);
+    memcpy(event, shipped + HEADER + 2 * UNIT, EVENT);
+    bids[0] = 4;
+    put16(bids + 2, 12);
+    put32(bids + 8, 8000);
+    put32(bids + 16, 1);
+    put32(bids + 24, 9000);
+    put32(bids + 28, 5000);
+    put32(bids + 32, 1000);
+    return file;
+}
+
+/* 501 at 4,000 are 2,004,000 tenths of a cent. The past entry is of the same period, so that N3 and N2 are 2 and the multiplier is 2
+   halves: 2 x 2,004,000 / 20 cents. */
+static void work_penalty(const uint8_t *file) {
+    attachment_h_penalty_terms terms = attachment_h_penalty_working(file, LARGER, NULL, 0, 0);
+    expect("penalty", terms.number, 0);
+    expect("penalty, kind", terms.kind, 1);
+    expect("penalty, N3 and N2", terms.n3 * 256 + terms.n2, 514);
+    expect("penalty, multiplier", terms.multiplier, 2);
+    expect("penalty, row", terms.row, 0);
+    expect("penalty, hour 0", terms.hours[0], 2004000);
+    expect("penalty, hour 23", terms.hours[23], 0);
+    expect("penalty, amount", terms.amount, 2004000);
+    expect("penalty, cents", terms.penalty, 200400);
+    terms = attachment_h_penalty_working(file, LARGER, NULL, 0, 2);
+    expect("penalty, no such event", terms.number, 10);
+    expect("penalty, nothing", terms.kind + terms.row + terms.penalty, 0);
+}
+
+static void count_instances(const uint8_t *file) {
+    /* of the past entries bit 0, after 25 bytes of events, for N3 and 57 bytes on for N2 */
+    uint8_t expected[ATTACHMENT_H_INSTANCES_LENGTH] = {0};
+    expected[25] = 1;
+    expected[82] = 1;
+    for (size_t length = ATTACHMENT_H_INSTANCES_LENGTH - 1; length <= ATTACHMENT_H_INSTANCES_LENGTH + 1; length++) {
+        uint8_t *out = filled(length, 0xA5);
+        expect("instances, no such event", attachment_h_instances(file, LARGER, NULL, 0, 2, out, length), 10);
+        for (size_t at = 0; at < length; at++) expect("out as it was", out[at], 0xA5);
+        int fits = length >= sizeof expected;
+        expect("instances", attachment_h_instances(file, LARGER, NULL, 0, 0, out, length), fits ? 0 : 15);
+        if (fits) expect("the bits", memcmp(out, expected, sizeof expected) == 0, 1);
+        for (size_t at = fits ? sizeof expected : 0; at < length; at++) expect("beyond the bits", out[at], 0xA5);
+        free(out);
+    }
+}
+
+/* r is 2,000, so that the bid of 9,000 is flagged, and c 6,000: 1,000 x (6,000 - 5,000) tenths of a cent. */
+static void work_make_up(const uint8_t *file) {
+    uint8_t *correction = filled(REFERENCE, 0);
+    put16(correction, 12);
+    put32(correction + 4, 6000);
+    attachment_h_make_up_terms terms = attachment_h_make_up_working(file, LARGER, correction, REFERENCE, 1);
+    expect("make-up", terms.number, 0);
+    expect("make-up, r", terms.reference, 2000);
+    expect("make-up, c", terms.correct, 6000);
+    expect("make-up, mitigated", terms.mitigated, 1);
+    expect("make-up, restored", terms.restored, 0);
+    expect("make-up, hour 0", terms.hours[0], 1000000);
+    expect("make-up, hour 23", terms.hours[23], 0);
+    expect("make-up, tenths", terms.tenths, 1000000);
+    expect("make-up, cents", terms.make_up, 100000);
+    terms = attachment_h_make_up_working(file, LARGER, NULL, 0, 1);
+    expect("make-up, c is r", terms.correct, 2000);
+    expect("make-up, nothing due", terms.make_up, 0);
+    free(correction);
+    uint8_t *start = copy(file, 35);
+    terms = attachment_h_make_up_working(start, 35, NULL, 0, 1);
+    expect("make-up of 35 bytes", terms.number, 1);
+    expect("make-up, nothing", terms.reference + terms.mitigated + terms.hours[0], 0);
+    free(start);
+}
+
 static void call_rules(void) {
     expect_answer("500 of 5,000", attachment_h_withheld_fails(500, 5000, 500, 20000, false), 0, 0);
     expect_answer("501 of 5,000", attachment_h_withheld_fails(501, 5000, 501, 20000, false), 0, 1);
@@ -221,14 +315,21 @@ int main(int count, char **arguments) {
     _Static_assert(sizeof(attachment_h_times) == 4, "layout of the time answer");
     _Static_assert(sizeof(attachment_h_outcome) == 32, "layout of an outcome");
     _Static_assert(sizeof(attachment_h_hour) == 128, "layout of a working");
+    _Static_assert(sizeof(attachment_h_penalty_terms) == 456, "layout of a penalty's working");
+    _Static_assert(sizeof(attachment_h_make_up_terms) == 232, "layout of a make-up's working");
     const char *root = count > 1 ? arguments[1] : ".";
     uint8_t *shipped = read_file(root, "crates/listing/stdin", CASE);
     uint8_t *listed = read_file(root, "crates/listing/stdout", LISTED);
+    uint8_t *larger = larger_case(shipped);
     check_cases(shipped);
     settle_cases(shipped);
     list_cases(shipped, listed);
     work_hours(shipped);
+    work_penalty(larger);
+    count_instances(larger);
+    work_make_up(larger);
     call_rules();
+    free(larger);
     free(listed);
     free(shipped);
     puts(failures == 0 ? "C: every answer is right" : "C: wrong answers");

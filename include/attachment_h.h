@@ -99,6 +99,44 @@ typedef struct {
     uint64_t right[4];
 } attachment_h_hour;
 
+/* number is 0 and the rest is the working of an event's penalty; or number is that of the refusal and the rest 0. What
+ * the kind of the event lacks is 0. */
+typedef struct {
+    uint8_t number;
+    uint8_t kind;        /* of the event */
+    uint8_t multiplier;  /* in halves, that of the row that bears the penalty; of kind 3 this is M */
+    bool below;          /* kind 3: X is below $5,000, so that there is no penalty */
+    uint16_t n3;         /* of the event's row */
+    uint16_t n2;
+    size_t row;          /* the event whose row bears the penalty: of kind 3 that of the lowest unit of the party-day,
+                            else the event itself */
+    uint64_t amount;     /* kind 1: the sum of hours in tenths of a cent, impact or not */
+    uint64_t revenue;    /* kind 2: the sum of hours in cents, impact or not */
+    uint64_t e_positive; /* kind 3: E of the party-day, in tenths of a cent, or 0 if negative */
+    uint64_t e_negative; /* kind 3: -E, or 0 if negative */
+    uint64_t t;          /* kind 3: T of the party-day, in cents */
+    uint64_t x;          /* kind 3: X = M x E + 20 x T in twentieths of a cent, or 0 if negative */
+    uint64_t penalty;    /* of row `row`, in cents */
+    uint64_t hours[24];  /* the terms of the event's own flagged hours, else 0: kinds 1 and 3 a x (b, or 0 if
+                            negative) in tenths of a cent, kind 2 b in cents; of kind 3 an hour is flagged where some
+                            event of the party-day has it in P */
+    uint64_t losses[24]; /* kind 3: a x (-b, or 0 if negative) of the same hours in tenths of a cent */
+} attachment_h_penalty_terms;
+
+/* number is 0 and the rest is the working of an event's make-up payment; or number is that of the refusal and the rest
+ * 0. Of an event that is no bid (kind 4) the rest is 0. */
+typedef struct {
+    uint8_t number;
+    uint32_t reference; /* r */
+    uint32_t correct;   /* c, of components 0, 1 and 3, which read it; else 0 */
+    uint32_t mitigated; /* the row's mitigated mask */
+    uint32_t restored;  /* of these hours those whose bid is in force again as it was bid: components 1 and 3 with c
+                           other than r, where the bid passes the conduct test of its component with c in place of r */
+    uint64_t tenths;    /* component 0: the sum of hours in tenths of a cent, also where c is r and nothing is due */
+    uint64_t make_up;   /* the row's, in cents */
+    uint64_t hours[24]; /* component 0: of each mitigated hour m x (the lesser of a and c, less b, or 0 if negative) */
+} attachment_h_make_up_terms;
+
 /*
  * Checks a case: its file, its correction (laid out as references; empty for none) and the length of the rows buffer
  * into which it is to be settled. Gives the number of the first limit that it breaks, or 0 where it is accepted.
@@ -125,6 +163,37 @@ attachment_h_outcome attachment_h_settle(const uint8_t *file, size_t file_length
 attachment_h_hour attachment_h_working(const uint8_t *file, size_t file_length,
                                        const uint8_t *correction, size_t correction_length,
                                        size_t event, size_t hour);
+
+/*
+ * The working of the penalty of an event (from 0, in the file's order) of a case with its correction. Refused with the
+ * number of the case, as attachment_h_check gives it for rows that are long enough, else with 10 where there is no such
+ * event.
+ */
+attachment_h_penalty_terms attachment_h_penalty_working(const uint8_t *file, size_t file_length,
+                                                        const uint8_t *correction,
+                                                        size_t correction_length, size_t event);
+
+/* What out of attachment_h_instances has to have at least. */
+#define ATTACHMENT_H_INSTANCES_LENGTH 114
+
+/*
+ * The events of the file and the past entries that N3 of an event counted, and of them those that N2 counted, as bits.
+ * out gets 114 bytes: for N3 200 bits of the events (25 bytes) and 256 bits of the past entries (32 bytes), then the same
+ * for N2. Event or entry j is bit j % 8 of byte j / 8 of its list. An instance (kind 1, impact 1 and a flagged hour)
+ * counted N3 - 1 and N2 - 1 of them beside itself, any other event none. Bytes of out beyond the 114 are as they were;
+ * out must overlap neither of the others.
+ *
+ * Gives 0; or the number of the case, as attachment_h_check gives it for rows that are long enough, else 10 where there is
+ * no such event, else 15 where out is shorter than ATTACHMENT_H_INSTANCES_LENGTH. Then out is as it was.
+ */
+uint8_t attachment_h_instances(const uint8_t *file, size_t file_length, const uint8_t *correction,
+                               size_t correction_length, size_t event, uint8_t *out,
+                               size_t out_length);
+
+/* The working of the make-up payment of an event. Refused as attachment_h_penalty_working. */
+attachment_h_make_up_terms attachment_h_make_up_working(const uint8_t *file, size_t file_length,
+                                                        const uint8_t *correction,
+                                                        size_t correction_length, size_t event);
 
 /* What out of attachment_h_listing has to have at least, and rows to list every case. */
 #define ATTACHMENT_H_LISTING_LENGTH 42048
