@@ -1,15 +1,15 @@
 """The proved Attachment H settlement, called from Python.
 
 Needs the archive as a shared object; where it is not there, the import says how to build it. ATTACHMENT_H_LIBRARY names
-another place of it. Every function answers a number, a bool, a Row or a tuple of them, or raises Refused with the number of
-docs/RULES.md and what it means; the ranges are those of include/attachment_h.h. ctypes would cut an int to the width of its
-argument: one that does not fit raises OverflowError.
+another place of it. Every function answers a number, a bool, a Row or a tuple of them, a working a dictionary, or raises
+Refused with the number of docs/RULES.md and what it means; the ranges are those of include/attachment_h.h. ctypes would cut an
+int to the width of its argument: one that does not fit raises OverflowError.
 """
 
 import ctypes
 import os
 import struct
-from ctypes import POINTER, Structure, c_bool, c_int32, c_int64, c_size_t, c_uint8, c_uint16, c_uint32, c_uint64
+from ctypes import POINTER, Array, Structure, c_bool, c_int32, c_int64, c_size_t, c_uint8, c_uint16, c_uint32, c_uint64
 from pathlib import Path
 from typing import NamedTuple
 
@@ -55,6 +55,7 @@ _OF_THE_LINE = {16: "an argument of the line is out of its range"}
 
 # of an event or an hour that a case does not have
 _OF_AN_HOUR = {10: "the case has no such event or hour"}
+_OF_AN_EVENT = {10: "the case has no such event"}
 
 
 class Refused(Exception):
@@ -89,6 +90,8 @@ class Row(NamedTuple):
 _ROW = struct.Struct("<IIQQBxHHxx24i")
 ROWS_LENGTH = 200 * _ROW.size
 _LISTING_LENGTH = 42_048
+_INSTANCES_LENGTH = 114
+_EVENTS_LENGTH = 25  # of them the bits of 200 events, which those of 256 past entries follow
 
 
 class Settled(NamedTuple):
@@ -97,6 +100,30 @@ class Settled(NamedTuple):
     rows: list[Row]
     penalties: int
     make_ups: int
+
+
+class Counted(NamedTuple):
+    """The events and the past entries that a count counted beside the event itself, each from 0."""
+
+    events: list[int]
+    past: list[int]
+
+    @classmethod
+    def of(cls, bits):
+        """From the bits of both lists, one after the other."""
+        return cls(_places(bits[:_EVENTS_LENGTH]), _places(bits[_EVENTS_LENGTH:]))
+
+
+def _places(bits):
+    """The places of the bits that are set."""
+    return [place for place in range(8 * len(bits)) if bits[place // 8] >> place % 8 & 1]
+
+
+class Instances(NamedTuple):
+    """What N3 and N2 of an event counted: nothing where it is no instance, else N3 - 1 and N2 - 1 records."""
+
+    three: Counted
+    two: Counted
 
 
 class _Answer(Structure):
@@ -132,6 +159,40 @@ class _Hour(Structure):
     ]
 
 
+class _PenaltyTerms(Structure):
+    _fields_ = [
+        ("number", c_uint8),
+        ("kind", c_uint8),
+        ("multiplier", c_uint8),
+        ("below", c_bool),
+        ("n3", c_uint16),
+        ("n2", c_uint16),
+        ("row", c_size_t),
+        ("amount", c_uint64),
+        ("revenue", c_uint64),
+        ("e_positive", c_uint64),
+        ("e_negative", c_uint64),
+        ("t", c_uint64),
+        ("x", c_uint64),
+        ("penalty", c_uint64),
+        ("hours", c_uint64 * 24),
+        ("losses", c_uint64 * 24),
+    ]
+
+
+class _MakeUpTerms(Structure):
+    _fields_ = [
+        ("number", c_uint8),
+        ("reference", c_uint32),
+        ("correct", c_uint32),
+        ("mitigated", c_uint32),
+        ("restored", c_uint32),
+        ("tenths", c_uint64),
+        ("make_up", c_uint64),
+        ("hours", c_uint64 * 24),
+    ]
+
+
 def _fit(kind, value):
     if kind(value).value != value:
         raise OverflowError(f"{value} does not fit {kind.__name__}")
@@ -157,6 +218,13 @@ def _declare(name, result, *arguments, meanings=_OF_A_CALL):
 _check = _declare("check", c_uint8, POINTER(c_uint8), c_size_t, POINTER(c_uint8), c_size_t, c_size_t)
 _settle = _declare("settle", _Outcome, *[POINTER(c_uint8), c_size_t] * 3, meanings=_OF_A_CASE)
 _working = _declare("working", _Hour, *[POINTER(c_uint8), c_size_t] * 2, c_size_t, c_size_t, meanings=_OF_AN_HOUR)
+_penalty_working = _declare(
+    "penalty_working", _PenaltyTerms, *[POINTER(c_uint8), c_size_t] * 2, c_size_t, meanings=_OF_AN_EVENT
+)
+_instances = _declare("instances", c_uint8, *[POINTER(c_uint8), c_size_t] * 2, c_size_t, POINTER(c_uint8), c_size_t)
+_make_up_working = _declare(
+    "make_up_working", _MakeUpTerms, *[POINTER(c_uint8), c_size_t] * 2, c_size_t, meanings=_OF_AN_EVENT
+)
 _listing = _declare("listing", c_size_t, *[POINTER(c_uint8), c_size_t] * 3)
 _bid_fails = _declare("bid_fails", _Answer, c_uint8, c_uint32, c_int32, c_uint8, c_bool, c_uint32, c_uint16)
 _line = _declare("line", _Answer, c_uint8, c_uint32, c_uint8, c_bool, c_uint32, c_uint16, meanings=_OF_THE_LINE)
@@ -188,6 +256,12 @@ def _lent(data):
     return (c_uint8 * len(data)).from_buffer_copy(data), len(data)
 
 
+def _fields(answer):
+    """The fields of an answer but its number, arrays as lists."""
+    values = {name: getattr(answer, name) for name, _ in answer._fields_ if name != "number"}
+    return {name: list(value) if isinstance(value, Array) else value for name, value in values.items()}
+
+
 def check(file, correction=b"", rows_length=ROWS_LENGTH):
     """Checks a case with its correction and the length of its rows buffer; raises Refused with what it breaks first."""
     number = _check(*_lent(file), *_lent(correction), rows_length)
@@ -205,9 +279,30 @@ def settle(file, correction=b"", rows_length=ROWS_LENGTH):
 def working(file, event, hour, correction=b""):
     """The working of an hour, 0 to 23, of an event, from 0: a dictionary of the fields of attachment_h_hour but number."""
     check(file, correction)
-    answer = _working(*_lent(file), *_lent(correction), event, hour)
-    fields = {name: getattr(answer, name) for name, _ in _Hour._fields_ if name != "number"}
-    return fields | {"left": list(answer.left), "right": list(answer.right)}
+    return _fields(_working(*_lent(file), *_lent(correction), event, hour))
+
+
+def penalty_working(file, event, correction=b""):
+    """The working of the penalty of an event, from 0: a dictionary of the fields of attachment_h_penalty_terms but number."""
+    check(file, correction)
+    return _fields(_penalty_working(*_lent(file), *_lent(correction), event))
+
+
+def instances(file, event, correction=b""):
+    """What N3 and N2 of an event, from 0, counted."""
+    check(file, correction)
+    out = (c_uint8 * _INSTANCES_LENGTH)()
+    number = _instances(*_lent(file), *_lent(correction), event, out, len(out))
+    if number != 0:
+        raise Refused(number, _OF_AN_EVENT)
+    half = len(out) // 2
+    return Instances(Counted.of(out[:half]), Counted.of(out[half:]))
+
+
+def make_up_working(file, event, correction=b""):
+    """The working of the make-up payment of an event, from 0: a dictionary of the fields of attachment_h_make_up_terms but number."""
+    check(file, correction)
+    return _fields(_make_up_working(*_lent(file), *_lent(correction), event))
 
 
 def listing(file):

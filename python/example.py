@@ -1,4 +1,5 @@
-"""Settles and lists the shipped case, checks changes of it and works some of the pencil sheet. Fails where an answer is wrong.
+"""Settles and lists the shipped case, checks changes of it, shows its working and that of a case with bids, and works some of the pencil
+sheet. Fails where an answer is wrong.
 
 The argument is the repository's root; where it is left out, the one that this file stands in.
 """
@@ -10,7 +11,7 @@ import sys
 from pathlib import Path
 
 import attachment_h
-from attachment_h import Refused, Row
+from attachment_h import Counted, Instances, Refused, Row
 
 
 def refusal(call, *arguments):
@@ -34,6 +35,19 @@ def case(withheld=501, price=4_000, unit=12):
     struct.pack_into("<H", changed, EVENT + 2, unit)
     struct.pack_into("<Ii", changed, EVENT + 24, withheld, price)
     return bytes(changed)
+
+
+def larger():
+    """The shipped case with a reference, a past entry and bids of unit 12 beside its event."""
+    reference = struct.pack("<HBxI", 12, 0, 2_000)
+    past = SHIPPED[36 + 2 : 36 + 4] + struct.pack("<BBHxxI", 1, 0, 44, 0)  # of the group of unit 12
+    bids = struct.pack("<BBHHBBIIIIIiI276x", 4, 0, 12, 0, 0, 0, 8_000, 0, 1, 0, 9_000, 5_000, 1_000)
+    sections = [SHIPPED[36:EVENT], reference, past, SHIPPED[EVENT:] + bids]
+    header, offset = struct.pack("<HH", 1, 4), 36
+    for section in sections:
+        header += struct.pack("<II", offset, len(section))
+        offset += len(section)
+    return header + b"".join(sections)
 
 
 def sentence(call, *arguments):
@@ -68,6 +82,23 @@ expect("settled into 127 bytes", refusal(attachment_h.settle, case(), b"", 127),
 hour = attachment_h.working(SHIPPED, 0, 0)
 expect("hour 0 fails comparison 1", (hour["failed"], hour["left"][0], hour["right"][0]), (1, 5_010, 5_000))
 expect("no hour 24", refusal(attachment_h.working, case(), 0, 24), 10)
+# 501 at 4,000 are 2,004,000 tenths of a cent. The past entry is of the same period, so that N3 and N2 are 2 and the multiplier is 2
+# halves: 2 x 2,004,000 / 20 cents
+penalty = attachment_h.penalty_working(larger(), 0)
+expect("the term of hour 0 and the amount", (penalty["hours"], penalty["amount"]), ([2_004_000] + 23 * [0], 2_004_000))
+expect("N3, N2 and the multiplier", (penalty["n3"], penalty["n2"], penalty["multiplier"]), (2, 2, 2))
+expect("the row and the penalty", (penalty["row"], penalty["penalty"]), (0, 200_400))
+counted = attachment_h.instances(larger(), 0)
+expect("what N3 and N2 counted", counted, Instances(Counted([], [0]), Counted([], [0])))
+expect("what the shipped case's counted", attachment_h.instances(SHIPPED, 0), Instances(Counted([], []), Counted([], [])))
+# r is 2,000, so that the bid of 9,000 is flagged, and c 6,000: 1,000 x (6,000 - 5,000) tenths of a cent
+made_up = attachment_h.make_up_working(larger(), 1, struct.pack("<HBxI", 12, 0, 6_000))
+expect("r, c and the mitigated hours", (made_up["reference"], made_up["correct"], made_up["mitigated"]), (2_000, 6_000, 1))
+expect("what is made up", (made_up["hours"], made_up["tenths"]), ([1_000_000] + 23 * [0], 1_000_000))
+expect("the make-up payment", (made_up["make_up"], made_up["restored"]), (100_000, 0))
+for call in [attachment_h.penalty_working, attachment_h.instances, attachment_h.make_up_working]:
+    expect("no event 2", sentence(call, larger(), 2), "refused 10: the case has no such event")
+    expect("a case of 35 bytes", refusal(call, bytes(35), 0), 1)
 expect("the shipped listing", attachment_h.listing(SHIPPED), LISTED)
 expect("listing of 35 bytes", attachment_h.listing(bytes(35)), "refused 1\n")
 expect("501 of 5,000 fails", attachment_h.withheld_fails(501, 5_000, 501, 20_000), True)
