@@ -110,11 +110,7 @@ pub fn fuel_party_days(file: &[u8], correction: &[u8]) -> Result<Vec<FuelPartyDa
 
 /// The working of the penalty of an event; the number if the case is refused, else 10 where it has
 /// no such event.
-pub fn penalty_working(
-    file: &[u8],
-    correction: &[u8],
-    event: usize,
-) -> Result<PenaltyWorking, u8> {
+pub fn penalty_working(file: &[u8], correction: &[u8], event: usize) -> Result<PenaltyWorking, u8> {
     let case = case_with(file, correction, event)?;
     Ok(penalty_working::penalty_working(&case, event))
 }

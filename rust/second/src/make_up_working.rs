@@ -127,11 +127,6 @@ impl Bids<'_> {
             constrained_hours: self.unit.constrained_hours,
             average_price: self.unit.average_price,
         };
-        !rules::bid_fails(
-            self.component,
-            &conditions,
-            reference,
-            self.hours[hour].bid,
-        )
+        !rules::bid_fails(self.component, &conditions, reference, self.hours[hour].bid)
     }
 }

@@ -167,9 +167,9 @@ fn fuel(
         .iter()
         .filter_map(|&place| FuelEvent::of(case, place))
         .collect();
-    let union = events
-        .iter()
-        .fold(HourMask::default(), |union, other| union.union(other.inaccurate));
+    let union = events.iter().fold(HourMask::default(), |union, other| {
+        union.union(other.inaccurate)
+    });
     let e: i64 = events.iter().map(|other| other.e(union)).sum();
     let tcc: i64 = events.iter().map(|other| other.tcc_change).sum();
     let t = tcc.max(0);
@@ -183,7 +183,11 @@ fn fuel(
         e,
         t: t as u64,
         x: x.max(0) as u64,
-        penalty: if below { 0 } else { round_to_cents(x, 20) as u64 },
+        penalty: if below {
+            0
+        } else {
+            round_to_cents(x, 20) as u64
+        },
         hours: gains(union, hours),
         losses: losses(union, hours),
         ..nothing

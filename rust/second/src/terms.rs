@@ -193,7 +193,13 @@ impl HourMask {
 
     /// An amount that is not negative for each hour of the set, 0 for the others.
     pub fn amounts(self, amount: impl Fn(usize) -> i64) -> [u64; HOURS] {
-        std::array::from_fn(|hour| if self.has(hour) { amount(hour) as u64 } else { 0 })
+        std::array::from_fn(|hour| {
+            if self.has(hour) {
+                amount(hour) as u64
+            } else {
+                0
+            }
+        })
     }
 
     /// The hours of the set, rising.
