@@ -1,0 +1,182 @@
+//! The largest figures that a case can have, and counts of every place.
+
+use attachment_h::{Cents, Component, INSTANCES_LENGTH, Kind, Market, Multiplier, instances_into};
+use cases::case::EVERY_HOUR;
+use cases::{Case, Event, Input, Past, Random, Reference, Unit};
+
+use crate::{Worked, both};
+
+fn unit(unit: u16) -> Unit {
+    Unit {
+        unit,
+        group: 7,
+        capability: 50_000,
+        ..Unit::default()
+    }
+}
+
+fn past(kind: Kind, period: u16, day: u32) -> Past {
+    Past {
+        group: 7,
+        kind,
+        market: Market::DAY_AHEAD,
+        period,
+        day,
+    }
+}
+
+/// The same a and b in every hour.
+fn all_day<A: Copy, B: Copy>(a: A, b: B) -> [(usize, A, B); 24] {
+    std::array::from_fn(|hour| (hour, a, b))
+}
+
+fn worked(case: &Case, correction: &[Reference], event: usize) -> Worked {
+    let input = Input::new(case, correction);
+    both(&mut Random::new(941), &input, event, "at an edge").expect("accepted")
+}
+
+#[test]
+fn largest_withheld() {
+    let cells = all_day(50_000, 1_000_000);
+    let case = Case {
+        units: vec![unit(0)],
+        past: vec![past(Kind::WITHHELD, 0, 0); 3],
+        events: vec![Event::withheld(0, Market::DAY_AHEAD, 0, &cells)],
+        ..Case::default()
+    };
+    let penalty = worked(&case, &[], 0).penalty;
+    assert_eq!(penalty.hours, [50_000_000_000; 24]);
+    assert_eq!(penalty.amount, 1_200_000_000_000);
+    // 6 × 1,200,000,000,000 / 20
+    assert_eq!(penalty.multiplier, Multiplier(6));
+    assert_eq!(penalty.penalty, Cents(360_000_000_000));
+}
+
+#[test]
+fn largest_dispatch() {
+    let case = Case {
+        units: vec![unit(65_535)],
+        events: vec![Event::dispatch(
+            1_000_000,
+            65_535,
+            &all_day(50_000, 100_000_000),
+        )],
+        ..Case::default()
+    };
+    let penalty = worked(&case, &[], 0).penalty;
+    assert_eq!(penalty.hours, [100_000_000; 24]);
+    assert_eq!(penalty.revenue, 2_400_000_000);
+    assert_eq!(penalty.penalty, Cents(3_600_000_000));
+}
+
+/// 64 units whose fuel data changed everything by as much as can be, up or down.
+fn fuel_case(sign: i32) -> Case {
+    let changes = (EVERY_HOUR, sign * 1_000_000_000, 1_000_000_000);
+    let cells = all_day(50_000, sign * 1_000_000);
+    Case {
+        units: (0..64).map(unit).collect(),
+        past: vec![past(Kind::FUEL, 0, 817)],
+        events: (0..64)
+            .map(|unit| Event::fuel(1_000, Market::DAY_AHEAD, unit, changes, &cells))
+            .collect(),
+        ..Case::default()
+    }
+}
+
+#[test]
+fn largest_fuel() {
+    // Each unit: 10 × 1,000,000,000 + 24 × 50,000 × 1,000,000. M is 3, since day 817 is 183 days before.
+    let e = 64 * 1_210_000_000_000;
+    let t = 64_000_000_000;
+    for event in [0, 63] {
+        let penalty = worked(&fuel_case(1), &[], event).penalty;
+        assert_eq!((penalty.row, penalty.multiplier), (0, Multiplier(3)));
+        assert_eq!((penalty.e_positive, penalty.e_negative), (e, 0));
+        assert_eq!((penalty.t, penalty.x), (t, 3 * e + 20 * t));
+        assert_eq!(penalty.penalty, Cents((3 * e + 20 * t) / 20));
+        assert_eq!(penalty.hours, [50_000_000_000; 24]);
+        assert_eq!(penalty.losses, [0; 24]);
+
+        let penalty = worked(&fuel_case(-1), &[], event).penalty;
+        assert_eq!((penalty.e_positive, penalty.e_negative), (0, e));
+        assert_eq!((penalty.t, penalty.x, penalty.below), (t, 0, true));
+        assert_eq!(penalty.hours, [0; 24]);
+        assert_eq!(penalty.losses, [50_000_000_000; 24]);
+    }
+}
+
+#[test]
+fn largest_make_up() {
+    let reference = |value| Reference {
+        unit: 9,
+        component: Component::ENERGY,
+        value,
+    };
+    let cells: [_; 24] = std::array::from_fn(|hour| (hour, 1_000_000, -1_000_000, 50_000));
+    let case = Case {
+        units: vec![unit(9)],
+        references: vec![reference(0)],
+        events: vec![Event::bids(0, Market::REAL_TIME, 9, 0, 0, &cells)],
+        ..Case::default()
+    };
+    let make_up = worked(&case, &[reference(1_000_000)], 0).make_up;
+    // 50,000 × (1,000,000 + 1,000,000)
+    assert_eq!(make_up.hours, [100_000_000_000; 24]);
+    assert_eq!(make_up.tenths, 2_400_000_000_000);
+    assert_eq!(make_up.make_up, Cents(240_000_000_000));
+}
+
+/// A withheld event with one flagged hour on each day, in periods by day.
+fn instances_by_day(days: u32, period: impl Fn(u32) -> u16) -> Vec<Event> {
+    let event = |day| Event::withheld(day, Market::DAY_AHEAD, 0, &[(0, 50_000, 1)]);
+    (0..days)
+        .map(|day| event(day).in_period(period(day)))
+        .collect()
+}
+
+#[test]
+fn every_past_entry() {
+    let case = Case {
+        units: vec![unit(0)],
+        past: (0..256)
+            .map(|place| past(Kind::WITHHELD, 42 + place % 3, 0))
+            .collect(),
+        events: instances_by_day(2, |_| 44),
+        ..Case::default()
+    };
+    let last = worked(&case, &[], 1);
+    let all: Vec<usize> = (0..256).collect();
+    assert_eq!(last.instances.three.past, all);
+    let of_two: Vec<usize> = (0..256).filter(|place| place % 3 > 0).collect();
+    assert_eq!(last.instances.two.past, of_two);
+    // Itself, event 0 and the entries: 256, and 170 without those of period 42.
+    assert_eq!((last.penalty.n3, last.penalty.n2), (258, 172));
+    let mut out = [0; INSTANCES_LENGTH];
+    assert_eq!(instances_into(&case.to_bytes(), &[], 1, &mut out), Ok(()));
+    assert_eq!(out[25..57], [0xFF; 32]);
+}
+
+#[test]
+fn every_event() {
+    // Even days are of period 42, two before that of odd days.
+    let case = Case {
+        units: vec![unit(0)],
+        events: instances_by_day(200, |day| 42 + 2 * (day % 2) as u16),
+        ..Case::default()
+    };
+    for event in 0..200 {
+        let counted = worked(&case, &[], event).instances;
+        let odd = event % 2 == 1;
+        let three: Vec<usize> = (0..event).filter(|place| odd || place % 2 == 0).collect();
+        let two: Vec<usize> = (0..event).filter(|place| place % 2 == event % 2).collect();
+        assert_eq!((counted.three.events, counted.two.events), (three, two));
+    }
+    let mut out = [0; INSTANCES_LENGTH];
+    assert_eq!(instances_into(&case.to_bytes(), &[], 199, &mut out), Ok(()));
+    // Events 0 to 198, and of them the odd ones.
+    assert_eq!((&out[..24], out[24]), (&[0xFF; 24][..], 0b0111_1111));
+    assert_eq!(
+        (&out[57..81], out[81]),
+        (&[0b1010_1010; 24][..], 0b0010_1010)
+    );
+}
