@@ -180,7 +180,7 @@ fn misuse_of_working() {
             format!("casetool: {message}; see casetool working --help\n")
         );
     }
-    let unit = "unit 12 group 7 capability 1 MW\n";
+    let unit = "unit 12 group 7 area no capability 1 MW\n";
     let event =
         |day| format!("event day {day} kind withheld market day-ahead unit 12 period 0 impact 0\n");
     for (text, events) in [

@@ -5,7 +5,7 @@ mod support;
 
 use support::{casetool, file_with, repository, written};
 
-const UNIT: &str = "unit 12 group 7 capability 500.0 MW\n";
+const UNIT: &str = "unit 12 group 7 area no capability 500.0 MW\n";
 
 #[test]
 fn a_named_correction_that_is_empty() {

@@ -12,7 +12,8 @@ struct Whole {
     needed: Vec<(usize, &'static str)>,
 }
 
-/// A unit of area 0 or 1, an event of it and an hour line, with these keys besides those of every record.
+/// A unit of area 0 or 1, an event of it and an hour line, with these keys besides those of every record. Fuel alone does
+/// not read the area.
 fn whole(
     (unit_number, unit): (u8, &'static str),
     (event, event_keys): (&str, &'static str),
@@ -25,6 +26,9 @@ fn whole(
         unit_number - 12
     );
     let mut needed = Vec::new();
+    if !event.contains("kind fuel") {
+        needed.push((1, "area"));
+    }
     for (line, keys) in [(1, unit), (2, event_keys), (3, hour_keys)] {
         needed.extend(keys.split(' ').step_by(2).map(|key| (line, key)));
     }
@@ -153,14 +157,14 @@ fn every_needed_key() {
         }
     }
     println!("{} texts, {left_out} keys left out", wholes.len());
-    assert_eq!((wholes.len(), left_out), (46, 145));
+    assert_eq!((wholes.len(), left_out), (46, 187));
 }
 
 #[test]
 fn a_maximum_parameter_in_every_hour() {
     let text = |hours: &str| {
         format!(
-            "unit 12 group 7 capability 5 MW\n\
+            "unit 12 group 7 area no capability 5 MW\n\
              reference unit 12 component maximum-parameter value 100\n\
              event day 8000 kind bids market day-ahead unit 12 period 44 component maximum-parameter impact-hours none\n\
              {hours}\n"
@@ -236,11 +240,57 @@ fn a_unit_after_its_events_and_a_unit_that_is_not_listed() {
     );
 }
 
+#[test]
+fn the_area_of_every_unit_whose_events_read_it() {
+    let event = |unit: u8, rest: &str| format!("event day 8000 period 44 unit {unit} {rest}\n");
+    let [withheld, dispatch, bids, fuel] = [
+        "kind withheld market DAM impact 0",
+        "kind dispatch market RTM impact 0",
+        "kind bids market DAM component maximum-parameter impact-hours none\n  hours 0-23 bid 1",
+        "kind fuel market RTM inaccurate-hours none guarantee-change 0",
+    ];
+    let unit = |number: u8| format!("unit {number} group 7 capability 5 MW\n");
+    let text = [
+        unit(12),
+        unit(13),
+        unit(14),
+        unit(15),
+        unit(16),
+        event(12, fuel),
+        event(12, withheld),
+        event(13, dispatch),
+        event(13, withheld),
+        event(14, bids),
+        event(15, fuel),
+    ];
+    let said = [
+        (1, "area", 7),
+        (2, "area", 8),
+        (2, "response-rate", 8),
+        (3, "area", 10),
+    ];
+    let message = |(line, key, event): (usize, &str, usize)| {
+        format!(
+            "casetool: standard input: line {line}, column 32: expected the key {key}, which the event of line {event} reads\n"
+        )
+    };
+    for command in ["write", "check", "settle"] {
+        let ran = casetool(&[command], text.concat().as_bytes());
+        assert_eq!((ran.status, ran.output.len()), (1, 0));
+        assert_eq!(ran.errors, said.map(message).concat());
+    }
+    // Left out of the lines of the others it is 0, and not shown.
+    let case = written(&[&text[3..5], &text[10..]].concat().concat());
+    let shown = casetool(&["show"], &case);
+    let units = "\nunit 15 group 7 capability 5.0 MW\nunit 16 group 7 capability 5.0 MW\n";
+    assert!(shown.text().contains(units), "{}", shown.text());
+}
+
 /// Every kind, with nothing but 0 in what is needed.
 const ZEROS: &str = "\
 # case: 2 units, 0 references, 0 past entries, 9 events
 
-unit 12 group 7 capability 0.0 MW response-rate 0.0 MW/min
+unit 12 group 7 area 0 capability 0.0 MW response-rate 0.0 MW/min
 unit 13 group 7 area 1 capability 0.0 MW average-price $0.00 constrained-hours 0
 
 event day 8000 kind withheld market day-ahead unit 12 period 44 impact 0  # event 0, 26 November 2021

@@ -11,7 +11,7 @@ use std::process::{Command, Stdio};
 
 use support::{Ran, casetool, written};
 
-const GOOD: &str = "unit 12 group 7 capability 500.0 MW\n\
+const GOOD: &str = "unit 12 group 7 area no capability 500.0 MW\n\
                     event day 8000 kind withheld market day-ahead unit 12 period 44 impact 0\n";
 const BAD: &str = "unit 12 group 7\n";
 const OLD: &[u8] = b"the old one";

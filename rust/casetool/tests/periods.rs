@@ -42,7 +42,7 @@ fn every_period_follows_on_its_first_day() {
     }
 }
 
-const UNIT: &str = "unit 12 group 7 capability 500.0 MW\n";
+const UNIT: &str = "unit 12 group 7 area no capability 500.0 MW\n";
 
 fn event(day: &str, period: u16) -> String {
     format!("event day {day} kind withheld market day-ahead unit 12 period {period} impact 0\n")

@@ -184,17 +184,17 @@ event day 366 kind bids market real-time unit 0 period 0 component start-up-time
 #[test]
 fn other_ways_to_write() {
     let canonical_text = canonical(
-        "unit 12 group 7 capability 500.0 MW average-price $50.00\n\
+        "unit 12 group 7 area no capability 500.0 MW average-price $50.00\n\
          event day 8000 kind bids market real-time unit 12 period 44 component energy impact-hours none\n\
          hours 5-7 bid -$5.00 price $0.00 quantity 0.0 MW\n",
     );
     for text in [
-        "unit 12 capability 500 group 7 average-price 50\r\n\
+        "unit 12 capability 500 area 0 group 7 average-price 50\r\n\
          event unit 12 component 0 impact-hours none market 1 kind 4 period 44 day 2021-11-26\r\n\
          \thours 5,6,7 quantity 0 price 0 bid -5\r\n",
         "\u{feff}event day 8000 kind bids market real-time unit 12 period 44 component energy impact-hours none # late\n\
          hour 6 bid -5.0 price -0 quantity 0\n  hours 5,7 bid -$5 price 0 quantity 0 MW\n\
-         hour 20 bid 0 price 0 quantity 0\n\n# the unit comes after\nunit 12 group 7 capability 500.0 MW average-price 50.0",
+         hour 20 bid 0 price 0 quantity 0\n\n# the unit comes after\nunit 12 group 7 area no capability 500.0 MW average-price 50.0",
         "unit 012 group 7 capability 0500 area 0 average-price $50.00\n\
          event day 8000 kind bids market real-time unit 12 period 44 component energy impact-hours none\n\
          hours 5-6,7 bid -$05.00 price $0.0 quantity 0.0",

@@ -7,7 +7,7 @@ use std::sync::atomic::{AtomicUsize, Ordering};
 
 use support::{casetool, file_with, written};
 
-const UNITS: &str = "unit 12 group 7 capability 500.0 MW response-rate 10.0 MW/min\n\
+const UNITS: &str = "unit 12 group 7 area no capability 500.0 MW response-rate 10.0 MW/min\n\
                      unit 13 group 7 capability 500.0 MW response-rate 10.0 MW/min\n\
                      unit 14 group 8 capability 500.0 MW\n\
                      unit 15 group 8 capability 500.0 MW\n";

@@ -10,7 +10,7 @@ use support::{casetool, file_with, written};
 
 const UNITS: &str = "\
 unit 12 group 7 area 1 capability 500.0 MW response-rate 10.0 MW/min average-price $50.00 constrained-hours 1000
-unit 13 group 7 capability 1500.0 MW
+unit 13 group 7 area no capability 1500.0 MW
 ";
 
 /// That the working of an hour of the last event of a text is this one, after its heading.

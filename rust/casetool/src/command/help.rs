@@ -101,7 +101,7 @@ these are held: every value has room in its field, a case has at most 64 units, 
 it to the others. A line of the text is a record, or hours of the event above it; # begins a
 comment:
 
-  unit 12 group 7 capability 500.0 MW
+  unit 12 group 7 area no capability 500.0 MW
   reference unit 12 component energy value $20.00
   past group 7 kind withheld market day-ahead period 43 day 7800
   event day 8000 kind withheld market day-ahead unit 12 period 44 impact 1

@@ -20,16 +20,17 @@ pub struct Shape {
 }
 
 impl Shape {
-    /// The keys that its unit's line needs, in this area.
+    /// The keys that its unit's line needs, in this area: the area itself decides which hours are tight.
     pub fn keys_of_unit(self, area: u8) -> &'static [&'static str] {
         match (self.kind, self.market, self.component, area) {
-            (Kind::DISPATCH, ..) => &["response-rate"],
+            (Kind::DISPATCH, ..) => &["area", "response-rate"],
             (
                 Kind::BIDS,
                 Market::REAL_TIME,
                 Component::ENERGY | Component::MINIMUM_GENERATION,
                 1,
-            ) => &["average-price", "constrained-hours"],
+            ) => &["area", "average-price", "constrained-hours"],
+            (Kind::WITHHELD | Kind::BIDS, ..) => &["area"],
             _ => &[],
         }
     }

@@ -187,7 +187,7 @@ Event 0: day 8000 (26 November 2021), bids, Day-Ahead, unit 12, maximum paramete
 
 #[test]
 fn times_that_the_sum_flags_below_their_line() {
-    let mut text = "unit 12 group 7 capability 500.0 MW\n".to_string();
+    let mut text = "unit 12 group 7 area no capability 500.0 MW\n".to_string();
     for (name, bids) in [
         ("start-up-time", "hours 7-8 bid 181 minutes"),
         ("minimum-run-time", "hours 7-8 bid 180 minutes"),

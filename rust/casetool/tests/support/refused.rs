@@ -3,8 +3,8 @@
 use super::{Ran, casetool, written};
 
 /// Two units of one group.
-pub const UNITS: &str = "unit 12 group 7 capability 500.0 MW response-rate 10.0 MW/min\n\
-                     unit 13 group 7 capability 1500.0 MW\n";
+pub const UNITS: &str = "unit 12 group 7 area no capability 500.0 MW response-rate 10.0 MW/min\n\
+                     unit 13 group 7 area no capability 1500.0 MW\n";
 
 /// What a refused check says.
 pub fn text_of(ran: &Ran) -> &str {

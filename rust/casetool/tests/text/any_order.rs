@@ -70,7 +70,7 @@ fn events_are_numbered_as_the_rows_are() {
 
 #[test]
 fn two_equal_ones_have_both_lines() {
-    let unit = "unit 12 group 7 capability 1\n";
+    let unit = "unit 12 group 7 area no capability 1\n";
     let reference = "reference unit 12 component energy value 1\n";
     let event = "event day 8000 kind withheld market DAM unit 12 period 44 impact 0\n";
     for (text, message) in [
@@ -80,7 +80,7 @@ fn two_equal_ones_have_both_lines() {
         ),
         (
             format!(
-                "{unit}{event}\nunit 11 group 7 capability 1\n  unit 12 group 8 capability 2\n"
+                "{unit}{event}\nunit 11 group 7 capability 1\n  unit 12 group 8 area no capability 2\n"
             ),
             "line 5, column 3, 'unit': unit 12 is there twice, in line 1 and here",
         ),

@@ -2,7 +2,7 @@
 
 use crate::support::{casetool, written};
 
-const UNIT: &str = "unit 12 group 7 capability 1500.0 MW response-rate 10.0 MW/min\n";
+const UNIT: &str = "unit 12 group 7 area no capability 1500.0 MW response-rate 10.0 MW/min\n";
 
 /// That a text gives the file of another.
 fn same(text: &str, as_shown: &str) {
@@ -134,12 +134,12 @@ fn markets_kinds_and_marks() {
 #[test]
 fn it_is_shown_in_one_form() {
     let text = "event day 2021-11-26 kind WITHHELD market DAM unit 12 period 44 impact yes\n\
-                hours 5, 6, 7 withheld 1,200.5MW price $-1,234.5\nunit 12 group 7 capability 1,500MW";
+                hours 5, 6, 7 withheld 1,200.5MW price $-1,234.5\nunit 12 group 7 area no capability 1,500MW";
     let shown = casetool(&["show"], &written(text));
     assert_eq!(
         shown.text(),
         "# case: 1 unit, 0 references, 0 past entries, 1 event\n\n\
-         unit 12 group 7 capability 1500.0 MW\n\n\
+         unit 12 group 7 area 0 capability 1500.0 MW\n\n\
          event day 8000 kind withheld market day-ahead unit 12 period 44 impact 1  # event 0, 26 November 2021\n  \
          hours 5-7 withheld 1200.5 MW price -$1234.50\n"
     );

@@ -4,7 +4,7 @@ use casetool::text::write::{case_file, correction};
 
 use crate::support::casetool;
 
-const UNIT: &str = "unit 12 group 7 capability 500.0 MW";
+const UNIT: &str = "unit 12 group 7 area no capability 500.0 MW";
 const EVENT: &str = "event day 8000 kind bids market day-ahead unit 12 period 44 component energy impact-hours none";
 
 /// That a text is turned away with these messages.

@@ -17,7 +17,7 @@ fn said(text: &str) -> Vec<String> {
         .collect()
 }
 
-const UNIT: &str = "unit 12 group 7 capability 500.0 MW\n";
+const UNIT: &str = "unit 12 group 7 area no capability 500.0 MW\n";
 
 #[test]
 fn in_the_order_of_the_text() {
@@ -25,7 +25,7 @@ fn in_the_order_of_the_text() {
 event day 8000 kind dispatch market real-time unit 12 period 44 impact 1
   hour 3 undelivered 5.05 added-revenue x
 unit 12 group x capability
-unit 13 group 7 capability 1 MW
+unit 13 group 7 area no capability 1 MW
 unit 14 group 7 capability 1 MW color 3
 past group 7 kind fuel market 0 period 44
 unit 13 group 8 capability 1 MW
@@ -37,10 +37,11 @@ event day 8001 kind dispatch market real-time unit 13 period 44 impact 1
         "line 2, column 41, 'x': expected dollars with at most two decimals, such as $40.00",
         "line 3, column 15, 'x': expected a whole number",
         "line 3, column 27: expected a value for capability",
-        "line 4, column 32: expected the key response-rate, which the event of line 8 reads",
+        "line 4, column 40: expected the key response-rate, which the event of line 8 reads",
         "line 5, column 33, 'color': unknown key; expected unit, group, area, capability, response-rate, average-price, constrained-hours",
         "line 6, column 42: expected the key day",
         "line 7, column 1, 'unit': unit 13 is there twice, in line 4 and here",
+        "line 7, column 32: expected the key area, which the event of line 8 reads",
         "line 7, column 32: expected the key response-rate, which the event of line 8 reads",
         "line 9, column 26: expected the key added-revenue",
     ];

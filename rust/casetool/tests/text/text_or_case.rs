@@ -207,7 +207,7 @@ fn refused(number: u8, text: &str, place: &str) {
     }
 }
 
-const UNITS: &str = "# the plants\nunit 13 group 7 capability 1,500.0 MW\nunit 12 group 7 capability 500MW # late\n";
+const UNITS: &str = "# the plants\nunit 13 group 7 area no capability 1,500.0 MW\nunit 12 group 7 area no capability 500MW # late\n";
 const WITHHELD: &str = "event day 8000 kind withheld market DAM period 44 impact yes unit";
 
 #[test]
@@ -276,7 +276,7 @@ fn a_field_that_was_left_out_has_the_line_of_its_record() {
     let events = format!("{WITHHELD} 12\n  {WITHHELD} 12\n");
     refused(
         11,
-        &format!("order as-written\nunit 12 group 7 capability 1\n{events}"),
+        &format!("order as-written\nunit 12 group 7 area no capability 1\n{events}"),
         "FILE: line 4, column 3: event 1 (day 8000, withheld, Day-Ahead, unit 12): the same as event 0; events have to rise strictly by day, kind, market, unit, component",
     );
 }
