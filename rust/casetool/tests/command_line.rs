@@ -149,7 +149,7 @@ fn misuse_of_working() {
     );
     for (arguments, message) in [
         (&[][..], "--event is missing"),
-        (&["--event", "0"], "--hour is missing"),
+        (&["--hour", "0"], "--event is missing"),
         (&["--event", "0", "--hour"], "--hour needs a value after it"),
         (
             &["--event", "0", "--hour", "24"],
@@ -168,6 +168,11 @@ fn misuse_of_working() {
             "--event '': expected a number from 0",
         ),
         (&["--event", "0", "--event", "0"], "--event is there twice"),
+        (
+            &["--event", "0", "--hour", "0", "--hour", "0"],
+            "--hour is there twice",
+        ),
+        (&["--event", "1"], "--event 1: this case has one event, 0"),
         (
             &["--event", "1", "--hour", "0"],
             "--event 1: this case has one event, 0",
@@ -190,14 +195,19 @@ fn misuse_of_working() {
             "3 events, 0 to 2",
         ),
     ] {
-        let ran = casetool(&["working", "--event", "3", "--hour", "0"], &written(&text));
-        assert_eq!((ran.status, ran.output.len()), (2, 0));
-        let message = format!("--event 3: this case has {events}; see casetool working --help");
-        assert_eq!(ran.errors, format!("casetool: {message}\n"));
+        for hour in [&["--hour", "0"][..], &[]] {
+            let arguments = [&["working", "--event", "3"], hour].concat();
+            let ran = casetool(&arguments, &written(&text));
+            assert_eq!((ran.status, ran.output.len()), (2, 0));
+            let message = format!("--event 3: this case has {events}; see casetool working --help");
+            assert_eq!(ran.errors, format!("casetool: {message}\n"));
+        }
     }
-    let refused = casetool(&["working", "--event", "0", "--hour", "0"], &case[..40]);
-    assert_eq!((refused.status, refused.output.len()), (1, 0));
-    assert!(refused.errors.starts_with("casetool: refused 4: "));
+    for hour in [&["--hour", "0"][..], &[]] {
+        let refused = casetool(&[&["working", "--event", "0"], hour].concat(), &case[..40]);
+        assert_eq!((refused.status, refused.output.len()), (1, 0));
+        assert!(refused.errors.starts_with("casetool: refused 4: "));
+    }
 }
 
 #[test]

@@ -14,8 +14,10 @@ fn a_named_correction_that_is_empty() {
     let empty = file_with("given-nothing.correction", b"");
     for (command, more) in [
         ("settle", &[][..]),
+        ("settle", &["--explain"]),
         ("check", &[]),
         ("working", &["--event", "0", "--hour", "0"]),
+        ("working", &["--event", "0"]),
         ("line", &[]),
     ] {
         for (correction, name) in [(empty.as_str(), empty.as_str()), ("-", "standard input")] {
@@ -118,7 +120,11 @@ fn a_text_with_no_event() {
 #[test]
 fn a_text_with_no_event_where_nothing_can_be_asked_of_it() {
     let message = "casetool: standard input: this text has no event\n";
-    for arguments in [&["working", "--event", "0", "--hour", "0"][..], &["line"]] {
+    for arguments in [
+        &["working", "--event", "0", "--hour", "0"][..],
+        &["working", "--event", "0"],
+        &["line"],
+    ] {
         let ran = casetool(arguments, UNIT.as_bytes());
         assert_eq!((ran.status, ran.output.len()), (1, 0));
         assert_eq!(ran.errors, message);

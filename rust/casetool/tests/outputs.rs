@@ -85,7 +85,7 @@ fn a_failed_write_leaves_no_old_file() {
         (vec!["settle", "-o", &case], BAD, 1),
         (vec!["settle", "--as", "case", "-o", &case], GOOD, 1),
         (vec!["show", &missing, "-o", &case], "", 1),
-        (vec!["working", "-o", &case, "--event", "0"], "", 2),
+        (vec!["working", "-o", &case, "--hour", "0"], "", 2),
     ] {
         fs::write(&case, OLD).expect("a file of the test");
         fails(&casetool(&arguments, text.as_bytes()), status, &case);

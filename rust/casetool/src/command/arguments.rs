@@ -85,8 +85,10 @@ pub struct Given {
     pub format: Format,
     /// The event that is asked about; nothing for every one that has a line.
     pub event: Option<usize>,
-    /// The hour of a working.
-    pub hour: usize,
+    /// The hour of a working; nothing for the working of the event's money.
+    pub hour: Option<usize>,
+    /// That a settlement has the working of each event's money.
+    pub explain: bool,
     /// The arguments of one line, each as its option and its word; none where a case is asked about.
     pub one_line: Vec<(&'static str, String)>,
 }
@@ -113,6 +115,7 @@ struct Found {
     format: Option<Format>,
     event: Option<usize>,
     hour: Option<usize>,
+    explain: bool,
     one_line: Vec<(&'static str, String)>,
 }
 
@@ -215,6 +218,7 @@ impl Found {
             "--correction" => once(&mut self.correction, option, source(value(option, rest)?)),
             "-o" | "--output" => once(&mut self.output, option, value(option, rest)?.into()),
             "--allow-empty" if topic.allows_empty() => flag(&mut self.allow_empty, option),
+            "--explain" if topic == Topic::Settle => flag(&mut self.explain, option),
             "--as" if !converts => {
                 let form = one_of(option, value(option, rest)?, &FORMS)?;
                 once(&mut self.taken_as, option, form)
@@ -286,8 +290,9 @@ impl Found {
         if topic == Topic::Working && self.event.is_none() {
             return Err("--event is missing".to_string());
         }
-        if topic == Topic::Working && self.hour.is_none() {
-            return Err("--hour is missing".to_string());
+        if self.explain && self.format == Some(Format::Csv) {
+            let problem = "--explain and --format csv can't both be given: a table of rows has no place for a working";
+            return Err(problem.to_string());
         }
         Ok(Given {
             source,
@@ -298,7 +303,8 @@ impl Found {
             taken_as: self.taken_as,
             format: self.format.unwrap_or_default(),
             event: self.event,
-            hour: self.hour.unwrap_or(0),
+            hour: self.hour,
+            explain: self.explain,
             one_line: self.one_line,
         })
     }

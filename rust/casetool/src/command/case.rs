@@ -3,16 +3,17 @@
 use std::io::Read;
 
 use attachment_h::layout::{REFERENCE_BYTES, Section, Sections};
-use attachment_h::{ROWS_LENGTH, settle, working};
+use attachment_h::{ROWS_LENGTH, Settled, settle, working};
 
 use super::arguments::{Format, Given};
 use super::help::Topic;
 use super::input::Inputs;
-use super::{Answer, Failure, line, mistake};
+use super::{Answer, Failure, line, mistake, money};
 use crate::format::check::{accepted, accepted_json, mistakes_json, refused_json};
 use crate::format::notes::Correction;
 use crate::format::settlement::Settlement;
 use crate::format::working::Hour;
+use crate::place::refusal::Refusal;
 use crate::record::event::Event;
 
 /// The answer of a command that reads a case.
@@ -28,9 +29,12 @@ pub fn answer(topic: Topic, given: &Given, input: &mut dyn Read) -> Result<Answe
     };
     let mut answer = match topic {
         Topic::Check => checked(&inputs, given.format),
-        Topic::Settle => settled(&inputs, given.format)?,
+        Topic::Settle => settled(&inputs, given)?,
         Topic::Line => line::beside_lines(&inputs, given)?,
-        _ => worked(&inputs, given)?,
+        _ => match given.hour {
+            Some(hour) => worked(&inputs, given, hour)?,
+            None => money::worked(&inputs, given)?,
+        },
     };
     answer.done.warnings = inputs.warnings;
     Ok(answer)
@@ -58,50 +62,57 @@ fn correction_of(inputs: &Inputs) -> Option<Correction> {
     })
 }
 
-fn settled(inputs: &Inputs, format: Format) -> Result<Answer, Failure> {
-    let file = &inputs.case.bytes;
-    let settle_with = |correction: &[u8]| {
-        let mut rows = vec![0; ROWS_LENGTH];
-        settle(file, correction, &mut rows)
-            .map(|settled| (settled, rows))
-            .map_err(|refused| inputs.refusal(refused))
-    };
-    let (settled, rows) = settle_with(inputs.correction_bytes())?;
+/// What a case settles to, with its correction or another one, and its rows.
+pub fn rows_of(inputs: &Inputs, correction: &[u8]) -> Result<(Settled, Vec<u8>), Refusal> {
+    let mut rows = vec![0; ROWS_LENGTH];
+    settle(&inputs.case.bytes, correction, &mut rows)
+        .map(|settled| (settled, rows))
+        .map_err(|refused| inputs.refusal(refused))
+}
+
+fn settled(inputs: &Inputs, given: &Given) -> Result<Answer, Failure> {
+    let (settled, rows) = rows_of(inputs, inputs.correction_bytes())?;
     let rows_without = match &inputs.correction {
-        Some(_) => settle_with(&[])?.1,
+        Some(_) => rows_of(inputs, &[])?.1,
         None => Vec::new(),
     };
     let correction = correction_of(inputs);
-    let sections = Sections::of(file).ok_or_else(|| mistake("sections in this settled case"))?;
+    let sections =
+        Sections::of(&inputs.case.bytes).ok_or_else(|| mistake("sections in this settled case"))?;
+    let workings = match given.explain {
+        true => Some(money::of_every_event(inputs, sections, &rows)?),
+        false => None,
+    };
     let settlement = Settlement {
         sections,
         rows: &rows,
         correction: correction.as_ref(),
         rows_without: &rows_without,
+        workings: workings.as_deref(),
     };
-    Ok(Answer::done(match format {
+    Ok(Answer::done(match given.format {
         Format::Text => settlement.text(&settled),
         Format::Json => settlement.json(&settled),
         Format::Csv => settlement.csv(&settled),
     }))
 }
 
-fn worked(inputs: &Inputs, given: &Given) -> Result<Answer, Failure> {
+fn worked(inputs: &Inputs, given: &Given, hour: usize) -> Result<Answer, Failure> {
     inputs.check()?;
     let file = &inputs.case.bytes;
     let none = || mistake("such hour in this accepted case");
     let sections = Sections::of(file).ok_or_else(none)?;
     let number = given.event.unwrap_or_default();
-    let hour = Hour {
+    let of_event = Hour {
         number,
         event: event_of(&sections, number)?,
-        hour: given.hour,
+        hour,
     };
-    let working = working(file, inputs.correction_bytes(), number, given.hour)
+    let working = working(file, inputs.correction_bytes(), number, hour)
         .map_err(|refused| format!("{refused}: {}", none()))?;
     Ok(Answer::done(match given.format {
-        Format::Json => hour.json(&working),
-        _ => hour.text(&working),
+        Format::Json => of_event.json(&working),
+        _ => of_event.text(&working),
     }))
 }
 

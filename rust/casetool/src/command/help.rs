@@ -75,7 +75,7 @@ casetool: cases of the Attachment H settlement, as text and in words
 
   casetool settle   settles a case: a block for each plant, then the totals; or JSON, or CSV
   casetool check    says whether a case is accepted, or what is wrong and where
-  casetool working  the pencil working of one hour of one event
+  casetool working  the pencil working of one hour of one event, or of the event's money
   casetool line     how high a bid may go: a table for each event of bids, or one figure
   casetool write    makes a case file of a text
   casetool show     shows a case file as text
@@ -155,8 +155,8 @@ that break it, of a text also their line and column, and status 1. Records are c
 ";
 
 const SETTLE: &str = "\
-casetool settle [TEXT or CASE] [--correction FILE] [--format text|json|csv] [--as text|case]
-                [--allow-empty] [-o FILE]
+casetool settle [TEXT or CASE] [--correction FILE] [--format text|json|csv] [--explain]
+                [--as text|case] [--allow-empty] [-o FILE]
 
 Settles a case by the proved library and prints which correction was used, then a block for each
 plant, with its events in file order, counted from 0: flagged hours, multiplier and penalty, or
@@ -169,6 +169,8 @@ check, on standard error.
                      --correction; it may not be empty
   --format FORMAT    text, or for programs json (docs/casetool.schema.json) or csv
                      (docs/FORMAT.md): every field of every row and of the totals
+  --explain          under each event the working of its money, as casetool working --event N
+                     has it; not with csv
   --as FORM          what is read is a text, or a case file, whatever its bytes look like
   --allow-empty      a text with no event is taken
   -o, --output FILE  writes to a file instead of standard output
@@ -176,13 +178,23 @@ check, on standard error.
 ";
 
 const WORKING: &str = "\
-casetool working [TEXT or CASE] --event N --hour H [--correction FILE] [--format text|json]
+casetool working [TEXT or CASE] --event N [--hour H] [--correction FILE] [--format text|json]
                  [--as text|case] [-o FILE]
 
-The pencil working of one hour of one event: each comparison of its conduct test with both
-sides, the step that failed, and the figures behind it (a, r, d, S, G, N3, N2), all from the
-proved library. A negative d stands as 0 in a comparison. Events are counted from 0, as casetool
-settle and casetool show number them.
+With --hour the pencil working of one hour of one event: each comparison of its conduct test with
+both sides, the step that failed, and the figures behind it (a, r, d, S, G, N3, N2). A negative d
+stands as 0 in a comparison.
+
+Without --hour the working of the event's money, step by step, each under the sentence of the
+tariff that it is: of a withheld event what N3 and N2 counted, the multiplier, and power times
+price hour by hour; of dispatch the added revenue hour by hour; of fuel the events of the same
+group, day and market, E, T, M and X; of bids r and c, the mitigated hours, and the make-up hour
+by hour, or which hours a correction restored. Amounts before they are rounded have a third
+decimal, and X a fourth.
+
+Every figure comes from the proved library, or is a field of the case. Events are counted from 0,
+as casetool settle and casetool show number them; casetool settle --explain has the working of
+the money of all.
 
   --event N          the event, from 0
   --hour H           the hour, 0 to 23

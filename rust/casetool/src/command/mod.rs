@@ -7,6 +7,7 @@ pub mod files;
 pub mod help;
 mod input;
 mod line;
+mod money;
 mod one_line;
 pub mod output;
 

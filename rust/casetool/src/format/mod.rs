@@ -4,6 +4,7 @@ pub mod check;
 mod csv;
 pub mod json;
 pub mod line;
+pub mod money;
 pub mod notes;
 mod rows;
 pub mod settlement;

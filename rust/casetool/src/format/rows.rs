@@ -5,6 +5,7 @@ use attachment_h::{Cents, Kind, Mask, Row, Settled};
 
 use super::csv;
 use super::json::{Json, event_fields};
+use super::money::Money;
 use super::settlement::Settlement;
 use crate::record::event::Event;
 use crate::record::fields;
@@ -28,13 +29,17 @@ impl Settlement<'_> {
             ("make_ups_cents", settled.make_ups.0.into()),
             ("make_ups_dollars", dollars(settled.make_ups).into()),
         ]);
-        let settlement = Json::Object(vec![
+        let mut fields = vec![
             ("answer", "settled".into()),
             ("correction", correction.into()),
             ("rows", self.rows().map(Json::Object).collect()),
             ("totals", totals),
-        ]);
-        settlement.to_string()
+        ];
+        fields.extend(self.workings.map(|workings| {
+            let workings = workings.iter().map(Money::fields);
+            ("workings", workings.map(Json::Object).collect())
+        }));
+        Json::Object(fields).to_string()
     }
 
     /// The settlement as CSV: a line of names, a line for each row, and one for the totals.

@@ -5,6 +5,7 @@
 use attachment_h::layout::{HOURS, Section, Sections, cell, u16_at, u32_at};
 use attachment_h::{Component, Kind, Mask, Row, Settled};
 
+use crate::format::money::Money;
 use crate::format::notes::{self, Correction};
 use crate::record::event::Event;
 use crate::record::fields;
@@ -23,6 +24,8 @@ pub struct Settlement<'a> {
     pub correction: Option<&'a Correction>,
     /// The rows of the same case settled without the correction; of no use where there was none.
     pub rows_without: &'a [u8],
+    /// The working of each event's money, where it was asked for.
+    pub workings: Option<&'a [Money<'a>]>,
 }
 
 /// A figure under its name.
@@ -79,10 +82,12 @@ impl Settlement<'_> {
         text.push('\n');
         let row = Row::of(self.rows, place);
         text += &line("flagged hours", &hours::spoken(row.flags.0));
-        text + &match event.kind {
+        text += &match event.kind {
             Kind::BIDS => self.bids(place, event, &row),
             _ => self.sanction(event, &row),
-        }
+        };
+        let working = self.workings.and_then(|workings| workings.get(place));
+        text + &working.map_or(String::new(), |working| working.steps_text("      "))
     }
 
     /// The figures of an event that may bear a penalty.

@@ -13,6 +13,8 @@ pub enum Measure {
     Plain,
     /// Dollars, in the file cents.
     Dollars,
+    /// Dollars, of the library tenths of a cent: no text has them.
+    TenthsOfACent,
     /// MW, in the file tenths.
     Power,
     /// MW a minute, in the file tenths.
@@ -32,6 +34,7 @@ impl Measure {
         match self {
             Measure::Plain | Measure::Minutes => 0,
             Measure::Dollars => 2,
+            Measure::TenthsOfACent => 3,
             Measure::Power | Measure::Rate | Measure::Energy => 1,
         }
     }
@@ -39,7 +42,7 @@ impl Measure {
     /// The word after the amount, if it has one.
     pub fn word(self) -> Option<&'static str> {
         match self {
-            Measure::Plain | Measure::Dollars => None,
+            Measure::Plain | Measure::Dollars | Measure::TenthsOfACent => None,
             Measure::Power => Some("MW"),
             Measure::Rate => Some("MW/min"),
             Measure::Energy => Some("MWh"),
@@ -52,6 +55,7 @@ impl Measure {
         match self {
             Measure::Plain => "a whole number",
             Measure::Dollars => "dollars with at most two decimals, such as $40.00",
+            Measure::TenthsOfACent => "dollars with at most three decimals, such as $40.000",
             Measure::Power => "MW with at most one decimal, such as 50.1 MW",
             Measure::Rate => "MW a minute with at most one decimal, such as 10.0 MW/min",
             Measure::Energy => "MWh with at most one decimal, such as 50.1 MWh",
@@ -87,7 +91,10 @@ impl Measure {
 
     fn with_digits(self, value: Signed, shape: impl Fn(String) -> String) -> String {
         let (sign, whole, part) = self.parts(value);
-        let dollar = if self == Measure::Dollars { "$" } else { "" };
+        let dollar = match self {
+            Measure::Dollars | Measure::TenthsOfACent => "$",
+            _ => "",
+        };
         let word = self.word().map_or(String::new(), |word| format!(" {word}"));
         format!("{sign}{dollar}{}{part}{word}", shape(whole))
     }
@@ -209,6 +216,25 @@ pub fn bytes(count: usize) -> String {
 /// Cents as dollars, such as `$2,004.00`.
 pub fn dollars(cents: Cents) -> String {
     Measure::Dollars.spoken(cents.0)
+}
+
+/// Tenths of a cent as dollars, such as `$2,004.000`.
+pub fn tenths(count: impl Into<Signed>) -> String {
+    Measure::TenthsOfACent.spoken(count)
+}
+
+/// Twentieths of a cent as dollars, such as `$10,700.0005`: halves of a tenth.
+pub fn twentieths(count: u64) -> String {
+    tenths(count / 2) + half_of_a_tenth(count)
+}
+
+/// The same for programs, such as `10700.0005`.
+pub fn twentieths_decimal(count: u64) -> String {
+    Measure::TenthsOfACent.decimal(count / 2) + half_of_a_tenth(count)
+}
+
+fn half_of_a_tenth(twentieths: u64) -> &'static str {
+    if twentieths % 2 == 1 { "5" } else { "0" }
 }
 
 /// A multiplier from its halves, such as `1.5`.

@@ -2,7 +2,7 @@
 
 use crate::support::{casetool, file_with, repository, written};
 
-const HOUR: [&str; 4] = ["--event", "0", "--hour", "0"];
+const EVENT_AND_HOUR: [&str; 4] = ["--event", "0", "--hour", "0"];
 
 /// Every command that reads a case, in every format that it has.
 fn commands() -> Vec<Vec<&'static str>> {
@@ -10,7 +10,9 @@ fn commands() -> Vec<Vec<&'static str>> {
     for (name, formats, more) in [
         ("check", &["text", "json"][..], &[][..]),
         ("settle", &["text", "json", "csv"], &[]),
-        ("working", &["text", "json"], &HOUR),
+        ("settle", &["text", "json"], &["--explain"]),
+        ("working", &["text", "json"], &EVENT_AND_HOUR),
+        ("working", &["text", "json"], &EVENT_AND_HOUR[..2]),
         ("line", &["text", "json"], &[]),
     ] {
         found.push([&[name], more].concat());
@@ -20,7 +22,7 @@ fn commands() -> Vec<Vec<&'static str>> {
                 .map(|format| [&[name, "--format", format], more].concat()),
         );
     }
-    assert_eq!(found.len(), 13);
+    assert_eq!(found.len(), 19);
     found
 }
 

@@ -61,6 +61,8 @@ fn events_are_numbered_as_the_rows_are() {
         &["settle"][..],
         &["working", "--event", "0", "--hour", "0"],
         &["working", "--event", "5", "--hour", "19"],
+        &["working", "--event", "2"],
+        &["working", "--event", "3"],
     ] {
         let as_it_is = casetool(arguments, text.as_bytes());
         assert_eq!((as_it_is.status, as_it_is.errors.as_str()), (0, ""));

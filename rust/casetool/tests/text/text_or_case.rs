@@ -7,6 +7,8 @@ use cases::generator::any_case;
 use crate::support::{Ran, casetool, file_with, repository, written};
 
 const WORKING: [&str; 5] = ["working", "--event", "0", "--hour", "0"];
+const MONEY: [&str; 3] = ["working", "--event", "0"];
+const EXPLAINED: [&str; 2] = ["settle", "--explain"];
 
 fn example(name: &str) -> Vec<u8> {
     std::fs::read(repository(&format!("examples/{name}"))).expect("an example")
@@ -21,7 +23,14 @@ fn said(ran: &Ran) -> String {
 fn a_text_and_the_file_of_it_give_the_same() {
     let text = example("two-plants.txt");
     let case = casetool(&["write"], &text).output;
-    for arguments in [&["settle"][..], &["check"], &WORKING, &["line"]] {
+    for arguments in [
+        &["settle"][..],
+        &["check"],
+        &WORKING,
+        &MONEY,
+        &EXPLAINED,
+        &["line"],
+    ] {
         let of_text = casetool(arguments, &text);
         assert_eq!((of_text.status, of_text.errors.as_str()), (0, ""));
         assert_eq!(of_text, casetool(arguments, &case));
@@ -196,7 +205,14 @@ fn utf_16_is_named() {
 /// That a text is refused with this number, and where: the line after the number's.
 fn refused(number: u8, text: &str, place: &str) {
     let path = file_with("text-or-case.refused", text.as_bytes());
-    for arguments in [&["check"][..], &["settle"], &WORKING, &["line"]] {
+    for arguments in [
+        &["check"][..],
+        &["settle"],
+        &WORKING,
+        &MONEY,
+        &EXPLAINED,
+        &["line"],
+    ] {
         let ran = casetool(&[arguments, &[&path]].concat(), b"");
         let said = said(&ran).replace(&path, "FILE");
         let said = said.trim_start_matches("casetool: ");
@@ -289,6 +305,8 @@ fn a_period_that_is_not_its_days_is_warned_of() {
         &["check"][..],
         &["settle", "--format", "json"],
         &WORKING,
+        &MONEY,
+        &EXPLAINED,
         &["line"],
     ] {
         let ran = casetool(arguments, text.as_bytes());
