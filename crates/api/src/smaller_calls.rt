@@ -1,9 +1,9 @@
 // The smaller public calls: first 7 for a reference out of its component's range, then 10 for any other argument; the line has 16
 // for both.
 ghost use mathlib.Core.Path.{_≡_};
-ghost use Rattle.calls.specs.ConductCalls.{bidAnswer, timesAnswer, withheldAnswer, dispatchAnswer};
-ghost use Rattle.calls.specs.SanctionCalls.{multiplierAnswer, withheldPenaltyAnswer, dispatchPenaltyAnswer, fuelPenaltyAnswer, fuelDayAnswer, periodAnswer};
-ghost use Rattle.calls.specs.DefaultBidCalls.{spanAnswer, inForceAnswer, correctedInForceAnswer, makeUpAnswer};
+ghost use Rattle.test_calls.specs.ConductCalls.{bidAnswer, timesAnswer, withheldAnswer, dispatchAnswer};
+ghost use Rattle.penalty_calls.specs.SanctionCalls.{multiplierAnswer, withheldPenaltyAnswer, dispatchPenaltyAnswer, fuelPenaltyAnswer, fuelDayAnswer, periodAnswer};
+ghost use Rattle.bid_calls.specs.DefaultBidCalls.{spanAnswer, inForceAnswer, correctedInForceAnswer, makeUpAnswer};
 ghost use Rattle.line.specs.LineCall.{lineAnswer};
 ghost use Rattle.api.specs.Exported.{exported, exportedTimes};
 use crate::exported_answers::ExportedAnswer;
@@ -11,10 +11,10 @@ use crate::exported_answers::ExportedTimes;
 use crate::exported_answers::of_figure;
 use crate::exported_answers::of_times;
 use crate::exported_answers::of_verdict;
-use calls::conduct_calls;
-use calls::default_bid_calls;
-use calls::sanction_calls;
+use bid_calls::default_bid_calls;
 use line::line_call;
+use penalty_calls::sanction_calls;
+use test_calls::conduct_calls;
 
 // Whether a bid fails the conduct test of its component (4 to 6: the single test).
 #[no_mangle]

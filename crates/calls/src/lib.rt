@@ -1,9 +1,6 @@
-// The smaller public calls over the rules, each with its refusals.
+// The answers of the smaller public calls, and what refuses their arguments.
 pub mod answers;
-pub mod conduct_calls;
-pub mod default_bid_calls;
 pub mod out_of_range;
-pub mod sanction_calls;
 
 pub use answers::Figure;
 pub use answers::TimeVerdict;

@@ -16,7 +16,7 @@ use Rattle.binary.proofs.ListLaws.{list-length, list-at}
 use Rattle.tariff.specs.Ranges.{highestCapability, highestPrice, highestRevenue, highestE, highestT}
 use Rattle.tariff.specs.SanctionRules.{ladder, withheldPenalty, dispatchPenalty, fuelCharge, fuelPenalty}
 use Rattle.calls.specs.Answers.{answer, given}
-use Rattle.calls.specs.SanctionCalls.{badMultiplier, badHour, badHours, amountAt, withheldPenaltyAnswer, badRevenue, badRevenues, revenueAt, dispatchPenaltyAnswer, badFuel, fuelPenaltyAnswer}
+use Rattle.penalty_calls.specs.SanctionCalls.{badMultiplier, badHour, badHours, amountAt, withheldPenaltyAnswer, badRevenue, badRevenues, revenueAt, dispatchPenaltyAnswer, badFuel, fuelPenaltyAnswer}
 use Rattle.casefile.specs.Layout.{mostHours}
 use Rattle.casefile.specs.Case.{Case}
 use Rattle.casefile.specs.Decode.{formatIn, sectionOf, eventsIn, caseIn, decode}

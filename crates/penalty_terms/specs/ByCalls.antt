@@ -9,7 +9,7 @@ use lib.ListN.{getD}
 use Rattle.binary.specs.Bounded.{sumTo}
 use Rattle.binary.specs.Lists.{listTo}
 use Rattle.calls.specs.Answers.{given}
-use Rattle.calls.specs.SanctionCalls.{withheldPenaltyAnswer, dispatchPenaltyAnswer, fuelPenaltyAnswer}
+use Rattle.penalty_calls.specs.SanctionCalls.{withheldPenaltyAnswer, dispatchPenaltyAnswer, fuelPenaltyAnswer}
 use Rattle.casefile.specs.Layout.{mostHours}
 use Rattle.casefile.specs.Case.{Case}
 use Rattle.casefile.specs.Decode.{decode}

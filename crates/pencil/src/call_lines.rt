@@ -1,8 +1,8 @@
 // One line of the table for each small public call: the arguments, and the answer.
 use crate::print;
-use calls::conduct_calls;
-use calls::default_bid_calls;
-use calls::sanction_calls;
+use bid_calls::default_bid_calls;
+use penalty_calls::sanction_calls;
+use test_calls::conduct_calls;
 
 pub fn heading(title: &[u8]) {
     print::text(title);

@@ -26,7 +26,7 @@ use Rattle.penalty_terms.specs.PenaltyWorking.{bearer, chargeOf, hourTerm, hour
 use Rattle.counted_instances.specs.CountedInstances.{countedHere, countedPast, byteOf, countedLength, countedByte}
 use Rattle.make_up_terms.specs.MakeUpWorking.{correctRead, restored, energyBid, hourTenths, makeUpWorkingAt, refusedMakeUp, makeUpWorkingOf}
 use Rattle.calls.specs.Answers.{given}
-use Rattle.calls.specs.SanctionCalls.{fuelPenaltyAnswer}
+use Rattle.penalty_calls.specs.SanctionCalls.{fuelPenaltyAnswer}
 use Rattle.penalty_terms.specs.declared.penalty_working.PenaltyWorking.{PenaltyWorking}
 use Rattle.penalty_terms.specs.ByCalls.{signedWord}
 use Rattle.penalty_terms.proofs.CallLaws.{by-calls}
