@@ -16,7 +16,8 @@
  *
  * and a smaller call first with 7 for a reference out of its component's range (skipped where no such component
  * exists), then with 10 for any other argument out of its range; attachment_h_line refuses all of them with 16. The
- * ranges stand with each call.
+ * ranges stand with each call. A working is refused with the case's number, then with 10 where there is no such event or
+ * hour, and the lists of instances last with 15 where out is too short.
  *
  * Memory. A slice is a pointer and a number of elements. A pointer that does not lead to so many readable elements
  * (rows, out: writable) is the caller's fault, and nothing here can notice it; with a length of 0 the pointer may be NULL. Beyond that every
@@ -106,7 +107,7 @@ typedef struct {
     uint8_t kind;        /* of the event */
     uint8_t multiplier;  /* in halves, that of the row that bears the penalty; of kind 3 this is M */
     bool below;          /* kind 3: X is below $5,000, so that there is no penalty */
-    uint16_t n3;         /* of the event's row */
+    uint16_t n3;         /* of row `row`, both */
     uint16_t n2;
     size_t row;          /* the event whose row bears the penalty: of kind 3 that of the lowest unit of the party-day,
                             else the event itself */

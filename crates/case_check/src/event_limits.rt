@@ -2,7 +2,6 @@
 ghost use mathlib.Core.Bool.{true};
 ghost use mathlib.Core.Path.{_≡_};
 ghost use Prim.Native.Nat.{_<_, _≤_};
-ghost use lib.ListN.{length};
 ghost use Rattle.binary.specs.Lists.{Holds};
 ghost use Rattle.tariff.specs.Ranges.{highestDay};
 ghost use Rattle.casefile.specs.Layout.{mostHours, mostEvents, numberLimit};

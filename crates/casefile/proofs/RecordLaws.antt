@@ -1,4 +1,4 @@
--- Parts of a section's bytes.
+-- Parts of a section's bytes, and what the sections of a file say of its case.
 use Prim.Native.Nat.{ℕ, zero, suc, _+_, _-_, _*_, _/_, _^_, _≤_, _<_}
 use mathlib.Core.Bool.{Bool, true, false}
 use mathlib.Core.List.{List}
@@ -111,6 +111,7 @@ component-byte format s b i l = record-bytes (referenceWidth format) s i b 2
 
 -- ---- the sections of a file, as they are handed on
 
+-- how many events
 pub count-is : (format : Format) (f e : List ℕ) → format ≡ formatIn f → e ≡ sectionOf f 3 → eventsIn format e .count ≡ decode f .events .count
 unfolding decode caseIn
 count-is format f e ef ee = rw (ef, ee)

@@ -34,7 +34,7 @@ pub const BIDS_OFFSET: usize = 32;
 
 pub const ROW_WIDTH: usize = BIDS_OFFSET + 4 * HOURS;
 
-// Rows for every case.
+// Rows for every case, as limits' specs/Refusal has them (mostRows).
 pub const MOST_ROWS: usize = ROW_WIDTH * MOST_EVENTS;
 
 // What a file says of its own layout.

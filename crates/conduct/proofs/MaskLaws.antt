@@ -19,7 +19,7 @@ use Rattle.casefile.specs.StageRead.{cellOf}
 use Rattle.conduct.specs.declared.masks.Bid.{Bid}
 use Rattle.conduct.specs.declared.masks.Withheld.{Withheld}
 use Rattle.conduct.specs.declared.masks.ConductTest.the-variants as test
-use Rattle.conduct.specs.Flags.{tight, sumTogether, groupCapability, groupSum, withheldFlag, dispatchFlag, fuelFlag, flagged}
+use Rattle.conduct.specs.Flags.{tight, sumTogether, groupCapability, groupSum, withheldFlag, dispatchFlag, fuelFlag}
 use Rattle.conduct.specs.StageMasks.{bidOf, testOf, tightHours, failsIn, failsAt}
 use Rattle.conduct.specs.StageFlags.{partySum, HasRow, timeTotalIn, totalRead, bidFlagIn, flaggedIn, flagMaskIn, maskIn}
 use Rattle.conduct.proofs.SumLaws.{cell-amount, sum-amounts, sum-union}

@@ -49,5 +49,6 @@ failsIn test.NoTest a sum tight = false
 unfoldable pub failsAt : ConductTest → (tight : ℕ) → (cells sums : List ℕ) → (h : ℕ) → Bool
 failsAt t tight cells sums h = failsIn t (cellOf cells h .a) (getD sums h 0) (bitOf tight h)
 
+-- a row of sums, none of them above the highest
 abbrev pub SmallRow : (row : List ℕ) → Type 0
 SmallRow row = (h : ℕ) → h < mostHours → getD row h 0 ≤ highestSum

@@ -1,21 +1,19 @@
 -- The bits that the code finds are those of the case.
-use Prim.Native.Nat.{ℕ, _+_, _-_, _*_, _≤_, _<_}
-use mathlib.Core.Bool.{Bool, true, false, cond, _&&_}
+use Prim.Native.Nat.{ℕ, _+_, _-_, _*_, _<_}
+use mathlib.Core.Bool.{Bool, true, false, _&&_}
 use mathlib.Core.List.{List, _++_}
-use mathlib.Core.Path.{_≡_, refl, sym, ap, _∙_}
+use mathlib.Core.Path.{_≡_, refl, ap, _∙_}
 use native.Mathlib.Omega.{arith}
-use lib.Dec.{ltb, eqb}
-use lib.ListN.{length, getD, drop}
+use lib.Dec.{ltb}
+use lib.ListN.{length, drop}
 use borrow.Author.Tests.{ltb-true, eq-eqb, ne-eqb}
 use Rattle.binary.specs.Lists.{listTo}
 use Rattle.binary.proofs.MaskLaws.{mask-same}
 use Rattle.binary.proofs.ListLaws.{list-same}
 use Rattle.casefile.specs.declared.layout.Format.{Format}
-use Rattle.casefile.specs.Case.{Case}
 use Rattle.casefile.specs.Decode.{formatIn, sectionOf, pastIn, caseIn, decode}
 use Rattle.limits.specs.Refusal.{refusal, mostRows}
 use Rattle.limits.specs.StageChecked.{AcceptedFile}
-use Rattle.sanctions.specs.Penalties.{isInstance}
 use Rattle.sanctions.specs.StageFound.{Accepted, FoundMasks}
 use Rattle.sanctions.proofs.AcceptedLaws as sanctions
 use Rattle.sanctions.proofs.FoundLaws as found-laws

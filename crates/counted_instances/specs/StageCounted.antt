@@ -9,18 +9,21 @@ use Rattle.casefile.specs.Decode.{pastIn, eventsIn}
 use Rattle.sanctions.specs.StageTables.{instanceAt, rowCounts, entryCounts}
 use Rattle.counted_instances.specs.CountedInstances.{byteOf, eventBytes, listBytes}
 
+-- event j is counted by event i, k periods back
 unfoldable pub eventCounted : Format → (events groups masks : List ℕ) (k i j : ℕ) → Bool
 eventCounted format events groups masks k i j =
     ltb j i
     && (instanceAt format events masks i
     && rowCounts format events groups masks (getD groups i 0) (eventsIn format events .market i) (eventsIn format events .period i) k j)
 
+-- past entry j is
 unfoldable pub entryCounted : Format → (past events groups masks : List ℕ) (k i j : ℕ) → Bool
 entryCounted format past events groups masks k i j =
     ltb j (pastIn past .count)
     && (instanceAt format events masks i
     && entryCounts past (getD groups i 0) (eventsIn format events .market i) (eventsIn format events .period i) k j)
 
+-- byte b of the lists
 unfoldable pub byteIn : Format → (past events groups masks : List ℕ) (i b : ℕ) → ℕ
 byteIn format past events groups masks i b =
     cond (ltb b eventBytes) (byteOf (eventCounted format events groups masks 2 i) b)

@@ -2,7 +2,6 @@
 ghost use mathlib.Core.Bool.{true};
 ghost use mathlib.Core.Path.{_≡_};
 ghost use Prim.Native.Nat.{_<_};
-ghost use lib.ListN.{length};
 ghost use Rattle.casefile.specs.Decode.{unitsIn, referencesIn};
 ghost use Rattle.limits.specs.StageLookup.{UnitsInOrder, referenceFineWhere};
 ghost use Rattle.limits.specs.Refusal.{referenceFieldsFine, referencesFine, correctionFine};

@@ -1,12 +1,12 @@
 -- The make-up follows from its terms.
 use Prim.Native.Nat.{ℕ, _<_}
-use mathlib.Core.Bool.{Bool, true, false, cond, not, _&&_}
+use mathlib.Core.Bool.{Bool, true, false, cond, not}
 use mathlib.Core.List.{List}
 use mathlib.Core.Path.{_≡_, refl, sym, _∙_}
 use native.Mathlib.Omega.{arith}
 use lib.Dec.{ltb, eqb}
 use lib.ListN.{getD}
-use borrow.Author.Tests.{eqb-true, eqb-false}
+use borrow.Author.Tests.{eqb-false}
 use Rattle.binary.specs.Bounded.{sumTo, maskTo, bitOf}
 use Rattle.binary.specs.Lists.{listTo}
 use Rattle.binary.proofs.Implies.{and-l, and-r}
@@ -14,6 +14,7 @@ use Rattle.binary.proofs.BoundedLaws.{sum-same, sum-bound}
 use Rattle.binary.proofs.MaskLaws.{bit-mask}
 use Rattle.binary.proofs.ListLaws.{list-at}
 use Rattle.tariff.specs.ConductTests.{bidTest}
+use Rattle.tariff.specs.SanctionRules.{cents}
 use Rattle.tariff.specs.DefaultBidRules.{restores, correctedBid, correctedInForce, makeUp}
 use Rattle.casefile.specs.Layout.{mostHours}
 use Rattle.casefile.specs.Case.{References, Case}
@@ -30,6 +31,14 @@ use Rattle.make_up_terms.proofs.MakeUpLaws.{energy-reads, correct-read}
 
 sum-zero : (n : ℕ) (p : ℕ → ℕ) → ((j : ℕ) → j < n → p j ≡ 0) → sumTo n p ≡ 0
 sum-zero n p e = let b = sum-bound n p 0 (λ j l. let q = e j l in omega arith) in omega arith
+
+no-make-up : (r c : ℕ) → makeUp r c 0 ≡ 0
+unfolding makeUp cents
+no-make-up r c = go (eqb c r)
+  where
+    go : (b : Bool) → _≡_ {A = ℕ} (cond b 0 0) 0
+    go true = refl
+    go false = refl
 
 -- the hours of a bid on energy add to its make-up in tenths; others have none
 tenths-added : (f : List ℕ) (correct : References) (i : ℕ)
@@ -68,6 +77,19 @@ module _ (c : Case) (i : ℕ) where
           level-read (energy-reads c i t),
         )
 
+    -- others have none
+    due-none : energyBid c i ≡ false → makeUpOf c correct i ≡ 0
+    unfolding makeUpOf energyBid
+    due-none t = rw t
+
+    due-all : makeUpOf c correct i ≡ makeUp (bidLevel (c .references) (c .events) i) (correctRead c correct i) (cond (energyBid c i) (makeUpTenths c correct i) 0)
+    due-all = go (energyBid c i) refl
+      where
+        go : (b : Bool) → energyBid c i ≡ b
+            → makeUpOf c correct i ≡ makeUp (bidLevel (c .references) (c .events) i) (correctRead c correct i) (cond b (makeUpTenths c correct i) 0)
+        go true t = due-is t
+        go false t = due-none t ∙ sym (no-make-up (bidLevel (c .references) (c .events) i) (correctRead c correct i))
+
     -- a restored hour
     in-force-is : (h : ℕ) → restored c correct i h ≡ true → bidInForce c correct i h ≡ c .a i h
     unfolding restored bidInForce correctedInForce correctedBid
@@ -104,7 +126,7 @@ module _ (f : List ℕ) (correct : References) (i : ℕ) where
   by-terms-at =
       record {
         summed = summed-is;
-        due = λ t. due-is (decode f) i correct t ∙ rw t;
+        due = due-all (decode f) i correct;
         in-force = λ h m t. in-force-is (decode f) i correct h (sym (restored-bit h m) ∙ t);
       }
 

@@ -1,5 +1,5 @@
 -- What the code finds is the working of the case.
-use Prim.Native.Nat.{ℕ, zero, suc, _<_}
+use Prim.Native.Nat.{ℕ, zero, suc}
 use mathlib.Core.Bool.{Bool, true, false, cond, not, _&&_, _||_, and-false}
 use mathlib.Core.List.{List}
 use mathlib.Core.Path.{_≡_, refl, sym, ap, ap₂, _∙_}
@@ -17,17 +17,16 @@ use Rattle.casefile.specs.Layout.{mostHours}
 use Rattle.casefile.specs.Case.{References, Case}
 use Rattle.casefile.specs.Decode.{formatIn, sectionOf, referencesIn, cellsFrom, cellsIn, eventsIn, amountsIn, caseIn, decode}
 use Rattle.casefile.specs.StageRead.{cellOf}
-use Rattle.casefile.specs.Lookup.{unitOf, bidLevel, readsCorrect, correctReferences, correctIn}
+use Rattle.casefile.specs.Lookup.{unitOf, bidLevel, readsCorrect, correctIn}
 use Rattle.limits.specs.Refusal.{eventsFine, refusal, mostRows}
 use Rattle.limits.specs.StageLookup.{readsLevel, correctLevel}
 use Rattle.limits.specs.StageChecked.{AcceptedFile}
 use Rattle.limits.proofs.AcceptedLaws as case
 use Rattle.conduct.specs.Flags.{tight, flagMask}
-use Rattle.default_bids.specs.Mitigation.{mitigated, mitigatedMask, correctOf, makeUpTenths, makeUpOf}
+use Rattle.default_bids.specs.Mitigation.{mitigated, mitigatedMask, correctOf, makeUpTenths}
 use Rattle.default_bids.specs.StageFigures.{mitigatedBy, failsWith, tenthsAt, makeUpBy}
 use Rattle.default_bids.proofs.SpanLaws.{mask-nothing}
 use Rattle.default_bids.proofs.FigureLaws.{restores-none, by-read, mitigated-bit, mitigated-by, tenths-are, make-up-by}
-use Rattle.make_up_terms.specs.declared.make_up_working.MakeUpWorking.{MakeUpWorking}
 use Rattle.make_up_terms.specs.declared.make_up_working.MakeUpTerms.{MakeUpTerms}
 use Rattle.make_up_terms.specs.MakeUpWorking.{correctRead, restored, energyBid, hourTenths, makeUpWorkingAt, refusedMakeUp, makeUpWorkingOf}
 use Rattle.make_up_terms.specs.StageMakeUp.{restoredIn, restoredBy, termsBy, makeUpWorkingIn}

@@ -12,11 +12,11 @@ use Rattle.casefile.specs.Decode.{decode}
 use Rattle.casefile.specs.Lookup.{correctIn}
 use Rattle.default_bids.specs.Mitigation.{bidInForce}
 use Rattle.make_up_terms.specs.declared.make_up_working.MakeUpWorking.{MakeUpWorking}
-use Rattle.make_up_terms.specs.MakeUpWorking.{energyBid, makeUpWorkingOf}
+use Rattle.make_up_terms.specs.MakeUpWorking.{makeUpWorkingOf}
 
 pub record MakeUpByTerms (c : Case) (correct : References) (i : ℕ) (w : MakeUpWorking) : Type 0 where
   pub summed : sumTo mostHours (λ h. getD (w .hours) h 0) ≡ w .tenths
-  pub due : energyBid c i ≡ true → w .«make_up» ≡ makeUp (w .reference) (w .correct) (w .tenths)
+  pub due : w .«make_up» ≡ makeUp (w .reference) (w .correct) (w .tenths)
   pub in-force : (h : ℕ) → h < mostHours → bitOf (w .restored) h ≡ true → bidInForce c correct i h ≡ c .a i h
 
 -- of every working that is given

@@ -16,15 +16,18 @@ use Rattle.default_bids.specs.StageFigures.{failsWith, tenthsAt, makeUpBy}
 use Rattle.make_up_terms.specs.declared.make_up_working.MakeUpWorking.{MakeUpWorking}
 use Rattle.make_up_terms.specs.declared.make_up_working.MakeUpTerms.{MakeUpTerms}
 
+-- an hour of the mitigated ones that is not among the failing
 unfoldable pub restoredIn : (mitigated failing : ℕ) → ℕ → Bool
 restoredIn mitigated failing h = bitOf mitigated h && not (bitOf failing h)
 
+-- the restored hours, where c restores bids of the component
 unfoldable pub restoredBy : Format → (units events : List ℕ) (place r c mitigated i : ℕ) → ℕ
 restoredBy format u s place r c mitigated i =
     cond (restores (eventsIn format s .component i) r c)
     (maskTo mostHours (λ h. bitOf mitigated h && not (failsWith format u s place c i h)))
     0
 
+-- the hours' make-ups and their sum, of a bid on energy
 unfoldable pub termsBy : Format → (events : List ℕ) (i c mitigated : ℕ) → MakeUpTerms
 termsBy format s i c mitigated =
     cond (eqb (eventsIn format s .kind i) 4 && eqb (eventsIn format s .component i) 0)

@@ -1,20 +1,20 @@
--- The smaller calls, given the terms of an event, give the penalty of the row that bears it.
-use Prim.Native.Nat.{ℕ, _+_, _-_, _*_, _^_, _≤_, _<_}
-use mathlib.Core.Bool.{Bool, true, false, cond, not, _||_}
+-- With multiplier 0 there is no penalty; else the smaller call of the kind, given the terms, gives that of the row that bears it.
+use Prim.Native.Nat.{ℕ, _-_, _*_, _^_, _≤_, _<_}
+use mathlib.Core.Bool.{Bool, true, false, cond, not, _&&_, _||_}
 use mathlib.Core.List.{List}
 use mathlib.Core.Path.{_≡_, refl, sym, ap, _∙_}
 use native.Mathlib.Nat.{zero-mul}
 use native.Mathlib.Omega.{arith}
 use lib.Dec.{ltb, leb, eqb}
 use lib.ListN.{length, getD}
-use borrow.Author.Tests.{ltb-true, eqb-true, eqb-false, eq-eqb, ne-eqb, lt-ltb, le-ltb, le-leb}
-use Rattle.binary.specs.Bounded.{sumTo, anyTo}
+use borrow.Author.Tests.{ltb-true, eqb-true, eqb-false, ne-eqb, lt-ltb, le-ltb, le-leb}
+use Rattle.binary.specs.Bounded.{sumTo}
 use Rattle.binary.specs.Lists.{listTo}
 use Rattle.binary.specs.Word.{positivePart, negativePart, within}
 use Rattle.binary.proofs.BoundedLaws.{sum-same, any-false}
 use Rattle.binary.proofs.ListLaws.{list-length, list-at}
 use Rattle.tariff.specs.Ranges.{highestCapability, highestPrice, highestRevenue, highestE, highestT}
-use Rattle.tariff.specs.SanctionRules.{ladder, withheldPenalty, dispatchPenalty, fuelCharge, fuelPenalty}
+use Rattle.tariff.specs.SanctionRules.{cents, ladder, withheldPenalty, fuelCharge, fuelPenalty}
 use Rattle.calls.specs.Answers.{answer, given}
 use Rattle.penalty_calls.specs.SanctionCalls.{badMultiplier, badHour, badHours, amountAt, withheldPenaltyAnswer, badRevenue, badRevenues, revenueAt, dispatchPenaltyAnswer, badFuel, fuelPenaltyAnswer}
 use Rattle.casefile.specs.Layout.{mostHours}
@@ -81,6 +81,31 @@ multiplier-good c i = go (isInstance c i) (leb 4 (instances c 1 i)) (leb 3 (inst
     go true false true = refl
     go true false false = refl
     go false b d = refl
+
+-- ---- no multiplier
+
+after-some : (b : Bool) → fuelMultiplierAfter b ≡ 0 → ⊥
+unfolding fuelMultiplierAfter
+after-some true z = omega arith
+after-some false z = omega arith
+
+nothing-times : (x : ℕ) → withheldPenalty 0 x ≡ 0
+unfolding withheldPenalty cents
+nothing-times x = rw (zero-mul x)
+
+no-penalty : (c : Case) (i : ℕ) → multiplier c i ≡ 0 → penalty c i ≡ 0
+unfolding multiplier penalty withheldPenaltyOf dispatchMultiplier dispatchPenaltyOf fuelMultiplier
+no-penalty c i z =
+    go (eqb (c .events .kind i) 1) (eqb (c .events .kind i) 2) (eqb (c .events .kind i) 3 && lowestUnit c i) (flaggedWithImpact c i) (withheldMultiplier c i) _ _ z
+  where
+    go : (one two three impact : Bool) (m p x : ℕ)
+        → cond one m (cond two (cond impact 3 0) (cond three (fuelMultiplier c i) 0)) ≡ 0
+        → cond one (withheldPenalty m p) (cond two (cond impact x 0) (cond three (fuelPenaltyOf c i) 0)) ≡ 0
+    go true two three impact m p x e = rw e (nothing-times p)
+    go false true three true m p x e = absurd (omega arith)
+    go false true three false m p x e = refl
+    go false false true impact m p x e = absurd (after-some _ e)
+    go false false false impact m p x e = refl
 
 -- ---- an accepted case
 
@@ -217,6 +242,7 @@ module _ (f k : List ℕ) (n : ℕ) (h : refusal f k n ≡ 0) (i : ℕ) (l : i <
       record {
         amount = λ q. rw q (added f i q);
         revenue = λ q. rw q (revenue-added f i q);
+        none = no-penalty (decode f) (bearer (decode f) i);
         withheld = λ q. rw (own (λ z. omega arith)) (withheld-call f k n h i l q);
         dispatch = λ q e. rw (own (λ z. omega arith)) (dispatch-call f k n h i l q (rw (own (λ z. omega arith)) at e));
         fuel = λ q.

@@ -4,7 +4,7 @@ use mathlib.Core.Bool.{Bool, true, false, cond}
 use mathlib.Core.List.{List}
 use mathlib.Core.Logic.{⊎-elim}
 use mathlib.Core.Path.{_≡_, refl, sym, ap, _∙_}
-use native.Mathlib.Nat.{le-trans, mul-le-mul-right, suc-mul, eq-or-lt-of-le, mul-le-mul}
+use native.Mathlib.Nat.{mul-le-mul-right, suc-mul, eq-or-lt-of-le, mul-le-mul}
 use native.Mathlib.Omega.{arith}
 use lib.Dec.{ltb}
 use borrow.Author.Tests.{ltb-true, ltb-false}
@@ -17,7 +17,7 @@ use Rattle.tariff.specs.Ranges.{highestFuelMoney, highestEnergy, highestPriceCh
 use Rattle.casefile.specs.Layout.{mostHours, mostUnits}
 use Rattle.casefile.specs.Case.{Case}
 use Rattle.casefile.specs.Decode.{formatIn, sectionOf, eventsIn, caseIn, decode}
-use Rattle.casefile.specs.Lookup.{isListed, placeOf, unitOf}
+use Rattle.casefile.specs.Lookup.{isListed, unitOf}
 use Rattle.limits.specs.Refusal.{eventListed, eventsListed, orderFine, refusal}
 use Rattle.limits.proofs.AcceptedLaws as case
 use Rattle.limits.proofs.LookupLaws.{listed-place, listed-number}

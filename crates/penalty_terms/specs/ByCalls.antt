@@ -1,5 +1,6 @@
--- The penalty follows from its terms by the smaller calls (docs/RULES.md, R13): what they give for the terms of an event of an accepted case
--- is the penalty of the row that bears it.
+-- The penalty follows from its terms by the smaller calls (docs/RULES.md, R13). With multiplier 0 there is none. Else the call of the kind, given the
+-- multiplier and the flagged hours of a withheld event, the flagged hours of a dispatch event, or E, T and M of a party-day, gives the penalty of the row
+-- that bears it.
 use Prim.Native.Nat.{ℕ, _-_, _^_}
 use mathlib.Core.Bool.{cond}
 use mathlib.Core.List.{List}
@@ -35,6 +36,7 @@ hoursAdded w = sumTo mostHours (λ h. getD (w .hours) h 0)
 pub record PenaltyByCalls (c : Case) (i : ℕ) (w : PenaltyWorking) : Type 0 where
   pub amount : c .events .kind i ≡ 1 → hoursAdded w ≡ w .amount
   pub revenue : c .events .kind i ≡ 2 → hoursAdded w ≡ w .revenue
+  pub none : w .multiplier ≡ 0 → w .penalty ≡ 0
   pub withheld : c .events .kind i ≡ 1
       → withheldPenaltyAnswer (w .multiplier) (listTo mostHours (flaggedAmount c i)) (listTo mostHours (c .events .b i)) ≡ given (w .penalty)
   pub dispatch : c .events .kind i ≡ 2 → w .multiplier ≡ 3

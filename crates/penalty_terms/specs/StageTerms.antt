@@ -40,9 +40,11 @@ fuelOf M d =
       below = ltb (fuelCharge M (d .gain) (d .loss) (d .rise - d .fall)) leastCharge;
     }
 
+-- of an event of another kind
 unfoldable pub noFuel : FuelTerms
 noFuel = record { «e_positive» = 0; «e_negative» = 0; t = 0; x = 0; below = false }
 
+-- the terms of the party-day that the row's event leads
 unfoldable pub fuelIn : Format → (events leaders masks : List ℕ) (kind M row : ℕ) → FuelTerms
 fuelIn format events leaders masks kind M row =
     cond (eqb kind 3) (fuelOf M (partyDay format events leaders (getD masks row 0) row (eventsIn format events .count))) noFuel

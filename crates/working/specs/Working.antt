@@ -1,6 +1,6 @@
 -- The pencil working of hour h of event i: the figures that its conduct test reads, the comparisons, and N3 and N2
 -- (docs/RULES.md, R12).
-use Prim.Native.Nat.{ℕ, _+_, _-_, _*_}
+use Prim.Native.Nat.{ℕ, _+_, _-_}
 use mathlib.Core.Bool.{Bool, false, cond, _&&_, _||_}
 use mathlib.Core.List.{List}
 use mathlib.Core.Path.{_≡_}

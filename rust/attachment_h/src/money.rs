@@ -50,7 +50,10 @@ pub struct PenaltyWorking {
 impl PenaltyWorking {
     /// E of the party-day with its sign, in tenths of a cent; 0 where the kind is not 3.
     pub fn e(&self) -> i64 {
-        self.e_positive.cast_signed() - self.e_negative.cast_signed()
+        match self.e_negative {
+            0 => self.e_positive.cast_signed(),
+            below => -below.cast_signed(),
+        }
     }
 }
 

@@ -1,4 +1,5 @@
-//! A second implementation of the Attachment H settlement, written from the paper of rules alone (docs/RULES.md, A15).
+//! A second implementation of the Attachment H settlement, written from the paper of rules alone, its working of the
+//! money from docs/RULES.md, R13 to R15 (A15).
 //!
 //! It is the test oracle and the benchmark peer of the proved program. Everything is read into
 //! records first ([`refusal`] says what a case breaks), then settled by group and day.

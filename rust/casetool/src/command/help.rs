@@ -189,8 +189,8 @@ Without --hour the working of the event's money, step by step, each under the se
 tariff that it is: of a withheld event what N3 and N2 counted, the multiplier, and power times
 price hour by hour; of dispatch the added revenue hour by hour; of fuel the events of the same
 group, day and market, E, T, M and X; of bids r and c, the mitigated hours, and the make-up hour
-by hour, or which hours a correction restored. Amounts before they are rounded have a third
-decimal, and X a fourth.
+by hour, or which hours a correction restored. Power or energy times a price has a third decimal,
+and X a fourth.
 
 Every figure comes from the proved library, or is a field of the case. Events are counted from 0,
 as casetool settle and casetool show number them; casetool settle --explain has the working of

@@ -1,4 +1,5 @@
-//! Amounts of the file as people write them: tenths of MW as MW, cents as dollars, exactly.
+//! Amounts of the file and of the library as people write them: tenths of MW as MW, cents and their tenths and twentieths as
+//! dollars, exactly.
 
 use std::borrow::Cow;
 

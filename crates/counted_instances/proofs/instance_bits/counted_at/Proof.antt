@@ -1,5 +1,4 @@
 use borrow.Author.Needs.{needs}
-use native.Mathlib.Omega.{arith}
 use Rattle.counted_instances.proofs.instance_bits.counted_at.Statement.{statement}
 use Rattle.counted_instances.proofs.instance_bits.counted_at.Tie as tie
 

@@ -1,4 +1,3 @@
-use mathlib.Core.Bool.{Bool, true, false}
 use mathlib.Core.Path.{_≡_, sym, _∙_}
 use borrow.Author.Needs.{needs}
 use Rattle.tariff.specs.DefaultBidRules.{restores}

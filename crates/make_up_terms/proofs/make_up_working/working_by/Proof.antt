@@ -1,7 +1,5 @@
 use Prim.Native.Nat.{_<_}
-use mathlib.Core.Path.{_≡_, refl}
 use native.Mathlib.Omega.{arith}
-use borrow.Author.Needs.{needs}
 use Rattle.casefile.specs.Decode.{eventsIn, unitsIn}
 use Rattle.casefile.proofs.RecordLaws.{count-is}
 use Rattle.conduct.proofs.FileLaws.{has-section, header-long, file-place}

@@ -1,6 +1,5 @@
 use native.Mathlib.Nat.{le-refl}
 use native.Mathlib.Omega.{arith}
-use borrow.Author.Needs.{needs}
 use borrow.Author.Tests.{eq-eqb, ne-eqb}
 use Rattle.sanctions.proofs.TableLaws.{SmallDay, day-small}
 use Rattle.penalty_terms.specs.StageTerms.{fuelOf, noFuel, fuelIn}

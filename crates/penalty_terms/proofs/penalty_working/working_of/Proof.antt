@@ -1,7 +1,6 @@
 use Prim.Native.Nat.{_≤_, _<_}
 use mathlib.Core.Path.{_≡_, refl, sym, _∙_}
 use native.Mathlib.Omega.{arith}
-use borrow.Author.Needs.{needs}
 use Rattle.casefile.specs.Layout.{mostEvents}
 use Rattle.casefile.specs.Decode.{eventsIn, decode}
 use Rattle.casefile.proofs.RecordLaws.{count-is, kind-here, kind-of}

@@ -1,4 +1,4 @@
-use Prim.Native.Nat.{_*_, _≤_, _-_, _+_}
+use Prim.Native.Nat.{_*_, _≤_}
 use native.Mathlib.Omega.{arith}
 use Rattle.binary.proofs.BoundedLaws.{product-bound}
 use Rattle.tariff.specs.SanctionRules.{fuelCharge}
