@@ -28,9 +28,10 @@ use Rattle.conduct.specs.Flags.{flagged}
 use Rattle.conduct.specs.StageParties.{leaderOf}
 use Rattle.sanctions.specs.Penalties.{flaggedWithImpact, isInstance, instances, withheldMultiplier, withheldAmount, withheldPenaltyOf, dispatchMultiplier, dispatchRevenue, dispatchPenaltyOf, gain, loss, tccChange, lowestUnit, fuelMultiplierAfter, fuelPenaltyUnder, fuelMultiplier, fuelPenaltyOf, multiplier, penalty}
 use Rattle.penalty_terms.specs.declared.penalty_working.PenaltyWorking.{PenaltyWorking}
-use Rattle.penalty_terms.specs.PenaltyWorking.{bearer, hourTerm, penaltyWorkingAt, refusedPenalty, penaltyWorkingOf}
+use Rattle.penalty_terms.specs.PenaltyWorking.{bearer, penaltyWorkingAt, refusedPenalty, penaltyWorkingOf}
 use Rattle.penalty_terms.specs.ByCalls.{flaggedAmount, flaggedRevenue, signedWord, PenaltyByCalls, ByCalls}
 use Rattle.penalty_terms.proofs.BearerLaws.{ordered, bare, bearer-own, leader-kind, leader-below, leader-lowest, bearer-leader}
+use Rattle.penalty_terms.proofs.TermLaws.{added, revenue-added}
 use Rattle.penalty_terms.proofs.PartyBounds.{gain-most, loss-most, tcc-most}
 
 -- ---- plain numbers
@@ -221,16 +222,6 @@ module _ (f k : List ℕ) (n : ℕ) (h : refusal f k n ≡ 0) (i : ℕ) (l : i <
     fuel-call = rw (kind, lowest, fuel-good, parts .0, parts .1) (ap given (penalty-same c i (gain c i) (loss c i) (tccChange c i)))
 
 -- ---- every kind
-
-module _ (f : List ℕ) (i : ℕ) where
-  -- the terms of the hours add to the amount, or to the revenue
-  added : decode f .events .kind i ≡ 1 → sumTo mostHours (λ x. getD (listTo mostHours (hourTerm (decode f) i)) x 0) ≡ withheldAmount (decode f) i
-  unfolding hourTerm withheldAmount decode caseIn eventsIn
-  added q = sum-same mostHours _ _ (λ x m. list-at (hourTerm (decode f) i) mostHours x 0 m ∙ rw q)
-
-  revenue-added : decode f .events .kind i ≡ 2 → sumTo mostHours (λ x. getD (listTo mostHours (hourTerm (decode f) i)) x 0) ≡ dispatchRevenue (decode f) i
-  unfolding hourTerm dispatchRevenue decode caseIn eventsIn
-  revenue-added q = sum-same mostHours _ _ (λ x m. list-at (hourTerm (decode f) i) mostHours x 0 m ∙ rw q)
 
 module _ (f k : List ℕ) (n : ℕ) (h : refusal f k n ≡ 0) (i : ℕ) (l : i < decode f .events .count) where
   acc : AcceptedFile f

@@ -1,15 +1,17 @@
 -- What the code finds is the working of the case.
 use Prim.Native.Nat.{ℕ, _-_, _*_, _≤_, _<_}
-use mathlib.Core.Bool.{Bool, true, false, cond, _&&_}
+use mathlib.Core.Bool.{Bool, true, false, cond, _&&_, _||_}
 use mathlib.Core.List.{List}
-use mathlib.Core.Path.{_≡_, refl, sym, _∙_}
+use mathlib.Core.Path.{_≡_, refl, sym, ap, _∙_}
 use native.Mathlib.Omega.{arith}
 use lib.Dec.{ltb, eqb}
 use lib.ListN.{getD}
 use borrow.Author.Tests.{eqb-true, eq-eqb, ne-eqb}
+use Rattle.binary.specs.Bounded.{sumTo}
 use Rattle.binary.specs.Lists.{listTo, Bytes, Holds}
 use Rattle.binary.specs.Word.{positivePart, negativePart}
-use Rattle.binary.proofs.ListLaws.{list-same}
+use Rattle.binary.proofs.BoundedLaws.{sum-same}
+use Rattle.binary.proofs.ListLaws.{list-same, list-at}
 use Rattle.tariff.specs.SanctionRules.{leastCharge}
 use Rattle.casefile.specs.declared.layout.Format.{Format}
 use Rattle.casefile.specs.Layout.{mostHours}
@@ -31,7 +33,7 @@ use Rattle.sanctions.proofs.FoundLaws as found-laws
 use Rattle.penalty_terms.specs.declared.penalty_working.PenaltyWorking.{PenaltyWorking}
 use Rattle.penalty_terms.specs.declared.penalty_working.FuelTerms.{FuelTerms}
 use Rattle.penalty_terms.specs.PenaltyWorking.{bearer, chargeOf, hourTerm, hourLoss, penaltyWorkingAt, refusedPenalty, penaltyWorkingOf}
-use Rattle.penalty_terms.specs.StageTerms.{termIn, lossIn, amountIn, revenueIn, fuelOf, noFuel, fuelIn}
+use Rattle.penalty_terms.specs.StageTerms.{termIn, lossIn, addedIn, fuelOf, noFuel, fuelIn}
 use Rattle.penalty_terms.proofs.BearerLaws.{ordered, bare, bearer-own, leader-own, leader-kind, leader-below, leader-lowest, bearer-leader}
 
 -- ---- from its parts to the working
@@ -101,6 +103,30 @@ made-is c i = go (eqb (c .events .kind i) 3) _ _ _ _ _ _
 no-fuel : (format : Format) (e leaders masks : List ℕ) (kind M row : ℕ) → eqb kind 3 ≡ false → fuelIn format e leaders masks kind M row ≡ noFuel
 unfolding fuelIn
 no-fuel format e leaders masks kind M row t = rw t
+
+-- the terms of the hours add to the amount, or to the revenue
+pub added : (f : List ℕ) (i : ℕ) → decode f .events .kind i ≡ 1
+    → sumTo mostHours (λ x. getD (listTo mostHours (hourTerm (decode f) i)) x 0) ≡ withheldAmount (decode f) i
+unfolding hourTerm withheldAmount decode caseIn eventsIn
+added f i q = sum-same mostHours _ _ (λ x m. list-at (hourTerm (decode f) i) mostHours x 0 m ∙ rw q)
+
+pub revenue-added : (f : List ℕ) (i : ℕ) → decode f .events .kind i ≡ 2
+    → sumTo mostHours (λ x. getD (listTo mostHours (hourTerm (decode f) i)) x 0) ≡ dispatchRevenue (decode f) i
+unfolding hourTerm dispatchRevenue decode caseIn eventsIn
+revenue-added f i q = sum-same mostHours _ _ (λ x m. list-at (hourTerm (decode f) i) mostHours x 0 m ∙ rw q)
+
+given : (b : Bool) {x y : ℕ} → (b ≡ true → x ≡ y) → cond b x 0 ≡ cond b y 0
+given true e = e refl
+given false e = refl
+
+-- what holds of kind 1 and of kind 3
+pub either-kind : (kind : ℕ) (A : Type 0) → (eqb kind 1 || eqb kind 3) ≡ true → (kind ≡ 1 → A) → (kind ≡ 3 → A) → A
+either-kind kind A t one three = go (eqb kind 1) refl (eqb kind 3) refl t
+  where
+    go : (a : Bool) → eqb kind 1 ≡ a → (b : Bool) → eqb kind 3 ≡ b → (a || b) ≡ true → A
+    go true q b r t = one (eqb-true kind 1 q)
+    go false q true r t = three (eqb-true kind 3 r)
+    go false q false r t = absurd (let z : _≡_ {A = ℕ} 0 1 = ap (λ (b : Bool). cond b 1 0) t in omega arith)
 
 -- ---- an accepted case, and the tables of its flags
 
@@ -187,19 +213,7 @@ module _ (f : List ℕ) (acc : AcceptedFile f) (groups leaders masks : List ℕ)
         go true t = let k = eqb-true _ 3 t in rw (bearer-leader (decode f) (ordered f acc) (bare f acc) i l k, k) (fuel-is k)
         go false t = no-fuel _ _ leaders masks _ _ _ t
 
-    -- the sums and the hours
-    amounts : amountIn (decode f .events .kind i) (cellsFrom (formatIn f) (sectionOf f 3) i) (getD masks i 0)
-        ≡ cond (eqb (decode f .events .kind i) 1) (withheldAmount (decode f) i) 0
-    unfolding amountIn decode caseIn
-    amounts =
-        rw (found-laws.amount-is (formatIn f) (sectionOf f 0) (sectionOf f 1) (sectionOf f 2) (sectionOf f 3) groups leaders masks accepted found i l)
-
-    revenues : revenueIn (decode f .events .kind i) (cellsFrom (formatIn f) (sectionOf f 3) i) (getD masks i 0)
-        ≡ cond (eqb (decode f .events .kind i) 2) (dispatchRevenue (decode f) i) 0
-    unfolding revenueIn decode caseIn
-    revenues =
-        rw (found-laws.revenue-is (formatIn f) (sectionOf f 0) (sectionOf f 1) (sectionOf f 2) (sectionOf f 3) groups leaders masks accepted found i l)
-
+    -- the hours
     terms : listTo mostHours (termIn (decode f .events .kind i) (cellsFrom (formatIn f) (sectionOf f 3) i) (getD masks i 0)) ≡ listTo mostHours (hourTerm (decode f) i)
     unfolding termIn hourTerm decode caseIn
     terms =
@@ -209,12 +223,12 @@ module _ (f : List ℕ) (acc : AcceptedFile f) (groups leaders masks : List ℕ)
           found-laws.hour-energy-is (formatIn f) (sectionOf f 0) (sectionOf f 1) (sectionOf f 2) (sectionOf f 3) groups leaders masks accepted found (positivePart 32) i h l m,
           found-laws.hour-revenue-is (formatIn f) (sectionOf f 0) (sectionOf f 1) (sectionOf f 2) (sectionOf f 3) groups leaders masks accepted found i h l m,
         )
-        (pick (flagged (decode f) i h) (eqb (decode f .events .kind i) 2) (eqb (decode f .events .kind i) 4) (decode f .events .b i h)
-        (decode f .a i h * positivePart 32 (decode f .events .b i h))))
+        (pick (flagged (decode f) i h) (eqb (decode f .events .kind i) 2) (eqb (decode f .events .kind i) 1 || eqb (decode f .events .kind i) 3)
+        (decode f .events .b i h) (decode f .a i h * positivePart 32 (decode f .events .b i h))))
       where
-        pick : (b two four : Bool) (x y : ℕ) → cond two (cond b x 0) (cond four 0 (cond b y 0)) ≡ cond b (cond two x (cond four 0 y)) 0
-        pick true two four x y = refl
-        pick false true four x y = refl
+        pick : (b two amounts : Bool) (x y : ℕ) → cond two (cond b x 0) (cond amounts (cond b y 0) 0) ≡ cond b (cond two x (cond amounts y 0)) 0
+        pick true two amounts x y = refl
+        pick false true amounts x y = refl
         pick false false true x y = refl
         pick false false false x y = refl
 
@@ -225,15 +239,24 @@ module _ (f : List ℕ) (acc : AcceptedFile f) (groups leaders masks : List ℕ)
         (λ h m.
         rw (found-laws.hour-energy-is (formatIn f) (sectionOf f 0) (sectionOf f 1) (sectionOf f 2) (sectionOf f 3) groups leaders masks accepted found (negativePart 32) i h l m))
 
+    -- the sums of the hours
+    amounts : addedIn 1 (decode f .events .kind i) (listTo mostHours (hourTerm (decode f) i)) ≡ cond (eqb (decode f .events .kind i) 1) (withheldAmount (decode f) i) 0
+    unfolding addedIn
+    amounts = given (eqb (decode f .events .kind i) 1) (λ t. added f i (eqb-true _ 1 t))
+
+    revenues : addedIn 2 (decode f .events .kind i) (listTo mostHours (hourTerm (decode f) i)) ≡ cond (eqb (decode f .events .kind i) 2) (dispatchRevenue (decode f) i) 0
+    unfolding addedIn
+    revenues = given (eqb (decode f .events .kind i) 2) (λ t. revenue-added f i (eqb-true _ 2 t))
+
     -- the whole, from what the functions give
     pub working-made : (format : Format) (e cells : List ℕ) (kind row amount revenue : ℕ) (s : Sanction) (t : FuelTerms) (hours lost : List ℕ)
         → format ≡ formatIn f → e ≡ sectionOf f 3 → cells ≡ cellsFrom format e i → kind ≡ decode f .events .kind i → row ≡ rowIn kind
-        → s ≡ sanctionOf (decode f) row → t ≡ fuelIn format e leaders masks kind (s .multiplier) row → amount ≡ amountIn kind cells (getD masks i 0)
-        → revenue ≡ revenueIn kind cells (getD masks i 0) → hours ≡ listTo mostHours (termIn kind cells (getD masks i 0))
+        → s ≡ sanctionOf (decode f) row → t ≡ fuelIn format e leaders masks kind (s .multiplier) row → hours ≡ listTo mostHours (termIn kind cells (getD masks i 0))
+        → amount ≡ addedIn 1 kind hours → revenue ≡ addedIn 2 kind hours
         → lost ≡ listTo mostHours (lossIn kind cells (getD masks i 0))
         → made kind row amount revenue s t hours lost ≡ penaltyWorkingAt (decode f) i
-    working-made format e cells kind row amount revenue s t hours lost ef ee ec ek er es et ea ev eh el =
-        rw (et, ea, ev, eh, el, es, er, ec, ef, ee, ek, row-bears, fuel-bears, amounts, revenues, terms, losses) (made-is (decode f) i)
+    working-made format e cells kind row amount revenue s t hours lost ef ee ec ek er es et eh ea ev el =
+        rw (et, ea, ev, eh, el, es, er, ec, ef, ee, ek, row-bears, fuel-bears, terms, losses, amounts, revenues) (made-is (decode f) i)
 
 -- ---- the answer
 

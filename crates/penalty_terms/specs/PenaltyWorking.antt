@@ -1,6 +1,6 @@
 -- The working of an event's penalty (docs/RULES.md, R13): the terms of S that the figures of its row are made of.
 use Prim.Native.Nat.{ℕ, _-_, _*_}
-use mathlib.Core.Bool.{false, cond, _&&_}
+use mathlib.Core.Bool.{false, cond, _&&_, _||_}
 use mathlib.Core.List.{List}
 use lib.Dec.{ltb, eqb}
 use lib.ListN.{replicate}
@@ -33,7 +33,7 @@ unfoldable pub hourTerm : Case → (i h : ℕ) → ℕ
 hourTerm c i h =
     cond (flagged c i h)
     (cond (eqb (c .events .kind i) 2) (c .events .b i h)
-    (cond (eqb (c .events .kind i) 4) 0 (c .a i h * positivePart 32 (c .events .b i h))))
+    (cond (eqb (c .events .kind i) 1 || eqb (c .events .kind i) 3) (c .a i h * positivePart 32 (c .events .b i h)) 0))
     0
 
 -- what a flagged hour of kind 3 takes from E: a × -b where b is negative

@@ -1,6 +1,6 @@
 -- The terms as the code finds them in an event's cells, and in the tables of flags and leaders.
-use Prim.Native.Nat.{ℕ, _-_}
-use mathlib.Core.Bool.{false, cond}
+use Prim.Native.Nat.{ℕ, _-_, _*_, _^_, _≤_, _<_}
+use mathlib.Core.Bool.{false, cond, _||_}
 use mathlib.Core.List.{List}
 use lib.Dec.{ltb, eqb}
 use lib.ListN.{getD}
@@ -10,6 +10,7 @@ use Rattle.tariff.specs.SanctionRules.{fuelCharge, leastCharge}
 use Rattle.casefile.specs.declared.layout.Format.{Format}
 use Rattle.casefile.specs.Layout.{mostHours}
 use Rattle.casefile.specs.Decode.{eventsIn}
+use Rattle.sanctions.specs.StageFound.{highestAmount}
 use Rattle.sanctions.specs.StageTables.{hourEnergy, hourRevenue, partyDay}
 use Rattle.sanctions.specs.declared.fuel.PartyDay.{PartyDay}
 use Rattle.penalty_terms.specs.declared.penalty_working.FuelTerms.{FuelTerms}
@@ -17,17 +18,21 @@ use Rattle.penalty_terms.specs.declared.penalty_working.FuelTerms.{FuelT
 -- what hour h adds, and takes from E
 unfoldable pub termIn : (kind : ℕ) (cells : List ℕ) (mask h : ℕ) → ℕ
 termIn kind cells mask h =
-    cond (eqb kind 2) (hourRevenue cells mask h) (cond (eqb kind 4) 0 (hourEnergy (positivePart 32) cells mask h))
+    cond (eqb kind 2) (hourRevenue cells mask h) (cond (eqb kind 1 || eqb kind 3) (hourEnergy (positivePart 32) cells mask h) 0)
 
 unfoldable pub lossIn : (kind : ℕ) (cells : List ℕ) (mask h : ℕ) → ℕ
 lossIn kind cells mask h = cond (eqb kind 3) (hourEnergy (negativePart 32) cells mask h) 0
 
--- the sums over the hours
-unfoldable pub amountIn : (kind : ℕ) (cells : List ℕ) (mask : ℕ) → ℕ
-amountIn kind cells mask = cond (eqb kind 1) (sumTo mostHours (hourEnergy (positivePart 32) cells mask)) 0
+-- no term of an hour is above this
+abbrev pub highestTerm : ℕ
+highestTerm = highestAmount * 2 ^ 31
 
-unfoldable pub revenueIn : (kind : ℕ) (cells : List ℕ) (mask : ℕ) → ℕ
-revenueIn kind cells mask = cond (eqb kind 2) (sumTo mostHours (hourRevenue cells mask)) 0
+abbrev pub SmallTerms : (terms : List ℕ) → Type 0
+SmallTerms terms = (h : ℕ) → h < mostHours → getD terms h 0 ≤ highestTerm
+
+-- the terms of the hours, added, of an event of kind k
+unfoldable pub addedIn : (k kind : ℕ) (terms : List ℕ) → ℕ
+addedIn k kind terms = cond (eqb kind k) (sumTo mostHours (λ h. getD terms h 0)) 0
 
 -- the terms of a party-day under M
 unfoldable pub fuelOf : (M : ℕ) → PartyDay → FuelTerms

@@ -1,16 +1,16 @@
 // The public call: the working of an event's penalty.
 ghost use mathlib.Core.Path.{_≡_};
-ghost use Prim.Native.Nat.{_*_, _≤_, _<_};
-ghost use lib.ListN.{length};
+ghost use Prim.Native.Nat.{_≤_, _<_};
 ghost use Rattle.binary.specs.Lists.{Holds};
-ghost use Rattle.casefile.specs.Layout.{cellWidth, mostHours, mostEvents};
+ghost use Rattle.casefile.specs.Layout.{mostEvents};
 ghost use Rattle.casefile.specs.Decode.{eventsIn, decode};
 ghost use Rattle.casefile.specs.Lookup.{unitOf, bidLevel};
 ghost use Rattle.limits.specs.StageChecked.{AcceptedFile};
-ghost use Rattle.sanctions.specs.StageFound.{FoundMasks, SmallAmounts, Sound};
+ghost use Rattle.sanctions.specs.StageFound.{FoundMasks, Sound};
 ghost use Rattle.sanctions.specs.StageTables.{sanctionOf};
 ghost use Rattle.penalty_terms.specs.PenaltyWorking.{penaltyWorkingAt, refusedPenalty, penaltyWorkingOf};
-ghost use Rattle.penalty_terms.specs.StageTerms.{amountIn, revenueIn, fuelIn};
+ghost use Rattle.penalty_terms.specs.StageTerms.{fuelIn};
+use crate::hour_terms::added_of;
 use crate::hour_terms::hour_losses;
 use crate::hour_terms::hour_terms;
 use binary::numbers::choose_usize;
@@ -24,11 +24,9 @@ use casefile::header::section;
 use casefile::layout;
 use casefile::layout::Format;
 use conduct::flags::find_flags;
-use sanctions::dispatch::revenue;
 use sanctions::fuel::party_day;
 use sanctions::penalties::sanction_at;
 use sanctions::sanction::Sanction;
-use sanctions::withheld::amount;
 use tariff::sanction_rules::LEAST_CHARGE;
 use tariff::sanction_rules::fuel_charge;
 
@@ -96,26 +94,6 @@ fn row_sanction(
     )
 }
 
-fn amount_of(kind: u8, cells: &[u8], mask: u32) -> u64
-    requires { ⌜ (cellWidth * mostHours ≤ length (now cells)) × (kind ≡ 1 → SmallAmounts (now cells)) ⌝ }
-    ensures { λ r. ⌜ r ≡ amountIn kind (now (cells .entry)) mask ⌝ }
-{
-    if kind == 1 {
-        return amount(cells, mask);
-    }
-    0
-}
-
-fn revenue_of(kind: u8, cells: &[u8], mask: u32) -> u64
-    requires { ⌜ cellWidth * mostHours ≤ length (now cells) ⌝ }
-    ensures { λ r. ⌜ r ≡ revenueIn kind (now (cells .entry)) mask ⌝ }
-{
-    if kind == 2 {
-        return revenue(cells, mask);
-    }
-    0
-}
-
 // The terms of the party-day that the row's event leads, under M.
 fn fuel_terms(
     format: Format,
@@ -175,6 +153,7 @@ fn working_of(
     let fuel = fuel_terms(format, events, leaders, masks, kind, multiplier, row);
     let cells = event_cells(format, events, i);
     let mask = masks[i];
+    let hours = hour_terms(kind, cells, mask);
     PenaltyWorking {
         number: 0,
         kind,
@@ -183,14 +162,14 @@ fn working_of(
         n3: sanction.n3,
         n2: sanction.n2,
         row,
-        amount: amount_of(kind, cells, mask),
-        revenue: revenue_of(kind, cells, mask),
+        amount: added_of(1, kind, hours),
+        revenue: added_of(2, kind, hours),
         e_positive: fuel.e_positive,
         e_negative: fuel.e_negative,
         t: fuel.t,
         x: fuel.x,
         penalty: sanction.penalty,
-        hours: hour_terms(kind, cells, mask),
+        hours,
         losses: hour_losses(kind, cells, mask),
     }
 }

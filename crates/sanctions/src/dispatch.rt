@@ -28,7 +28,7 @@ pub fn hour_revenue(cells: &[u8], mask: u32, h: usize) -> u32
 }
 
 // The sum over flagged hours.
-pub fn revenue(cells: &[u8], mask: u32) -> u64
+fn revenue(cells: &[u8], mask: u32) -> u64
     requires { ⌜ cellWidth * mostHours ≤ length (now cells) ⌝ }
     ensures { λ r. ⌜ (r ≡ sumTo mostHours (hourRevenue (now (cells .entry)) mask)) × (r ≤ 1000000000000000000) ⌝ }
 {

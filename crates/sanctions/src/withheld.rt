@@ -34,7 +34,7 @@ pub fn hour_amount(cells: &[u8], mask: u32, h: usize) -> u64
 }
 
 // The sum over flagged hours.
-pub fn amount(cells: &[u8], mask: u32) -> u64
+fn amount(cells: &[u8], mask: u32) -> u64
     requires { ⌜ (cellWidth * mostHours ≤ length (now cells)) × SmallAmounts (now cells) ⌝ }
     ensures { λ r. ⌜ (r ≡ sumTo mostHours (hourEnergy (positivePart 32) (now (cells .entry)) mask)) × (r ≤ 10000000000000000) ⌝ }
 {

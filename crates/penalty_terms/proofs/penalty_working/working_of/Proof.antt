@@ -62,13 +62,16 @@ working-of-spec =
     (λ c κs.
     let e = c .before in
     let v = e .before .before .before .before .before in
-    let a = v .before in (
+    let a = v .before in
+    let k′ = kind-here _ _ _ _ (v .event-at .ensures) in (
       e .event-cells .ensures .1,
-      λ k. rw (e .event-cells .ensures .0)
-          (steady a .withheld (first a .args .i) (below a) (sym (kind-here _ _ _ _ (v .event-at .ensures)) ∙ k)),
+      (
+        (λ k. rw (e .event-cells .ensures .0) (steady a .withheld (first a .args .i) (below a) (sym k′ ∙ k))),
+        (λ k. rw (e .event-cells .ensures .0) (steady a .fuel (first a .args .i) (below a) (sym k′ ∙ k))),
+      ),
     ))
-    (λ c κs. c .before .before .event-cells .ensures .1)
-    (λ c κs. c .before .before .before .event-cells .ensures .1)
+    (λ c κs. c .hour-terms .ensures .1)
+    (λ c κs. c .before .hour-terms .ensures .1)
     (λ c κs. c .before .before .before .before .event-cells .ensures .1)
     (λ c.
     let e = c .before .before .before .before .before in
@@ -78,4 +81,4 @@ working-of-spec =
     let s = first a in
     working-made (s .args .file .now) (s .pre .0 .0) _ _ _ (s .pre .1) (s .args .i) (s .pre .0 .1) _ _ _ _ _ _ _ _ _ _ _ (a .before .format-of .ensures) (a .section .ensures)
     (e .event-cells .ensures .0) (kind v) (z .choose-usize .ensures) (e .before .before .row-sanction .ensures) (e .before .fuel-terms .ensures)
-    (c .before .before .before .amount-of .ensures) (c .before .before .revenue-of .ensures) (c .before .hour-terms .ensures) (c .hour-losses .ensures)))
+    (c .before .before .before .hour-terms .ensures .0) (c .before .before .added-of .ensures) (c .before .added-of2 .ensures) (c .hour-losses .ensures)))
