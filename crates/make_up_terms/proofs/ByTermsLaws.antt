@@ -125,6 +125,7 @@ module _ (f : List ℕ) (correct : References) (i : ℕ) where
   unfolding makeUpWorkingAt
   by-terms-at =
       record {
+        of-the-row = (refl, refl);
         summed = summed-is;
         due = due-all (decode f) i correct;
         in-force = λ h m t. in-force-is (decode f) i correct h (sym (restored-bit h m) ∙ t);

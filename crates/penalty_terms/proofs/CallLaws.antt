@@ -26,6 +26,7 @@ use Rattle.limits.proofs.AcceptedLaws as case
 use Rattle.limits.proofs.SectionLaws.{cell-ranges, amount-bound}
 use Rattle.conduct.specs.Flags.{flagged}
 use Rattle.conduct.specs.StageParties.{leaderOf}
+use Rattle.conduct.proofs.PartyLaws.{leader-together}
 use Rattle.sanctions.specs.Penalties.{flaggedWithImpact, isInstance, instances, withheldMultiplier, withheldAmount, withheldPenaltyOf, dispatchMultiplier, dispatchRevenue, dispatchPenaltyOf, gain, loss, tccChange, lowestUnit, fuelMultiplierAfter, fuelPenaltyUnder, fuelMultiplier, fuelPenaltyOf, multiplier, penalty}
 use Rattle.penalty_terms.specs.declared.penalty_working.PenaltyWorking.{PenaltyWorking}
 use Rattle.penalty_terms.specs.PenaltyWorking.{bearer, penaltyWorkingAt, refusedPenalty, penaltyWorkingOf}
@@ -231,6 +232,16 @@ module _ (f k : List ℕ) (n : ℕ) (h : refusal f k n ≡ 0) (i : ℕ) (l : i <
   unfolding penaltyWorkingAt
   by-calls-at =
       record {
+        of-the-row =
+            record {
+              own = own;
+              lowest = λ q.
+                  rw (bearer-leader (decode f) (ordered f acc) (bare f acc) i l q)
+                  (leader-together (decode f) i, leader-lowest (decode f) (ordered f acc) (bare f acc) i l q);
+              multiplier-is = refl;
+              counts-are = (refl, refl);
+              penalty-is = refl;
+            };
         amount = λ q. rw q (added f i q);
         revenue = λ q. rw q (revenue-added f i q);
         none = no-penalty (decode f) (bearer (decode f) i);
