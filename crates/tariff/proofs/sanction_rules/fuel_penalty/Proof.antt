@@ -1,7 +1,7 @@
 use borrow.Author.Needs.{needs}
 use borrow.Author.Tests.{lt-ltb, le-ltb}
 use native.Mathlib.Omega.{arith}
-use Rattle.tariff.specs.SanctionRules.{fuelPenalty}
+use Rattle.tariff.specs.SanctionRules.{leastCharge, fuelPenalty}
 use Rattle.tariff.proofs.sanction_rules.fuel_penalty.Statement.{statement}
 use Rattle.tariff.proofs.sanction_rules.fuel_penalty.Tie as tie
 
@@ -11,6 +11,6 @@ fuel-penalty-spec =
     tie.close
     (tie.spec
     (λ c κs. search needs)
-    (λ c. rw (← c .before .fuel-charge .ensures .0, lt-ltb _ _ (c .if1 .taken)))
+    (λ c. rw (← c .before .fuel-charge .ensures .0, lt-ltb (c .before .fuel-charge .result) leastCharge (omega (arith, c .if1 .taken))))
     (λ c κs. (omega arith, omega (arith, c .before .fuel-charge .ensures .1)))
-    (λ c. rw (c .cents .ensures, ← c .before .before .fuel-charge .ensures .0, le-ltb _ _ (c .before .if1 .left))))
+    (λ c. rw (c .cents .ensures, ← c .before .before .fuel-charge .ensures .0, le-ltb (c .before .before .fuel-charge .result) leastCharge (omega (arith, c .before .if1 .left)))))
