@@ -15,14 +15,13 @@ use Rattle.casefile.specs.Layout.{mostHours, numberLimit}
 use Rattle.casefile.specs.Case.{Units}
 use Rattle.casefile.specs.Decode.{cellsFrom, cellsIn, eventsIn, amountsIn}
 use Rattle.casefile.specs.Lookup.{placeOf}
-use Rattle.limits.specs.Refusal.{rises, fieldsFine, cellFine, hourFine, eventFine, eventKey, withinCapability, unless}
+use Rattle.limits.specs.Refusal.{eventNumbersFine, rises, fieldsFine, cellFine, hourFine, eventFine, eventKey, withinCapability, unless}
 use Rattle.casefile.specs.StageRead.{cellOf, eventAt}
 use Rattle.case_check.specs.StageReading.{cellFineAt, amountWithin, keyOf, numberOf, readIf, readEvent}
 use Rattle.casefile.specs.declared.events.Event.{Event}
 use Rattle.case_check.specs.declared.event_limits.EventRead.{EventRead}
 use Rattle.case_check.specs.declared.event_limits.EventRead.the-variants.{Event as Readable, Unreadable}
-use Rattle.casefile.proofs.RecordLaws.{event-unit-lt}
-use Rattle.limits.proofs.RangeLaws.{event-range}
+use Rattle.limits.proofs.RangeLaws.{event-range, number-lt}
 
 -- ---- the cells, read in the part where they begin
 
@@ -101,9 +100,10 @@ unfolding eventAt
 read-day format s i e fine same =
     subst (λ (x : Event). x .day ≤ highestDay) (sym same) (event-range (eventsIn format s) (amountsIn format s) i fine .day)
 
-pub read-unit : (format : Format) (s : List ℕ) (i : ℕ) (e : Event) → Bytes s → e ≡ eventAt (eventsIn format s) i → e .unit < numberLimit
+pub read-unit : (format : Format) (s : List ℕ) (i : ℕ) (e : Event) → Bytes s → eventNumbersFine format s ≡ true → i < eventsIn format s .count
+    → e ≡ eventAt (eventsIn format s) i → e .unit < numberLimit
 unfolding eventAt
-read-unit format s i e b same = subst (λ (x : Event). x .unit < numberLimit) (sym same) (event-unit-lt format s i b)
+read-unit format s i e b h l same = subst (λ (x : Event). x .unit < numberLimit) (sym same) (number-lt format s b h i l)
 
 pub read-key : (format : Format) (s : List ℕ) (i : ℕ) (e : Event) → e ≡ eventAt (eventsIn format s) i → keyOf e ≡ eventKey (eventsIn format s) i
 unfolding keyOf eventAt eventKey

@@ -1,10 +1,11 @@
-// The check of a whole case, in number order.
+// The check of a whole case, in the order of the limits.
+ghost use mathlib.Core.Bool.{true};
 ghost use mathlib.Core.Path.{_≡_};
 ghost use Prim.Native.Nat.{_≤_};
 ghost use Rattle.casefile.specs.Layout.{mostEvents};
 ghost use Rattle.casefile.specs.Decode.{eventsIn};
 ghost use Rattle.limits.specs.StageLookup.{UnitsInOrder, InOrder};
-ghost use Rattle.limits.specs.Refusal.{refusal};
+ghost use Rattle.limits.specs.Refusal.{eventNumbersFine, refusal};
 ghost use Rattle.limits.specs.StageRefusal.{eventsRefusal};
 ghost use Rattle.limits.specs.StageChecked.{HandedOn};
 ghost use Rattle.case_check.specs.StageFound.{Found};
@@ -34,7 +35,8 @@ fn events_refusal(
     levels: &mut [u32; layout::MOST_EVENTS],
     corrects: &mut [u32; layout::MOST_EVENTS],
 ) -> u8
-    requires { ⌜ UnitsInOrder format (now units) × InOrder format (now references) × InOrder format (now correct) × (eventsIn format (now events) .count ≤ mostEvents) ⌝ }
+    requires { ⌜ UnitsInOrder format (now units) × InOrder format (now references) × InOrder format (now correct)
+        × (eventsIn format (now events) .count ≤ mostEvents) × (eventNumbersFine format (now events) ≡ true) ⌝ }
     ensures { λ r. ⌜ r ≡ eventsRefusal format (now (units .entry)) (now (references .entry)) (now (correct .entry)) (now (events .entry)) «rows_length» ⌝ }
     ensures { λ r. ⌜ (r ≡ 0 → Found format (now (units .entry)) (now (references .entry)) (now (correct .entry)) (now (events .entry))
         (now (places .exit)) (now (levels .exit)) (now (corrects .exit))) ⌝ }
@@ -74,11 +76,11 @@ pub fn check_into<'a>(
     let units = section(file, 0);
     let references = section(file, 1);
     let past = section(file, 2);
-    let records = records_refusal(format, units, references, correction, past);
+    let events = section(file, 3);
+    let records = records_refusal(format, units, references, correction, past, events);
     if records != 0 {
         return records;
     }
-    let events = section(file, 3);
     let correct = correct_references(correction, references);
     events_refusal(
         format,

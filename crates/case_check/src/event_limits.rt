@@ -8,7 +8,7 @@ ghost use Rattle.casefile.specs.Layout.{mostHours, mostEvents, numberLimit};
 ghost use Rattle.casefile.specs.Decode.{unitsIn, referencesIn, eventsIn, amountsIn};
 ghost use Rattle.casefile.specs.Lookup.{readsCorrect, bidLevel};
 ghost use Rattle.limits.specs.StageLookup.{UnitsInOrder, InOrder, correctLevel};
-ghost use Rattle.limits.specs.Refusal.{quantitiesFine, fieldsFine, eventFine, eventsFine, orderFine, eventsListed, amountFine, amountsFine, referencesFound, unless as unlessOf};
+ghost use Rattle.limits.specs.Refusal.{eventNumbersFine, quantitiesFine, fieldsFine, eventFine, eventsFine, orderFine, eventsListed, amountFine, amountsFine, referencesFound, unless as unlessOf};
 ghost use Rattle.case_check.specs.StageReading.{keyOf, numberOf, readEvent};
 ghost use Rattle.case_check.specs.StageFound.{eventPlace, EventLevels};
 use crate::cell_limits::amounts_within;
@@ -109,6 +109,7 @@ fn event_key(e: Event) -> u64
 
 // 10 where an event can't be read, else 11 where one is out of order, else 0.
 pub fn order_refusal(format: Format, events: &[u8]) -> u8
+    requires { ⌜ eventNumbersFine format (now events) ≡ true ⌝ }
     ensures { λ r. ⌜ r ≡ unlessOf (eventsFine format (now (events .entry))) 10 (unlessOf (orderFine (eventsIn format (now (events .entry)))) 11 0) ⌝ }
 {
     let n = event_count(format, events);

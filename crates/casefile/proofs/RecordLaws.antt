@@ -1,19 +1,20 @@
 -- Parts of a section's bytes, and what the sections of a file say of its case.
 use Prim.Native.Nat.{ℕ, zero, suc, _+_, _-_, _*_, _/_, _^_, _≤_, _<_}
-use mathlib.Core.Bool.{Bool, true, false}
+use mathlib.Core.Bool.{Bool, true, false, cond}
 use mathlib.Core.List.{List}
-use mathlib.Core.Logic.{inl}
-use mathlib.Core.Path.{_≡_, refl, _∙_}
+use mathlib.Core.Logic.{inl, inr}
+use mathlib.Core.Path.{_≡_, refl, ap, _∙_}
 use native.Mathlib.Nat.{pow-suc, mul-le-mul-left, mul-div-le, mul-suc}
 use native.Mathlib.Omega.{arith}
-use lib.Dec.{ltb}
+use lib.Dec.{ltb, eqb}
 use lib.ListN.{length, getD, take, drop, length-take, length-drop, List·getD-eq-default}
 use lib.Seq.{take-all, getD-take, getD-drop}
-use borrow.Author.Tests.{ltb-true, ltb-false}
+use borrow.Author.Tests.{ltb-true, ltb-false, ne-eqb}
 use Rattle.binary.specs.Bytes.{valueAt}
 use Rattle.binary.specs.Lists.{Bytes}
 use Rattle.casefile.specs.declared.layout.Format.{Format}
-use Rattle.casefile.specs.Layout.{referenceWidth, eventWidth, eventUnit, cellWidth, cells, cellsOffset, numberLimit, firstWidths, widthsOf, Fits}
+use Rattle.casefile.specs.declared.layout.Widths.{Widths}
+use Rattle.casefile.specs.Layout.{unitWidth, referenceWidth, eventWidth, eventUnit, numberWidth, cellWidth, cells, cellsOffset, numberLimit, firstVersion, secondVersion, byVersion, firstWidths, secondWidths, widthsOf, Fits}
 use Rattle.casefile.specs.Decode.{formatIn, offsetOf, lengthOf, sectionOf, recordAt, cellsFrom, cellsIn, referencesIn, eventsIn, caseIn, decode}
 use Rattle.casefile.specs.StageRead.{eventAt}
 use Rattle.casefile.specs.declared.events.Event.{Event}
@@ -56,12 +57,69 @@ first-fits =
       reference-unit = omega arith;
       event-unit = omega arith;
       event-apart = inl (omega arith);
-      number = refl;
+      narrow = omega arith;
+      wide = omega arith;
+      even = refl;
+    }
+
+pub second-fits : Fits secondWidths
+unfolding secondWidths
+second-fits =
+    record {
+      unit = omega arith;
+      reference = omega arith;
+      event = omega arith;
+      unit-number = omega arith;
+      reference-unit = omega arith;
+      event-unit = omega arith;
+      event-apart = inr (omega arith);
+      narrow = omega arith;
+      wide = omega arith;
+      even = refl;
     }
 
 pub fits : (format : Format) → Fits (widthsOf format)
 unfolding widthsOf
-fits format = first-fits
+fits format = go (eqb (format .version) secondVersion)
+  where
+    go : (b : Bool) → Fits (cond b secondWidths firstWidths)
+    go true = second-fits
+    go false = first-fits
+
+-- each width by the version
+field : (format : Format) (f : Widths → ℕ) → f (byVersion format firstWidths secondWidths) ≡ byVersion format (f firstWidths) (f secondWidths)
+field format f = go (eqb (format .version) secondVersion)
+  where
+    go : (b : Bool) → f (cond b secondWidths firstWidths) ≡ cond b (f secondWidths) (f firstWidths)
+    go true = refl
+    go false = refl
+
+pub unit-width : (format : Format) → unitWidth format ≡ byVersion format 24 28
+unfolding widthsOf firstWidths secondWidths
+unit-width format = field format (λ w. w .«unit_width»)
+
+pub reference-width : (format : Format) → referenceWidth format ≡ byVersion format 8 12
+unfolding widthsOf firstWidths secondWidths
+reference-width format = field format (λ w. w .«reference_width»)
+
+pub event-width : (format : Format) → eventWidth format ≡ byVersion format 312 316
+unfolding widthsOf firstWidths secondWidths
+event-width format = field format (λ w. w .«event_width»)
+
+-- any version but the second has the widths of the first
+pub first-widths : (format : Format) → (format .version ≡ secondVersion → ⊥) → widthsOf (record { version = firstVersion }) ≡ widthsOf format
+unfolding widthsOf
+first-widths format other = rw (ne-eqb (format .version) secondVersion other)
+
+-- the events by the widths alone
+pub events-by-widths : (a b : Format) (s : List ℕ) → widthsOf a ≡ widthsOf b → eventsIn a s ≡ eventsIn b s
+unfolding eventsIn cellsIn cellsFrom
+events-by-widths a b s e =
+    rw (
+      ap (λ (w : Widths). w .«event_width») e,
+      ap (λ (w : Widths). w .«event_unit») e,
+      ap (λ (w : Widths). w .«number_width») e,
+    )
 
 -- ---- bytes
 
@@ -98,11 +156,11 @@ unfolding valueAt
 value-lt zero s p b = omega arith
 value-lt (suc w) s p b = omega (arith, b p, value-lt w s (p + 1) b, pow-suc 256 w)
 
--- unit numbers have two bytes
-pub event-unit-lt : (format : Format) (s : List ℕ) (i : ℕ) → Bytes s → eventsIn format s .unit i < numberLimit
+-- a number of two bytes leaves room in a key
+pub event-unit-lt : (format : Format) (s : List ℕ) (i : ℕ) → Bytes s → numberWidth format ≡ 2 → eventsIn format s .unit i < numberLimit
 unfolding eventsIn
-event-unit-lt format s i b =
-    rw (fits format .number) (omega (arith, value-lt 2 (recordAt (eventWidth format) s i) (eventUnit format) (record-bytes (eventWidth format) s i b)))
+event-unit-lt format s i b two =
+    rw two (omega (arith, value-lt 2 (recordAt (eventWidth format) s i) (eventUnit format) (record-bytes (eventWidth format) s i b)))
 
 -- a reference's component is a byte
 pub component-byte : (format : Format) (s : List ℕ) → Bytes s → (i : ℕ) → i < referencesIn format s .count → referencesIn format s .component i < 256

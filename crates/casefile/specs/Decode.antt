@@ -20,7 +20,7 @@ lengthOf f k = u32At f (8 + 8 * k)
 unfoldable pub sectionOf : List ℕ → ℕ → List ℕ
 sectionOf f k = take (lengthOf f k) (drop (offsetOf f k) f)
 
--- the format of a file: what its version decides
+-- the format of a file: its version
 unfoldable pub formatIn : List ℕ → Format
 formatIn f = record { version = u16At f 0 }
 
@@ -128,6 +128,17 @@ caseIn format u r p e =
 
 unfoldable pub decode : List ℕ → Case
 decode f = caseIn (formatIn f) (sectionOf f 0) (sectionOf f 1) (sectionOf f 2) (sectionOf f 3)
+
+-- ---- the two bytes where version 1 has a unit's number
+
+unfoldable pub unitOldField : List ℕ → ℕ
+unitOldField r = u16At r 0
+
+unfoldable pub referenceOldField : List ℕ → ℕ
+referenceOldField r = u16At r 0
+
+unfoldable pub eventOldField : List ℕ → ℕ
+eventOldField r = u16At r 2
 
 -- ---- spare bytes
 

@@ -1,14 +1,19 @@
 -- The numbers of the layout (docs/RULES.md, B): what the versions of the file share, and then what a version decides.
-use Prim.Native.Nat.{ℕ, _+_, _*_, _^_, _≤_}
+use Prim.Native.Nat.{ℕ, _+_, _*_, _%_, _^_, _≤_}
+use mathlib.Core.Bool.{Bool, cond}
 use mathlib.Core.Logic.{_⊎_}
 use mathlib.Core.Path.{_≡_}
+use lib.Dec.{eqb}
 use Rattle.tariff.specs.DefaultBidRules.{dayHours}
 use Rattle.casefile.specs.declared.layout.Format.{Format}
 use Rattle.casefile.specs.declared.layout.Widths.{Widths}
 
--- the version of the file
+-- the versions of the file
 abbrev pub firstVersion : ℕ
 firstVersion = 1
+
+abbrev pub secondVersion : ℕ
+secondVersion = 2
 
 abbrev pub sectionCount : ℕ
 sectionCount = 4
@@ -57,13 +62,17 @@ mostEvents = 200
 abbrev pub bidsOffset : ℕ
 bidsOffset = 32
 
--- a unit's number is below this: the keys of an order leave room for six digits
+-- the highest number of a unit in version 2, of six digits (17)
+abbrev pub highestNumber : ℕ
+highestNumber = 999999
+
+-- the keys of an order leave room for numbers below this
 abbrev pub numberLimit : ℕ
 numberLimit = 2 ^ 20
 
 -- ---- what a version decides
 
--- the widths of the records, and where a unit's number stands in each, with its width
+-- the widths of the records, and where a unit's number stands in each, with its width: version 1
 unfoldable pub firstWidths : Widths
 firstWidths =
     record {
@@ -76,9 +85,26 @@ firstWidths =
       «number_width» = 2;
     }
 
+-- version 2: four bytes at the end of a unit, a reference and an event
+unfoldable pub secondWidths : Widths
+secondWidths =
+    record {
+      «unit_width» = 28;
+      «unit_number» = 24;
+      «reference_width» = 12;
+      «reference_unit» = 8;
+      «event_width» = 316;
+      «event_unit» = 312;
+      «number_width» = 4;
+    }
+
+-- what has one value in version 2 and another in any other
+abbrev pub byVersion : Format → {A : Type 0} → (first second : A) → A
+byVersion format first second = cond (eqb (format .version) secondVersion) second first
+
 -- the widths of a format: an unknown version, which limit 2 refuses, is read as the first
 unfoldable pub widthsOf : Format → Widths
-widthsOf format = firstWidths
+widthsOf format = byVersion format firstWidths secondWidths
 
 abbrev pub unitWidth : Format → ℕ
 unitWidth format = widthsOf format .«unit_width»
@@ -101,6 +127,10 @@ eventUnit format = widthsOf format .«event_unit»
 abbrev pub numberWidth : Format → ℕ
 numberWidth format = widthsOf format .«number_width»
 
+-- a unit's number stands in the two bytes of version 1
+abbrev pub oldNumbers : Format → Bool
+oldNumbers format = eqb (numberWidth format) 2
+
 -- the hour cells of an event: one for each hour that a day can have
 abbrev pub cells : Format → ℕ
 cells format = mostHours
@@ -109,7 +139,7 @@ cells format = mostHours
 abbrev pub rowWidth : Format → ℕ
 rowWidth format = bidsOffset + 4 * cells format
 
--- each field stands within its record, and an event's number before or after its hour cells
+-- each field stands within its record, an event's number before or after its hour cells, and a number has two bytes or four
 pub record Fits (w : Widths) : Type 0 where
   pub unit : unitFields ≤ w .«unit_width»
   pub reference : referenceFields ≤ w .«reference_width»
@@ -119,4 +149,6 @@ pub record Fits (w : Widths) : Type 0 where
   pub event-unit : w .«event_unit» + w .«number_width» ≤ w .«event_width»
   pub event-apart :
       (w .«event_unit» + w .«number_width» ≤ cellsOffset) ⊎ (cellsOffset + cellWidth * mostHours ≤ w .«event_unit»)
-  pub number : w .«number_width» ≡ 2
+  pub narrow : 2 ≤ w .«number_width»
+  pub wide : w .«number_width» ≤ 4
+  pub even : w .«number_width» % 2 ≡ 0

@@ -22,7 +22,7 @@ pub fn length_of(file: &[u8], k: usize) -> u32
     load_u32(file, 8 + 8 * k)
 }
 
-// The format of a file: what its version decides.
+// The format of a file: its version.
 pub fn format_of(file: &[u8]) -> Format
     requires { ⌜ headerWidth ≤ length (now file) ⌝ }
     ensures { λ r. ⌜ r ≡ formatIn (now (file .entry)) ⌝ }

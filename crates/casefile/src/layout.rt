@@ -1,9 +1,11 @@
 // The numbers of the layout, as specs/Layout has them: what the versions of the file share, and then what a version decides.
 ghost use mathlib.Core.Path.{_≡_};
-ghost use Rattle.casefile.specs.Layout.{widthsOf, Fits};
+ghost use Rattle.casefile.specs.Layout.{widthsOf, oldNumbers, Fits};
 use tariff::ranges;
 
 pub const FIRST_VERSION: u16 = 1;
+
+pub const SECOND_VERSION: u16 = 2;
 
 pub const SECTION_COUNT: u16 = 4;
 
@@ -37,6 +39,25 @@ pub const ROW_WIDTH: usize = BIDS_OFFSET + 4 * HOURS;
 // Rows for every case, as limits' specs/Refusal has them (mostRows).
 pub const MOST_ROWS: usize = ROW_WIDTH * MOST_EVENTS;
 
+// The highest number of a unit in version 2, of six digits.
+pub const HIGHEST_NUMBER: u32 = 999_999;
+
+// The widths of a unit, a reference and an event in version 1.
+pub const UNIT_WIDTH: usize = 24;
+
+pub const REFERENCE_WIDTH: usize = 8;
+
+pub const EVENT_WIDTH: usize = 312;
+
+// In version 2 the unit's number follows.
+pub const NUMBER_WIDTH: usize = 4;
+
+pub const SECOND_UNIT_WIDTH: usize = UNIT_WIDTH + NUMBER_WIDTH;
+
+pub const SECOND_REFERENCE_WIDTH: usize = REFERENCE_WIDTH + NUMBER_WIDTH;
+
+pub const SECOND_EVENT_WIDTH: usize = EVENT_WIDTH + NUMBER_WIDTH;
+
 // What a file says of its own layout.
 pub struct Format {
     pub version: u16,
@@ -57,13 +78,32 @@ pub struct Widths {
 pub fn widths_of(format: Format) -> Widths
     ensures { λ r. ⌜ (r ≡ widthsOf format) × Fits r ⌝ }
 {
+    if format.version == SECOND_VERSION {
+        return Widths {
+            unit_width: SECOND_UNIT_WIDTH,
+            unit_number: UNIT_WIDTH,
+            reference_width: SECOND_REFERENCE_WIDTH,
+            reference_unit: REFERENCE_WIDTH,
+            event_width: SECOND_EVENT_WIDTH,
+            event_unit: EVENT_WIDTH,
+            number_width: NUMBER_WIDTH,
+        };
+    }
     Widths {
-        unit_width: 24,
+        unit_width: UNIT_WIDTH,
         unit_number: 0,
-        reference_width: 8,
+        reference_width: REFERENCE_WIDTH,
         reference_unit: 0,
-        event_width: 312,
+        event_width: EVENT_WIDTH,
         event_unit: 2,
         number_width: 2,
     }
+}
+
+// Whether a unit's number stands in the two bytes of version 1.
+pub fn old_numbers(format: Format) -> bool
+    ensures { λ r. ⌜ r ≡ oldNumbers format ⌝ }
+{
+    let w = widths_of(format);
+    w.number_width == 2
 }

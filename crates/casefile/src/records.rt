@@ -1,10 +1,14 @@
 // Records of a section.
 ghost use mathlib.Core.Path.{_≡_};
-ghost use Prim.Native.Nat.{_+_, _-_, _/_, _≤_, _<_};
+ghost use Prim.Native.Nat.{_+_, _-_, _/_, _%_, _≤_, _<_};
 ghost use lib.ListN.{length};
-ghost use Rattle.binary.specs.Bytes.{u16At};
+ghost use Rattle.binary.specs.Bytes.{valueAt};
+ghost use Rattle.casefile.specs.Layout.{byVersion};
 ghost use Rattle.casefile.specs.Decode.{recordAt};
+use crate::layout;
+use crate::layout::Format;
 use binary::bytes::load_u16;
+use binary::bytes::load_u32;
 
 // How many records of that width there are.
 pub fn count_of(records: &[u8], width: usize) -> usize
@@ -12,6 +16,17 @@ pub fn count_of(records: &[u8], width: usize) -> usize
     ensures { λ r. ⌜ r ≡ length (now (records .entry)) / width ⌝ }
 {
     records.len() / width
+}
+
+// How many there are, of the first width in version 1 and of the second in version 2: each divides by a number that is known.
+pub fn count_in(format: Format, records: &[u8], first: usize, second: usize) -> usize
+    requires { ⌜ (0 < first) × (0 < second) ⌝ }
+    ensures { λ r. ⌜ r ≡ length (now (records .entry)) / byVersion format first second ⌝ }
+{
+    if format.version == layout::SECOND_VERSION {
+        return count_of(records, second);
+    }
+    count_of(records, first)
 }
 
 // Record i: that stretch of the section itself.
@@ -24,12 +39,15 @@ pub fn record_at(records: &[u8], i: usize, width: usize) -> &[u8]
     &records[at..end]
 }
 
-// A unit's number, at that place of a record.
-pub fn number_at(source: &[u8], at: usize) -> u32
-    requires { ⌜ at + 2 ≤ length (now source) ⌝ }
-    ensures { λ r. ⌜ r ≡ u16At (now (source .entry)) at ⌝ }
+// A unit's number, at that place of a record: of two bytes or four.
+pub fn number_at(source: &[u8], at: usize, width: usize) -> u32
+    requires { ⌜ (at + width ≤ length (now source)) × (2 ≤ width) × (width ≤ 4) × (width % 2 ≡ 0) ⌝ }
+    ensures { λ r. ⌜ r ≡ valueAt width (now (source .entry)) at ⌝ }
 {
-    load_u16(source, at) as u32
+    if width == 2 {
+        return load_u16(source, at) as u32;
+    }
+    load_u32(source, at)
 }
 
 // The place before i; the first has none before it, and is its own.

@@ -22,12 +22,12 @@ module _ (f k : List ℕ) (n : ℕ) (h : refusal f k n ≡ 0) where
   pub header : HeaderFine f
   header = stages.header-fine f _ (sym (stages.in-stages f k n) ∙ h) .0
 
-  records-and-events : RecordsFine (formatIn f) (sectionOf f 0) (sectionOf f 1) k (sectionOf f 2)
+  records-and-events : RecordsFine (formatIn f) (sectionOf f 0) (sectionOf f 1) k (sectionOf f 2) (sectionOf f 3)
       × (eventsRefusal (formatIn f) (sectionOf f 0) (sectionOf f 1) (correctReferences k (sectionOf f 1)) (sectionOf f 3) n ≡ 0)
   records-and-events =
-      stages.records-fine (formatIn f) (sectionOf f 0) (sectionOf f 1) k (sectionOf f 2) _ (stages.header-fine f _ (sym (stages.in-stages f k n) ∙ h) .1)
+      stages.records-fine (formatIn f) (sectionOf f 0) (sectionOf f 1) k (sectionOf f 2) (sectionOf f 3) _ (stages.header-fine f _ (sym (stages.in-stages f k n) ∙ h) .1)
 
-  pub records : RecordsFine (formatIn f) (sectionOf f 0) (sectionOf f 1) k (sectionOf f 2)
+  pub records : RecordsFine (formatIn f) (sectionOf f 0) (sectionOf f 1) k (sectionOf f 2) (sectionOf f 3)
   records = records-and-events .0
 
   pub events : EventsFine (formatIn f) (sectionOf f 0) (sectionOf f 1) (correctReferences k (sectionOf f 1)) (sectionOf f 3) n

@@ -1,11 +1,16 @@
--- What the refusal's number says of the limits: 0 where every limit is met, else the lowest number that applies.
+-- What the refusal's number says of the limits: 0 where every limit is met, else the number of the first that is broken.
 use Prim.Native.Nat.{ℕ, _<_}
 use mathlib.Core.Bool.{Bool, true, false, cond}
 use mathlib.Core.List.{List, [], _∷_, _++_}
 use mathlib.Core.Path.{_≡_, refl, sym, _∙_, ap, subst}
 use native.Mathlib.Omega.{arith}
-use lib.Dec.{lit<}
-use Rattle.limits.specs.Refusal.{Limit, limits, unless, firstBroken, refusal, MeetsAll, LowestBroken}
+use lib.Dec.{eqb, lit<}
+use borrow.Author.Tests.{eq-eqb}
+use Rattle.casefile.specs.declared.layout.Widths.{Widths}
+use Rattle.casefile.specs.Layout.{firstVersion, firstWidths, widthsOf, oldNumbers}
+use Rattle.casefile.specs.Decode.{formatIn, sectionOf}
+use Rattle.casefile.proofs.RecordLaws.{first-widths}
+use Rattle.limits.specs.Refusal.{unitNumbersFine, referenceNumbersFine, eventNumbersFine, numbersFine, Limit, limits, unless, firstBroken, refusal, MeetsAll, DecidedBy}
 
 -- ---- any list of limits
 
@@ -30,9 +35,9 @@ all-met (l ∷ ls) n h =
 
 -- one limit before the others
 before-others : (l : Limit) (ls : List Limit) (met : Bool) → l .met ≡ met
-    → ((firstBroken ls 0 ≡ 0 → ⊥) → LowestBroken ls (firstBroken ls 0))
+    → ((firstBroken ls 0 ≡ 0 → ⊥) → DecidedBy ls (firstBroken ls 0))
     → (unless met (l .number) (firstBroken ls 0) ≡ 0 → ⊥)
-    → LowestBroken (l ∷ ls) (unless met (l .number) (firstBroken ls 0))
+    → DecidedBy (l ∷ ls) (unless met (l .number) (firstBroken ls 0))
 before-others l ls true e others ne =
     let o = others ne in
     record {
@@ -47,9 +52,9 @@ before-others l ls true e others ne =
 before-others l ls false e others ne =
     record { before = []; first = l; after = ls; split = refl; met = tt; broken = e; number = refl }
 
-lowest-broken : (ls : List Limit) → (firstBroken ls 0 ≡ 0 → ⊥) → LowestBroken ls (firstBroken ls 0)
-lowest-broken [] ne = absurd (ne refl)
-lowest-broken (l ∷ ls) ne = before-others l ls (l .met) refl (lowest-broken ls) ne
+decided : (ls : List Limit) → (firstBroken ls 0 ≡ 0 → ⊥) → DecidedBy ls (firstBroken ls 0)
+decided [] ne = absurd (ne refl)
+decided (l ∷ ls) ne = before-others l ls (l .met) refl (decided ls) ne
 
 first-broken : (before : List Limit) (l : Limit) (after : List Limit) → MeetsAll before → l .met ≡ false
     → firstBroken (before ++ (l ∷ after)) 0 ≡ l .number
@@ -63,6 +68,21 @@ met-at (x ∷ before) l after m = met-at before l after (m .1)
 
 not-met : (l : Limit) → l .met ≡ false → l .met ≡ true → ⊥
 not-met l e t = let z : _≡_ {A = ℕ} 0 1 = ap (λ (b : Bool). cond b 1 0) (sym e ∙ t) in omega arith
+
+-- each limit of that number is met
+abbrev NumberMet : (m : ℕ) → List Limit → Type 0
+NumberMet m [] = Unit {0}
+NumberMet m (l ∷ ls) = (l .number ≡ m → l .met ≡ true) × NumberMet m ls
+
+-- and then it is not the number
+other-number : (l : Limit) (next m : ℕ) (met : Bool) → l .met ≡ met → (l .number ≡ m → l .met ≡ true) → (next ≡ m → ⊥)
+    → unless met (l .number) next ≡ m → ⊥
+other-number l next m true e u rest h = rest h
+other-number l next m false e u rest h = not-met l e (u h)
+
+never-number : (m : ℕ) → 0 < m → (ls : List Limit) → NumberMet m ls → firstBroken ls 0 ≡ m → ⊥
+never-number m p [] u h = absurd (omega arith)
+never-number m p (l ∷ ls) u h = other-number l (firstBroken ls 0) m (l .met) refl (u .0) (never-number m p ls (u .1)) h
 
 -- ---- the limits of a case
 
@@ -86,7 +106,7 @@ module _ (f k : List ℕ) (n : ℕ) where
                   lit< tt,
                   (
                     lit< tt,
-                    (lit< tt, (lit< tt, (lit< tt, (lit< tt, (lit< tt, (lit< tt, tt)))))),
+                    (lit< tt, (lit< tt, (lit< tt, (lit< tt, (lit< tt, (lit< tt, (lit< tt, tt))))))),
                   ),
                 ),
               ),
@@ -105,15 +125,33 @@ module _ (f k : List ℕ) (n : ℕ) where
   unfolding refusal
   meets-accepted m = none-broken (limits f k n) m
 
-  pub refused-lowest : (refusal f k n ≡ 0 → ⊥) → LowestBroken (limits f k n) (refusal f k n)
+  pub refused-decided : (refusal f k n ≡ 0 → ⊥) → DecidedBy (limits f k n) (refusal f k n)
   unfolding refusal
-  refused-lowest ne = lowest-broken (limits f k n) ne
+  refused-decided ne = decided (limits f k n) ne
 
-  pub lowest-refused : (m : ℕ) → LowestBroken (limits f k n) m → refusal f k n ≡ m
+  pub decided-refused : (m : ℕ) → DecidedBy (limits f k n) m → refusal f k n ≡ m
   unfolding refusal
-  lowest-refused m b =
+  decided-refused m b =
       ap (λ (ls : List Limit). firstBroken ls 0) (b .split) ∙ first-broken (b .before) (b .first) (b .after) (b .met) (b .broken) ∙ b .number
 
   -- a number that applies is not 0
-  pub lowest-number : (m : ℕ) → LowestBroken (limits f k n) m → refusal f k n ≡ 0 → ⊥
-  lowest-number m b h = not-met (b .first) (b .broken) (met-at (b .before) (b .first) (b .after) (subst MeetsAll (b .split) (accepted-meets h)))
+  pub decided-number : (m : ℕ) → DecidedBy (limits f k n) m → refusal f k n ≡ 0 → ⊥
+  decided-number m b h = not-met (b .first) (b .broken) (met-at (b .before) (b .first) (b .after) (subst MeetsAll (b .split) (accepted-meets h)))
+
+  -- 17 is never the number of a version 1 file, which has no other field for a number
+  old-numbers : formatIn f .version ≡ firstVersion → oldNumbers (formatIn f) ≡ true
+  unfolding widthsOf firstWidths
+  old-numbers v = ap (λ (w : Widths). eqb (w .«number_width») 2) (sym (first-widths (formatIn f) (λ e. omega arith)))
+
+  numbers-met : formatIn f .version ≡ firstVersion → numbersFine (formatIn f) (sectionOf f 0) (sectionOf f 1) (sectionOf f 3) ≡ true
+  unfolding numbersFine unitNumbersFine referenceNumbersFine eventNumbersFine
+  numbers-met v = rw (old-numbers v)
+
+  pub first-never-17 : formatIn f .version ≡ firstVersion → refusal f k n ≡ 17 → ⊥
+  unfolding refusal
+  first-never-17 v =
+      never-number 17 (lit< tt) (limits f k n)
+      (no refl, (no refl, (no refl, (no refl, (no refl, (λ e. numbers-met v, (no refl, (no refl, (no refl, (no refl, (no refl, (no refl, (no refl, (no refl, (no refl, (no refl, tt))))))))))))))))
+    where
+      no : {m : ℕ} {b : Bool} → eqb m 17 ≡ false → m ≡ 17 → b ≡ true
+      no {m} e q = let z : true ≡ false = sym (eq-eqb m 17 q) ∙ e in cc

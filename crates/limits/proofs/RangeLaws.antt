@@ -3,22 +3,26 @@ use Prim.Native.Nat.{ℕ, zero, suc, _-_, _≤_, _<_}
 use mathlib.Core.Bool.{Bool, true, false, cond, not, _&&_, _||_}
 use mathlib.Core.List.{List}
 use mathlib.Core.Logic.{⊎-elim}
-use mathlib.Core.Path.{_≡_, sym, ap, subst}
-use native.Mathlib.Nat.{eq-or-lt-of-le, le-of-suc-le-suc, not-suc-le-zero}
+use mathlib.Core.Path.{_≡_, refl, sym, ap, subst}
+use native.Mathlib.Nat.{eq-or-lt-of-le, le-of-suc-le-suc, not-suc-le-zero, zero-mod, zero-div}
 use native.Mathlib.Omega.{arith}
 use lib.Dec.{ltb, leb, eqb}
 use lib.ListN.{length}
 use borrow.Author.Tests.{ltb-true, leb-true, eqb-true, eq-eqb, ne-eqb}
+use Rattle.binary.specs.Bounded.{allTo}
+use Rattle.binary.specs.Lists.{Bytes}
 use Rattle.binary.specs.Word.{within}
 use Rattle.binary.proofs.Implies.{and-l, and-r}
 use Rattle.binary.proofs.BoundedLaws.{all-at}
 use Rattle.tariff.specs.Ranges.{highestCapability, highestComponent, highestMarket, highestDay, highestKind, highestPrice, highestRevenue, highestFuelMoney, highestEnergy, highestPriceChange, highestMegawatts, bidInRange}
 use Rattle.casefile.specs.declared.layout.Format.{Format}
 use Rattle.casefile.specs.Case.{Units, Events}
-use Rattle.casefile.specs.Decode.{unitsIn, referencesIn}
+use Rattle.casefile.specs.Layout.{referenceWidth, eventWidth, numberWidth, oldNumbers, highestNumber, numberLimit}
+use Rattle.casefile.specs.Decode.{recordAt, unitsIn, referencesIn, eventsIn, eventOldField}
 use Rattle.casefile.specs.Lookup.{referenceKey, correctReferences}
+use Rattle.casefile.proofs.RecordLaws.{event-unit-lt}
 use Rattle.limits.specs.StageLookup.{Rising, UnitsInOrder, InOrder}
-use Rattle.limits.specs.Refusal.{unitsFine, referencesFine, correctionFine, rises, unitFieldsFine, unitFine, referenceFine, quantitiesFine, fieldsFine, cellFine, eventFine}
+use Rattle.limits.specs.Refusal.{sizeFine, numberFine, referenceNumbersFine, eventNumberFine, eventNumbersFine, numbersFine, unitsFine, referencesFine, correctionFine, rises, unitFieldsFine, unitFine, referenceFine, quantitiesFine, fieldsFine, cellFine, eventFine}
 
 -- ---- tests
 
@@ -87,6 +91,29 @@ cell-range kind component a b m h =
           leb-true m highestMegawatts (search (and-l, and-r));
     }
 
+-- ---- unit numbers
+
+-- the events' part of 17
+pub event-numbers : (format : Format) (u r e : List ℕ) → numbersFine format u r e ≡ true → eventNumbersFine format e ≡ true
+unfolding numbersFine
+event-numbers format u r e h = search (and-l, and-r)
+
+-- a number leaves room in a key: in two bytes it is below 65,536, and of four bytes 17 asks that it is at most 999,999
+pub number-lt : (format : Format) (s : List ℕ) → Bytes s → eventNumbersFine format s ≡ true → (i : ℕ) → i < eventsIn format s .count
+    → eventsIn format s .unit i < numberLimit
+unfolding eventNumbersFine eventNumberFine numberFine
+number-lt format s b h i l = go (oldNumbers format) refl h
+  where
+    go : (t : Bool) → oldNumbers format ≡ t → (t || allTo (eventsIn format s .count) (eventNumberFine format s)) ≡ true
+        → eventsIn format s .unit i < numberLimit
+    go true e f = event-unit-lt format s i b (eqb-true (numberWidth format) 2 e)
+    go false e f =
+        let t = all-at (eventsIn format s .count) i (eventNumberFine format s) l f in
+        let m =
+        leb-true (eventsIn format s .unit i) highestNumber
+        (and-r (eqb (eventOldField (recordAt (eventWidth format) s i)) 0) (leb (eventsIn format s .unit i) highestNumber) t) in
+        omega arith
+
 -- ---- strict orders
 
 -- a key that rises at each place below n rises from any place to any later one
@@ -125,3 +152,12 @@ correct-in-order format u correction own h k = go (eqb (length correction) 0)
     go : (b : Bool) → InOrder format (cond b own correction)
     go true = references-in-order format u own h
     go false = references-in-order format u correction (search (and-l, and-r))
+
+-- no correction breaks nothing
+pub none-fine : (format : Format) (u : Units) (s : List ℕ) → length s ≡ 0 → true ≡ correctionFine format u s
+unfolding correctionFine sizeFine referenceNumbersFine referencesFine referencesIn allTo
+none-fine format u s e = rw (e, zero-mod (referenceWidth format), zero-div (referenceWidth format)) (go (oldNumbers format))
+  where
+    go : (b : Bool) → true ≡ ((b || true) && true)
+    go true = refl
+    go false = refl

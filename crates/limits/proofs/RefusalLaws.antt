@@ -1,6 +1,6 @@
 -- The stages of the refusal: a stage that breaks no limit leaves what follows, and one that does is the answer.
 use Prim.Native.Nat.{ℕ, zero, suc, _+_, _≤_, _<_}
-use mathlib.Core.Bool.{Bool, true, false, cond}
+use mathlib.Core.Bool.{Bool, true, false, cond, _&&_}
 use mathlib.Core.List.{List}
 use mathlib.Core.Path.{_≡_, refl}
 use native.Mathlib.Nat.{suc-ne-zero}
@@ -13,7 +13,7 @@ use Rattle.casefile.specs.declared.layout.Format.{Format}
 use Rattle.casefile.specs.Layout.{sectionCount, headerWidth, longestFile}
 use Rattle.casefile.specs.Decode.{formatIn, offsetOf, lengthOf, sectionOf, FollowOn, HasSection, unitsIn, referencesIn, eventsIn}
 use Rattle.casefile.specs.Lookup.{correctReferences}
-use Rattle.limits.specs.Refusal.{lengthFine, versionFine, sectionsFine, pairsFine, sizesFine, unitsFine, referencesFine, correctionFine, pastFine, eventsFine, orderFine, eventsListed, amountsFine, referencesFound, rowsFine, unless, refusal}
+use Rattle.limits.specs.Refusal.{lengthFine, versionFine, sectionsFine, pairsFine, sizesFine, numbersFine, unitsFine, referencesFine, correctionFine, pastFine, eventsFine, orderFine, eventsListed, amountsFine, referencesFound, rowsFine, unless, refusal}
 use Rattle.limits.specs.StageRefusal.{headerRefusal, recordsRefusal, eventsRefusal}
 
 -- ---- one number of the chain
@@ -21,6 +21,17 @@ use Rattle.limits.specs.StageRefusal.{headerRefusal, recordsRefusal, eve
 pub passed : (t : Bool) (k m : ℕ) → unless t (suc k) m ≡ 0 → (t ≡ true) × (m ≡ 0)
 passed true k m h = (refl, h)
 passed false k m h = absurd (suc-ne-zero k h)
+
+-- 17 or 6, whatever follows
+numbers-broken : (a b : Bool) (next : ℕ) → (a && b) ≡ false → unless a 17 6 ≡ unless a 17 (unless b 6 next)
+numbers-broken true true next h = cc
+numbers-broken true false next h = refl
+numbers-broken false b next h = refl
+
+pub numbers-refused : (format : Format) (u r k p e : List ℕ) (a b : Bool) → a ≡ numbersFine format u r e → b ≡ unitsFine format u → (a && b) ≡ false
+    → unless a 17 6 ≡ recordsRefusal format u r k p e 0
+unfolding recordsRefusal
+numbers-refused format u r k p e a b n m h = rw (← n, ← m) (numbers-broken a b _ h)
 
 -- 10 or 11, whatever follows
 pub order-broken : (a b : Bool) (next : ℕ) → (unless a 10 (unless b 11 0) ≡ 0 → ⊥) → unless a 10 (unless b 11 0) ≡ unless a 10 (unless b 11 next)
@@ -45,27 +56,28 @@ header-next f m = go (lengthFine f) (versionFine f) (sectionsFine f) (pairsFine 
     go true true true true false = refl
     go true true true true true = refl
 
-pub records-next : (format : Format) (u r k p : List ℕ) (m : ℕ)
-    → recordsRefusal format u r k p m ≡ cond (eqb (recordsRefusal format u r k p 0) 0) m (recordsRefusal format u r k p 0)
+pub records-next : (format : Format) (u r k p e : List ℕ) (m : ℕ)
+    → recordsRefusal format u r k p e m ≡ cond (eqb (recordsRefusal format u r k p e 0) 0) m (recordsRefusal format u r k p e 0)
 unfolding recordsRefusal
-records-next format u r k p m =
-    go (unitsFine format u) (referencesFine format (unitsIn format u) r) (correctionFine format (unitsIn format u) k) (pastFine p)
+records-next format u r k p e m =
+    go (numbersFine format u r e) (unitsFine format u) (referencesFine format (unitsIn format u) r) (correctionFine format (unitsIn format u) k) (pastFine p)
   where
-    chain : (a b c d : Bool) (next : ℕ) → ℕ
-    chain a b c d next = unless a 6 (unless b 7 (unless c 8 (unless d 9 next)))
+    chain : (a b c d t : Bool) (next : ℕ) → ℕ
+    chain a b c d t next = unless a 17 (unless b 6 (unless c 7 (unless d 8 (unless t 9 next))))
 
-    go : (a b c d : Bool) → chain a b c d m ≡ cond (eqb (chain a b c d 0) 0) m (chain a b c d 0)
-    go false b c d = refl
-    go true false c d = refl
-    go true true false d = refl
-    go true true true false = refl
-    go true true true true = refl
+    go : (a b c d t : Bool) → chain a b c d t m ≡ cond (eqb (chain a b c d t 0) 0) m (chain a b c d t 0)
+    go false b c d t = refl
+    go true false c d t = refl
+    go true true false d t = refl
+    go true true true false t = refl
+    go true true true true false = refl
+    go true true true true true = refl
 
 -- the limits in their order are those of the stages, one after the other
 pub in-stages : (f k : List ℕ) (n : ℕ)
     → refusal f k n
     ≡ headerRefusal f
-    (recordsRefusal (formatIn f) (sectionOf f 0) (sectionOf f 1) k (sectionOf f 2)
+    (recordsRefusal (formatIn f) (sectionOf f 0) (sectionOf f 1) k (sectionOf f 2) (sectionOf f 3)
     (eventsRefusal (formatIn f) (sectionOf f 0) (sectionOf f 1) (correctReferences k (sectionOf f 1)) (sectionOf f 3) n))
 unfolding refusal headerRefusal recordsRefusal eventsRefusal
 in-stages f k n = refl
@@ -74,11 +86,11 @@ pub refusal-header : (f k : List ℕ) (n h : ℕ) → h ≡ headerRefusal f 0 �
 refusal-header f k n h e ne = rw (in-stages f k n, header-next f, ← e, ne-eqb h 0 ne)
 
 pub refusal-records : (f k : List ℕ) (n r : ℕ) → headerRefusal f 0 ≡ 0
-    → r ≡ recordsRefusal (formatIn f) (sectionOf f 0) (sectionOf f 1) k (sectionOf f 2) 0 → (r ≡ 0 → ⊥) → r ≡ refusal f k n
+    → r ≡ recordsRefusal (formatIn f) (sectionOf f 0) (sectionOf f 1) k (sectionOf f 2) (sectionOf f 3) 0 → (r ≡ 0 → ⊥) → r ≡ refusal f k n
 refusal-records f k n r h e ne = rw (in-stages f k n, header-next f, h, records-next (formatIn f) (sectionOf f 0), ← e, ne-eqb r 0 ne)
 
 pub refusal-events : (f k : List ℕ) (n : ℕ) → headerRefusal f 0 ≡ 0
-    → recordsRefusal (formatIn f) (sectionOf f 0) (sectionOf f 1) k (sectionOf f 2) 0 ≡ 0
+    → recordsRefusal (formatIn f) (sectionOf f 0) (sectionOf f 1) k (sectionOf f 2) (sectionOf f 3) 0 ≡ 0
     → eventsRefusal (formatIn f) (sectionOf f 0) (sectionOf f 1) (correctReferences k (sectionOf f 1)) (sectionOf f 3) n ≡ refusal f k n
 refusal-events f k n h r = rw (in-stages f k n, header-next f, h, records-next (formatIn f) (sectionOf f 0), r)
 
@@ -91,7 +103,8 @@ pub record HeaderFine (f : List ℕ) : Type 0 where
   pub pairs : pairsFine f ≡ true
   pub sizes : sizesFine f ≡ true
 
-pub record RecordsFine (format : Format) (units references correction past : List ℕ) : Type 0 where
+pub record RecordsFine (format : Format) (units references correction past events : List ℕ) : Type 0 where
+  pub numbers-fine : numbersFine format units references events ≡ true
   pub units-fine : unitsFine format units ≡ true
   pub references-fine : referencesFine format (unitsIn format units) references ≡ true
   pub correction-fine : correctionFine format (unitsIn format units) correction ≡ true
@@ -115,14 +128,15 @@ header-fine f m e =
     let p5 = passed (sizesFine f) 4 _ (p4 .1) in
     (record { fits = p1 .0; versioned = p2 .0; sections = p3 .0; pairs = p4 .0; sizes = p5 .0 }, p5 .1)
 
-pub records-fine : (format : Format) (u r k p : List ℕ) (m : ℕ) → recordsRefusal format u r k p m ≡ 0 → RecordsFine format u r k p × (m ≡ 0)
+pub records-fine : (format : Format) (u r k p s : List ℕ) (m : ℕ) → recordsRefusal format u r k p s m ≡ 0 → RecordsFine format u r k p s × (m ≡ 0)
 unfolding recordsRefusal
-records-fine format u r k p m e =
-    let p6 = passed (unitsFine format u) 5 _ e in
+records-fine format u r k p s m e =
+    let p17 = passed (numbersFine format u r s) 16 _ e in
+    let p6 = passed (unitsFine format u) 5 _ (p17 .1) in
     let p7 = passed (referencesFine format (unitsIn format u) r) 6 _ (p6 .1) in
     let p8 = passed (correctionFine format (unitsIn format u) k) 7 _ (p7 .1) in
     let p9 = passed (pastFine p) 8 _ (p8 .1) in
-    (record { units-fine = p6 .0; references-fine = p7 .0; correction-fine = p8 .0; past-fine = p9 .0 }, p9 .1)
+    (record { numbers-fine = p17 .0; units-fine = p6 .0; references-fine = p7 .0; correction-fine = p8 .0; past-fine = p9 .0 }, p9 .1)
 
 pub events-fine : (format : Format) (u r c s : List ℕ) (n : ℕ) → eventsRefusal format u r c s n ≡ 0 → EventsFine format u r c s n
 unfolding eventsRefusal

@@ -9,8 +9,9 @@ use Rattle.binary.specs.Lists.{Bytes}
 use Rattle.casefile.specs.Layout.{numberLimit}
 use Rattle.casefile.specs.Decode.{formatIn, sectionOf, caseIn, decode}
 use Rattle.limits.specs.Refusal.{eventKey, refusal}
-use Rattle.casefile.proofs.RecordLaws.{event-unit-lt, section-bytes}
-use Rattle.limits.proofs.AcceptedLaws.{event-ranges, events-rise}
+use Rattle.casefile.proofs.RecordLaws.{section-bytes}
+use Rattle.limits.proofs.AcceptedLaws.{records, event-ranges, events-rise}
+use Rattle.limits.proofs.RangeLaws.{event-numbers, number-lt}
 
 -- keys in order, of which the last 28 bits are the unit and the component
 leading : (x y a b : ℕ) → a < 2 ^ 28 → b < 2 ^ 28 → 2 ^ 28 * x + a ≤ 2 ^ 28 * y + b → x ≤ y
@@ -20,16 +21,18 @@ last-byte : (x y a b : ℕ) → a < 256 → b < 256 → 256 * x + a ≡ 256 * y 
 last-byte x y a b l m e = omega arith
 
 module _ (f k : List ℕ) (n : ℕ) (b : Bytes f) (h : refusal f k n ≡ 0) where
-  pub unit-lt : (j : ℕ) → decode f .events .unit j < numberLimit
+  pub unit-lt : (j : ℕ) → j < decode f .events .count → decode f .events .unit j < numberLimit
   unfolding decode caseIn
-  unit-lt j = event-unit-lt (formatIn f) (sectionOf f 3) j (section-bytes f 3 b)
+  unit-lt j l =
+      number-lt (formatIn f) (sectionOf f 3) (section-bytes f 3 b)
+      (event-numbers (formatIn f) (sectionOf f 0) (sectionOf f 1) (sectionOf f 3) (records f k n h .numbers-fine)) j l
 
   -- day, kind and market in one number
   abbrev run : ℕ → ℕ
   run i = 256 * (256 * decode f .events .day i + decode f .events .kind i) + decode f .events .market i
 
   behind : (i : ℕ) → i < decode f .events .count → 2 ^ 8 * decode f .events .unit i + decode f .events .component i < 2 ^ 28
-  behind i l = let c = event-ranges f k n h i l .component in omega (arith, unit-lt i)
+  behind i l = let c = event-ranges f k n h i l .component in omega (arith, unit-lt i l)
 
   runs-rise : (i j : ℕ) → i ≤ j → j < decode f .events .count → run i ≤ run j
   unfolding eventKey

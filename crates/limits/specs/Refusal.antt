@@ -9,9 +9,9 @@ use Rattle.binary.specs.Bounded.{allTo}
 use Rattle.binary.specs.Word.{within}
 use Rattle.tariff.specs.Ranges.{highestArea, lowestCapability, highestCapability, highestRate, highestAveragePrice, mostConstrainedHours, highestComponent, referenceInRange, highestMarket, highestDay, lowestKind, highestKind, highestImpact, highestPrice, highestRevenue, highestFuelMoney, highestEnergy, highestPriceChange, mostRunHours, highestMegawatts, bidInRange}
 use Rattle.casefile.specs.declared.layout.Format.{Format}
-use Rattle.casefile.specs.Layout.{firstVersion, sectionCount, headerWidth, longestFile, unitWidth, referenceWidth, pastWidth, eventWidth, mostUnits, mostReferences, mostPast, mostEvents, rowWidth}
+use Rattle.casefile.specs.Layout.{firstVersion, secondVersion, sectionCount, headerWidth, longestFile, unitWidth, referenceWidth, pastWidth, eventWidth, mostUnits, mostReferences, mostPast, mostEvents, highestNumber, oldNumbers, rowWidth}
 use Rattle.casefile.specs.Case.{Units, References, Violation, Events}
-use Rattle.casefile.specs.Decode.{formatIn, sectionsIn, offsetOf, lengthOf, sectionOf, recordAt, unitsIn, referencesIn, pastIn, eventsIn, amountsIn, unitSpareFine, referenceSpareFine, entrySpareFine}
+use Rattle.casefile.specs.Decode.{formatIn, sectionsIn, offsetOf, lengthOf, sectionOf, recordAt, unitsIn, referencesIn, pastIn, eventsIn, amountsIn, unitOldField, referenceOldField, eventOldField, unitSpareFine, referenceSpareFine, entrySpareFine}
 use Rattle.casefile.specs.Lookup.{isListed, placeOf, referenceKey, hasReference, readsCorrect, correctReferences}
 
 -- 1: the length
@@ -20,7 +20,7 @@ lengthFine f = leb headerWidth (length f) && leb (length f) longestFile
 
 -- 2 and 3: the version and the section count
 unfoldable pub versionFine : List ℕ → Bool
-versionFine f = eqb (formatIn f .version) firstVersion
+versionFine f = eqb (formatIn f .version) firstVersion || eqb (formatIn f .version) secondVersion
 
 unfoldable pub sectionsFine : List ℕ → Bool
 sectionsFine f = eqb (sectionsIn f) sectionCount
@@ -42,6 +42,31 @@ unfoldable pub sizesFine : List ℕ → Bool
 sizesFine f =
     sizeFine (lengthOf f 0) (unitWidth (formatIn f)) mostUnits && sizeFine (lengthOf f 1) (referenceWidth (formatIn f)) mostReferences
     && sizeFine (lengthOf f 2) pastWidth mostPast && sizeFine (lengthOf f 3) (eventWidth (formatIn f)) mostEvents
+
+-- 17, in version 2 alone: a number's old field, the two bytes where version 1 has it, is 0, and the number is at most 999,999
+unfoldable pub numberFine : (old number : ℕ) → Bool
+numberFine old number = eqb old 0 && leb number highestNumber
+
+unfoldable pub unitNumberFine : Format → List ℕ → ℕ → Bool
+unitNumberFine format s i = numberFine (unitOldField (recordAt (unitWidth format) s i)) (unitsIn format s .number i)
+
+unfoldable pub unitNumbersFine : Format → List ℕ → Bool
+unitNumbersFine format s = oldNumbers format || allTo (unitsIn format s .count) (unitNumberFine format s)
+
+unfoldable pub referenceNumberFine : Format → List ℕ → ℕ → Bool
+referenceNumberFine format s i = numberFine (referenceOldField (recordAt (referenceWidth format) s i)) (referencesIn format s .unit i)
+
+unfoldable pub referenceNumbersFine : Format → List ℕ → Bool
+referenceNumbersFine format s = oldNumbers format || allTo (referencesIn format s .count) (referenceNumberFine format s)
+
+unfoldable pub eventNumberFine : Format → List ℕ → ℕ → Bool
+eventNumberFine format s i = numberFine (eventOldField (recordAt (eventWidth format) s i)) (eventsIn format s .unit i)
+
+unfoldable pub eventNumbersFine : Format → List ℕ → Bool
+eventNumbersFine format s = oldNumbers format || allTo (eventsIn format s .count) (eventNumberFine format s)
+
+unfoldable pub numbersFine : Format → (units references events : List ℕ) → Bool
+numbersFine format u r e = unitNumbersFine format u && referenceNumbersFine format r && eventNumbersFine format e
 
 -- strictly rising: the key of record i is above that of the record before
 unfoldable pub rises : (ℕ → ℕ) → ℕ → Bool
@@ -77,9 +102,10 @@ referenceFine format u s i =
 unfoldable pub referencesFine : Format → Units → List ℕ → Bool
 referencesFine format u s = allTo (referencesIn format s .count) (referenceFine format u s)
 
--- 8: the correction, laid out as references
+-- 8: the correction, laid out as references, its numbers held to 17's test
 unfoldable pub correctionFine : Format → Units → List ℕ → Bool
-correctionFine format u s = sizeFine (length s) (referenceWidth format) mostReferences && referencesFine format u s
+correctionFine format u s =
+    sizeFine (length s) (referenceWidth format) mostReferences && referenceNumbersFine format s && referencesFine format u s
 
 -- 9: a past entry's fields, and its spare bytes
 unfoldable pub violationFine : Violation → Bool
@@ -135,7 +161,7 @@ eventFine e a i =
 unfoldable pub eventsFine : Format → List ℕ → Bool
 eventsFine format s = allTo (eventsIn format s .count) (eventFine (eventsIn format s) (amountsIn format s))
 
--- 11: the order of events: by day, kind, market, unit, component
+-- 11: the order of events: by day, kind, market, unit, component; the unit has 20 bits, which 17 sees to
 unfoldable pub eventKey : Events → ℕ → ℕ
 eventKey e i =
     2 ^ 44 * e .day i + 2 ^ 36 * e .kind i + 2 ^ 28 * e .market i + 2 ^ 8 * e .unit i + e .component i
@@ -194,10 +220,11 @@ headerLimits f =
     ∷ limit 5 (sizesFine f)
     ∷ []
 
--- 6 to 9, of the units, the references, the correction and the past
-abbrev pub recordLimits : Format → (units references correction past : List ℕ) → List Limit
-recordLimits format units references correction past =
-    limit 6 (unitsFine format units)
+-- 17, of the units, the references and the events; 6 to 9, of the units, the references, the correction and the past
+abbrev pub recordLimits : Format → (units references correction past events : List ℕ) → List Limit
+recordLimits format units references correction past events =
+    limit 17 (numbersFine format units references events)
+    ∷ limit 6 (unitsFine format units)
     ∷ limit 7 (referencesFine format (unitsIn format units) references)
     ∷ limit 8 (correctionFine format (unitsIn format units) correction)
     ∷ limit 9 (pastFine past)
@@ -218,7 +245,7 @@ eventLimits format units references correct events rowsLength =
 abbrev pub limits : (file correction : List ℕ) (rowsLength : ℕ) → List Limit
 limits f k n =
     headerLimits f
-    ++ (recordLimits (formatIn f) (sectionOf f 0) (sectionOf f 1) k (sectionOf f 2)
+    ++ (recordLimits (formatIn f) (sectionOf f 0) (sectionOf f 1) k (sectionOf f 2) (sectionOf f 3)
     ++ eventLimits (formatIn f) (sectionOf f 0) (sectionOf f 1) (correctReferences k (sectionOf f 1)) (sectionOf f 3) n)
 
 -- ---- the number
@@ -246,8 +273,8 @@ abbrev pub MeetsAll : List Limit → Type 0
 MeetsAll [] = Unit {0}
 MeetsAll (l ∷ ls) = (l .met ≡ true) × MeetsAll ls
 
--- m is the lowest number that applies: a limit of that number is broken, and every limit before it is met
-pub record LowestBroken (ls : List Limit) (m : ℕ) : Type 0 where
+-- the limit that decides: it is broken, and every limit before it in checking order is met; m is its number
+pub record DecidedBy (ls : List Limit) (m : ℕ) : Type 0 where
   pub before : List Limit
   pub first : Limit
   pub after : List Limit

@@ -1,6 +1,7 @@
-// Units, references, correction and past: limits 6 to 9, in their order.
+// Limit 17, the numbers of units, references and events; then limits 6 to 9, of units, references, correction and past.
 ghost use mathlib.Core.Path.{_≡_};
 ghost use Rattle.limits.specs.StageRefusal.{recordsRefusal};
+use crate::number_limits::numbers_fine;
 use crate::past_limits::past_fine;
 use crate::reference_limits::correction_fine;
 use crate::reference_limits::references_fine;
@@ -8,19 +9,22 @@ use crate::refusal::unless;
 use crate::unit_limits::units_fine;
 use casefile::layout::Format;
 
-// The number of the first limit that units, references, correction or past break, or 0.
+// The number of the first limit that the records break, of the events their numbers alone, or 0.
 pub fn records_refusal(
     format: Format,
     units: &[u8],
     references: &[u8],
     correction: &[u8],
     past: &[u8],
+    events: &[u8],
 ) -> u8
-    ensures { λ r. ⌜ r ≡ recordsRefusal format (now (units .entry)) (now (references .entry)) (now (correction .entry)) (now (past .entry)) 0 ⌝ }
+    ensures { λ r. ⌜ r ≡ recordsRefusal format (now (units .entry)) (now (references .entry)) (now (correction .entry)) (now (past .entry)) (now (events .entry)) 0 ⌝ }
 {
+    let numbers_good = numbers_fine(format, units, references, events);
+    let units_good = units_fine(format, units);
     // Units are looked up by their order, which 6 is about.
-    if !units_fine(format, units) {
-        return 6;
+    if !(numbers_good & units_good) {
+        return unless(numbers_good, 17, 6);
     }
     let references_good = references_fine(format, units, references);
     let correction_good = correction_fine(format, units, correction);

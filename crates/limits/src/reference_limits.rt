@@ -5,13 +5,12 @@ ghost use Prim.Native.Nat.{_<_};
 ghost use Rattle.casefile.specs.Decode.{unitsIn, referencesIn};
 ghost use Rattle.limits.specs.StageLookup.{UnitsInOrder, referenceFineWhere};
 ghost use Rattle.limits.specs.Refusal.{referenceFieldsFine, referencesFine, correctionFine};
-use crate::header_limits::size_fine;
+use crate::header_limits::references_size;
 use crate::lookup::next_place;
 use crate::lookup::reference_key;
 use crate::lookup::unit_place;
-use casefile::layout;
+use crate::number_limits::reference_numbers_fine;
 use casefile::layout::Format;
-use casefile::layout::widths_of;
 use casefile::records::place_before;
 use casefile::references::reference_at;
 use casefile::references::reference_count;
@@ -42,6 +41,9 @@ pub fn references_fine(format: Format, units: &[u8], references: &[u8]) -> bool
     ensures { λ r. ⌜ r ≡ referencesFine format (unitsIn format (now (units .entry))) (now (references .entry)) ⌝ }
 {
     let n = reference_count(format, references);
+    if n == 0 {
+        return true;
+    }
     let mut fine = true;
     let mut last: u32 = 0;
     let mut place = unit_place(format, units, 0);
@@ -58,14 +60,17 @@ pub fn references_fine(format: Format, units: &[u8], references: &[u8]) -> bool
     fine
 }
 
-// The size comes first: a correction may be of any length.
+// An empty correction has nothing to look at. The size comes before the records, since a correction may be of any length.
 pub fn correction_fine(format: Format, units: &[u8], correction: &[u8]) -> bool
     requires { ⌜ UnitsInOrder format (now units) ⌝ }
     ensures { λ r. ⌜ r ≡ correctionFine format (unitsIn format (now (units .entry))) (now (correction .entry)) ⌝ }
 {
-    let w = widths_of(format);
-    if size_fine(correction.len(), w.reference_width, layout::MOST_REFERENCES) {
-        return references_fine(format, units, correction);
+    if correction.len() == 0 {
+        return true;
+    }
+    if references_size(format, correction.len()) {
+        let numbers = reference_numbers_fine(format, correction);
+        return numbers & references_fine(format, units, correction);
     }
     false
 }

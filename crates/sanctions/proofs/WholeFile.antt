@@ -46,7 +46,7 @@ whole-file c i g l rise =
 
 module _ (f k : List ℕ) (n : ℕ) (b : Bytes f) (h : refusal f k n ≡ 0) where
   days-rise : (i j : ℕ) → i ≤ j → j < decode f .events .count → decode f .events .day i ≤ decode f .events .day j
-  days-rise i j l m = ⊎-elim (λ e. rw e (le-refl _)) (λ lt. case.days-in-order f k n h i j lt m (unit-lt f k n b h j)) (eq-or-lt-of-le l)
+  days-rise i j l m = ⊎-elim (λ e. rw e (le-refl _)) (λ lt. case.days-in-order f k n h i j lt m (unit-lt f k n b h j m)) (eq-or-lt-of-le l)
 
   by-rows : (i g : ℕ) → i < decode f .events .count
       → priorFuel (decode f) i (decode f .events .day i) g

@@ -82,7 +82,7 @@ pub fn period_of(format: Format, events: &[u8], j: usize) -> u16
 }
 
 // The instances on the first i rows.
-fn instances_here(
+fn counted_here(
     format: Format,
     events: &[u8],
     groups: &[u16; layout::MOST_EVENTS],
@@ -106,6 +106,32 @@ fn instances_here(
         j += 1;
     }
     Instances { n3: three, n2: two }
+}
+
+// The same with a loop for each version, whose records stand a known number of bytes apart.
+fn instances_here(
+    format: Format,
+    events: &[u8],
+    groups: &[u16; layout::MOST_EVENTS],
+    masks: &[u32; layout::MOST_EVENTS],
+    group: u16,
+    market: u8,
+    period: u16,
+    i: usize,
+) -> Instances
+    requires { ⌜ (i ≤ eventsIn format (now events) .count) × (i ≤ mostEvents) ⌝ }
+    ensures { λ r. ⌜ r ≡ instancesHere format (now (events .entry)) (now (groups .entry)) (now (masks .entry)) group market period i ⌝ }
+{
+    if format.version == layout::SECOND_VERSION {
+        let second = Format {
+            version: layout::SECOND_VERSION,
+        };
+        return counted_here(second, events, groups, masks, group, market, period, i);
+    }
+    let first = Format {
+        version: layout::FIRST_VERSION,
+    };
+    counted_here(first, events, groups, masks, group, market, period, i)
 }
 
 // Whether past entry j is of kind 1, and of a group and market.

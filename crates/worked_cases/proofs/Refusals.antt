@@ -1,5 +1,5 @@
--- The examples of the table What a case can break, the listing's case and the empty case, by computation; and the lowest number
--- that applies, of one of them.
+-- The examples of the table What a case can break, the listing's case and the empty case, by computation; and the limit
+-- that decides, of one of them.
 use Prim.Native.Nat.{ℕ}
 use mathlib.Core.List.{[], _++_}
 use mathlib.Core.Path.{_≡_, refl, sym, _∙_, subst}
@@ -12,9 +12,10 @@ use Rattle.tariff.specs.Ranges.{referenceInRange, bidInRange}
 use Rattle.casefile.specs.Layout.{firstWidths, widthsOf}
 use Rattle.casefile.specs.Decode.{formatIn, offsetOf, lengthOf, sectionOf, recordAt, unitsIn, referencesIn, violationIn, pastIn, cellsFrom, cellsIn, eventsIn, amountsIn, unitSpareFine, referenceSpareFine, entrySpareFine}
 use Rattle.casefile.specs.Lookup.{isUnit, isListed, placeOf, isReference, referenceKey, hasReference, correctReferences, readsCorrect}
-use Rattle.limits.specs.Refusal.{lengthFine, versionFine, sectionsFine, pairsFine, sizeFine, sizesFine, rises, unitFieldsFine, unitFine, unitsFine, referenceFieldsFine, referenceFine, referencesFine, correctionFine, violationFine, entryFine, pastFine, maskFine, quantitiesFine, fieldsFine, cellFine, hourFine, eventFine, eventsFine, eventKey, orderFine, eventListed, eventsListed, withinCapability, amountFine, amountsFine, referenceFound, referencesFound, rowsFine, refusal, limits, LowestBroken}
-use Rattle.limits.proofs.LimitLaws.{refused-lowest}
-use Rattle.worked_cases.specs.Files.{headed, fileOf, unitBytes, referenceBytes, entryBytes, eventBytes, units, withheld, listing}
+use Rattle.limits.specs.Refusal.{lengthFine, versionFine, sectionsFine, pairsFine, sizeFine, sizesFine, unitNumbersFine, referenceNumbersFine, eventNumbersFine, numbersFine, rises, unitFieldsFine, unitFine, unitsFine, referenceFieldsFine, referenceFine, referencesFine, correctionFine, violationFine, entryFine, pastFine, maskFine, quantitiesFine, fieldsFine, cellFine, hourFine, eventFine, eventsFine, eventKey, orderFine, eventListed, eventsListed, withinCapability, amountFine, amountsFine, referenceFound, referencesFound, rowsFine, refusal, limits, DecidedBy}
+use Rattle.limits.proofs.LimitLaws.{refused-decided}
+use Rattle.casefile.specs.File.{headed, fileIn}
+use Rattle.worked_cases.specs.Files.{fileOf, unitBytes, referenceBytes, entryBytes, eventBytes, units, withheld, listing}
 
 -- accepted: the empty case, the listing's case, and one with every section and a correction; then the table's examples in number order, and four easy to get wrong
 pub record Examples : Type 0 where
@@ -42,7 +43,7 @@ pub record Examples : Type 0 where
   pub reading-first : refusal (fileOf units [] [] (withheld 0 12 501 ++ withheld 0 12 501 ++ withheld 2 12 501)) [] 384 ≡ 10
 
 pub examples : Examples
-unfolding headed fileOf unitBytes referenceBytes entryBytes eventBytes units withheld listing anyTo allTo lastTo valueAt bytesOf positivePart negativePart within firstWidths widthsOf formatIn offsetOf lengthOf sectionOf recordAt unitsIn referencesIn violationIn pastIn cellsFrom cellsIn eventsIn amountsIn isUnit isListed placeOf isReference hasReference correctReferences lengthFine versionFine sectionsFine pairsFine sizeFine sizesFine rises unitFieldsFine unitSpareFine referenceSpareFine entrySpareFine unitFine unitsFine referenceFieldsFine referenceKey referenceFine referencesFine correctionFine violationFine entryFine pastFine maskFine quantitiesFine fieldsFine referenceInRange bidInRange cellFine hourFine eventFine eventsFine eventKey orderFine eventListed eventsListed withinCapability amountFine amountsFine readsCorrect referenceFound referencesFound rowsFine refusal
+unfolding headed fileIn fileOf unitBytes referenceBytes entryBytes eventBytes units withheld listing anyTo allTo lastTo valueAt bytesOf positivePart negativePart within firstWidths widthsOf formatIn offsetOf lengthOf sectionOf recordAt unitsIn referencesIn violationIn pastIn cellsFrom cellsIn eventsIn amountsIn isUnit isListed placeOf isReference hasReference correctReferences lengthFine versionFine sectionsFine pairsFine sizeFine sizesFine unitNumbersFine referenceNumbersFine eventNumbersFine numbersFine rises unitFieldsFine unitSpareFine referenceSpareFine entrySpareFine unitFine unitsFine referenceFieldsFine referenceKey referenceFine referencesFine correctionFine violationFine entryFine pastFine maskFine quantitiesFine fieldsFine referenceInRange bidInRange cellFine hourFine eventFine eventsFine eventKey orderFine eventListed eventsListed withinCapability amountFine amountsFine readsCorrect referenceFound referencesFound rowsFine refusal
 examples =
     record {
       empty-case = refl;
@@ -69,9 +70,9 @@ examples =
       reading-first = refl;
     }
 
--- 15 is the lowest number that applies to the listing's case with a rows buffer of 127 bytes: every limit before it is met
-pub rows-short-lowest : LowestBroken (limits listing [] 127) 15
-rows-short-lowest = subst (LowestBroken (limits listing [] 127)) (examples .rows-short) (refused-lowest listing [] 127 not-accepted)
+-- 15 decides for the listing's case with a rows buffer of 127 bytes: every limit before it is met
+pub rows-short-decided : DecidedBy (limits listing [] 127) 15
+rows-short-decided = subst (DecidedBy (limits listing [] 127)) (examples .rows-short) (refused-decided listing [] 127 not-accepted)
   where
     not-accepted : refusal listing [] 127 ≡ 0 → ⊥
     not-accepted h = let z : _≡_ {A = ℕ} 15 0 = sym (examples .rows-short) ∙ h in omega arith

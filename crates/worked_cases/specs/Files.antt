@@ -1,18 +1,13 @@
--- The bytes of case files, put together from their records.
-use Prim.Native.Nat.{ℕ, _+_}
+-- The bytes of version 1 files, put together from their records.
+use Prim.Native.Nat.{ℕ}
 use mathlib.Core.List.{List, [], _++_}
-use lib.ListN.{length, replicate}
+use lib.ListN.{replicate}
 use Rattle.binary.specs.Bytes.{bytesOf}
-use Rattle.casefile.specs.Layout.{firstVersion, sectionCount, headerWidth}
-
--- a file with this version, section count and first offset, and these lengths for its pairs
-unfoldable pub headed : (version sections first units references past events : ℕ) → List ℕ → List ℕ
-headed v n o u r p e body =
-    bytesOf 2 v ++ bytesOf 2 n ++ bytesOf 4 o ++ bytesOf 4 u ++ bytesOf 4 (o + u) ++ bytesOf 4 r ++ bytesOf 4 (o + u + r) ++ bytesOf 4 p
-    ++ bytesOf 4 (o + u + r + p) ++ bytesOf 4 e ++ body
+use Rattle.casefile.specs.Layout.{firstVersion}
+use Rattle.casefile.specs.File.{fileIn}
 
 unfoldable pub fileOf : (units references past events : List ℕ) → List ℕ
-fileOf u r p e = headed firstVersion sectionCount headerWidth (length u) (length r) (length p) (length e) (u ++ r ++ p ++ e)
+fileOf u r p e = fileIn firstVersion u r p e
 
 unfoldable pub unitBytes : (number group area capability : ℕ) → List ℕ
 unitBytes number group area capability =

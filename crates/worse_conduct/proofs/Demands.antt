@@ -7,8 +7,8 @@ use mathlib.Core.Path.{_≡_, refl, ap, _∙_}
 use borrow.Author.Tests.{eqb-true, eqb-false, eq-eqb, ne-eqb}
 use lib.Dec.{eqb}
 use lib.ListN.{length}
-use Rattle.limits.specs.Refusal.{limits, refusal, MeetsAll, LowestBroken}
-use Rattle.limits.proofs.LimitLaws.{accepted-meets, meets-accepted, refused-lowest, lowest-refused, lowest-number}
+use Rattle.limits.specs.Refusal.{limits, refusal, MeetsAll, DecidedBy}
+use Rattle.limits.proofs.LimitLaws.{accepted-meets, meets-accepted, refused-decided, decided-refused, decided-number}
 use Rattle.settlement.specs.Row.{rowsOf}
 use Rattle.settlement.specs.Settled.{SettlementAnswer, accepted, answerOf, settlementOf, answerOfSettlement, rowsAfter, settled}
 use Rattle.settlement.specs.declared.settle.Settlement.{Settlement}
@@ -39,13 +39,13 @@ module _ (file correction rows : List ℕ) (answer : Settlement) (after : List �
   untouched ne = run .left ∙ rw (ne-eqb _ _ ne) refl
 
   either : (b : Bool) → eqb (refusal file correction (length rows)) 0 ≡ b
-      → MeetsAll (limits file correction (length rows)) ⊎ ((m : ℕ) × LowestBroken (limits file correction (length rows)) m)
+      → MeetsAll (limits file correction (length rows)) ⊎ ((m : ℕ) × DecidedBy (limits file correction (length rows)) m)
   either true e = inl (accepted-meets file correction (length rows) (eqb-true _ 0 e))
-  either false e = inr (refusal file correction (length rows), refused-lowest file correction (length rows) (eqb-false _ 0 e))
+  either false e = inr (refusal file correction (length rows), refused-decided file correction (length rows) (eqb-false _ 0 e))
 
   -- a number that applies is not 0
-  applies : (m : ℕ) → LowestBroken (limits file correction (length rows)) m → refusal file correction (length rows) ≡ 0 → ⊥
-  applies m b = lowest-number file correction (length rows) m b
+  applies : (m : ℕ) → DecidedBy (limits file correction (length rows)) m → refusal file correction (length rows) ≡ 0 → ⊥
+  applies m b = decided-number file correction (length rows) m b
 
   pub demand-1 : Demand1 file correction rows answer after
   unfolding accepted settlementOf
@@ -53,7 +53,7 @@ module _ (file correction rows : List ℕ) (answer : Settlement) (after : List �
       record {
         either = either (eqb (refusal file correction (length rows)) 0) refl;
         accepts = λ m. accepts (meets-accepted file correction (length rows) m);
-        refuses = λ m b. refuses (applies m b) ∙ ap settlement.Refused (lowest-refused file correction (length rows) m b);
+        refuses = λ m b. refuses (applies m b) ∙ ap settlement.Refused (decided-refused file correction (length rows) m b);
         untouched = λ m b. untouched (applies m b);
       }
 

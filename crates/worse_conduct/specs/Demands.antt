@@ -10,7 +10,7 @@ use Rattle.casefile.specs.Layout.{rowWidth}
 use Rattle.casefile.specs.Case.{Case}
 use Rattle.casefile.specs.Decode.{formatIn, decode}
 use Rattle.casefile.specs.Lookup.{correctIn}
-use Rattle.limits.specs.Refusal.{limits, refusal, MeetsAll, LowestBroken}
+use Rattle.limits.specs.Refusal.{limits, refusal, MeetsAll, DecidedBy}
 use Rattle.sanctions.specs.Penalties.{totalPenalty}
 use Rattle.default_bids.specs.Mitigation.{totalMakeUp}
 use Rattle.settlement.specs.Row.{rowOf}
@@ -32,11 +32,11 @@ module _ (file correction rows : List ℕ) (answer : Settlement) (after : List �
   -- Otherwise one of them is the first that is broken, every limit before it being met; the case is refused with that limit's
   -- number, and the rows buffer is byte for byte what it was.
   pub record Demand1 : Type 0 where
-    pub either : MeetsAll (limits file correction (length rows)) ⊎ ((m : ℕ) × LowestBroken (limits file correction (length rows)) m)
+    pub either : MeetsAll (limits file correction (length rows)) ⊎ ((m : ℕ) × DecidedBy (limits file correction (length rows)) m)
     pub accepts : MeetsAll (limits file correction (length rows))
         → answer ≡ settlement.Settled (decode file .events .count) (totalPenalty (decode file)) (totalMakeUp (decode file) (correctIn file correction))
-    pub refuses : (m : ℕ) → LowestBroken (limits file correction (length rows)) m → answer ≡ settlement.Refused m
-    pub untouched : (m : ℕ) → LowestBroken (limits file correction (length rows)) m → after ≡ rows
+    pub refuses : (m : ℕ) → DecidedBy (limits file correction (length rows)) m → answer ≡ settlement.Refused m
+    pub untouched : (m : ℕ) → DecidedBy (limits file correction (length rows)) m → after ≡ rows
 
   -- Demand 2. Where the case is accepted, the rows buffer is the row of each event as the documents state it, from the first event
   -- to the last, and every byte beyond the last row is what it was; the total of penalties and that of make-ups are what the

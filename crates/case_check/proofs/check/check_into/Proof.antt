@@ -2,7 +2,7 @@ use mathlib.Core.Path.{_≡_, sym, _∙_}
 use native.Mathlib.Omega.{arith}
 use Rattle.casefile.specs.Decode.{formatIn, sectionOf}
 use Rattle.limits.specs.StageRefusal.{headerRefusal, recordsRefusal}
-use Rattle.limits.proofs.RangeLaws.{numbers-in-order, references-in-order, correct-in-order}
+use Rattle.limits.proofs.RangeLaws.{event-numbers, numbers-in-order, references-in-order, correct-in-order}
 use Rattle.limits.proofs.RefusalLaws.{HeaderFine, RecordsFine, header-fine, records-fine, header-long, has-section, refusal-header, refusal-records, refusal-events}
 use Rattle.limits.proofs.SectionLaws.{events-fit}
 use Rattle.case_check.proofs.CheckedLaws.{handed-on}
@@ -17,15 +17,16 @@ fine : (c : tie.Else1) → HeaderFine (c .before .before .before .before .args .
 fine c = header-fine _ 0 (header c) .0
 
 -- what the second stage gave, over the file
-records : (c : tie.After-records-refusal) → let s = c .before .before .before .before .before .before .before .before .before .args in
+records : (c : tie.After-records-refusal) → let s = c .before .before .before .before .before .before .before .before .before .before .args in
     c .records-refusal .result
-    ≡ recordsRefusal (formatIn (s .file .now)) (sectionOf (s .file .now) 0) (sectionOf (s .file .now) 1) (s .correction .now) (sectionOf (s .file .now) 2) 0
+    ≡ recordsRefusal (formatIn (s .file .now)) (sectionOf (s .file .now) 0) (sectionOf (s .file .now) 1) (s .correction .now) (sectionOf (s .file .now) 2) (sectionOf (s .file .now) 3) 0
 records c =
-    rw (c .records-refusal .ensures, c .before .section3 .ensures, c .before .before .section2 .ensures, c .before .before .before .section .ensures, c .before .before .before .before .format-of .ensures)
+    let o = c .before .before in
+    rw (c .records-refusal .ensures, c .before .section4 .ensures, o .section3 .ensures, o .before .section2 .ensures, o .before .before .section .ensures, o .before .before .before .format-of .ensures)
 
-fine-records : (c : tie.After-records-refusal) → c .records-refusal .result ≡ 0 → let s = c .before .before .before .before .before .before .before .before .before .args in
-    RecordsFine (formatIn (s .file .now)) (sectionOf (s .file .now) 0) (sectionOf (s .file .now) 1) (s .correction .now) (sectionOf (s .file .now) 2)
-fine-records c e = records-fine _ _ _ _ _ 0 (sym (records c) ∙ e) .0
+fine-records : (c : tie.After-records-refusal) → c .records-refusal .result ≡ 0 → let s = c .before .before .before .before .before .before .before .before .before .before .args in
+    RecordsFine (formatIn (s .file .now)) (sectionOf (s .file .now) 0) (sectionOf (s .file .now) 1) (s .correction .now) (sectionOf (s .file .now) 2) (sectionOf (s .file .now) 3)
+fine-records c e = records-fine _ _ _ _ _ _ 0 (sym (records c) ∙ e) .0
 
 pub check-into-spec : {M : Type 1} → statement M
 check-into-spec =
@@ -37,32 +38,36 @@ check-into-spec =
     (λ c κs. has-section _ (fine (c .before)) 0 (omega arith))
     (λ c κs. has-section _ (fine (c .before .before)) 1 (omega arith))
     (λ c κs. has-section _ (fine (c .before .before .before)) 2 (omega arith))
+    (λ c κs. has-section _ (fine (c .before .before .before .before)) 3 (omega arith))
     (λ c κs. tt)
-    (λ c. (refusal-records _ _ _ _ (header (c .before .before .before .before .before .before)) (records (c .before)) (c .if2 .taken), λ z. absurd (c .if2 .taken z)))
-    (λ c κs. has-section _ (fine (c .before .before .before .before .before .before)) 3 (omega arith))
+    (λ c. (refusal-records _ _ _ _ (header (c .before .before .before .before .before .before .before)) (records (c .before)) (c .if2 .taken), λ z. absurd (c .if2 .taken z)))
     (λ c κs. tt)
     (λ c κs.
-    let r = c .before .before .before .before .before .before in
-    let f = fine-records r (c .before .before .before .before .before .if2 .left) in
-    let t = r .before .before .before .before .format-of .ensures in (
-      rw (t, r .before .before .before .section .ensures) (numbers-in-order _ _ (f .units-fine)),
-      rw (t, r .before .before .section2 .ensures) (references-in-order _ _ _ (f .references-fine)),
-      rw (t, c .before .before .before .correct-references .ensures, r .before .before .section2 .ensures) (correct-in-order _ _ _ _ (f .references-fine) (f .correction-fine)),
-      rw (t, c .before .before .before .before .section4 .ensures) (events-fit _ (fine (r .before .before .before .before .before))),
+    let r = c .before .before .before .before .before in
+    let o = r .before .before in
+    let z = c .before .before .before .before .if2 .left in
+    let f = fine-records r z in
+    let t = o .before .before .before .format-of .ensures in (
+      rw (t, o .before .before .section .ensures) (numbers-in-order _ _ (f .units-fine)),
+      rw (t, o .before .section2 .ensures) (references-in-order _ _ _ (f .references-fine)),
+      rw (t, c .before .before .before .correct-references .ensures, o .before .section2 .ensures) (correct-in-order _ _ _ _ (f .references-fine) (f .correction-fine)),
+      rw (t, r .before .section4 .ensures) (events-fit _ (fine (o .before .before .before .before))),
+      rw (t, r .before .section4 .ensures) (event-numbers _ _ _ _ (f .numbers-fine)),
     ))
     (λ c.
-    let r = c .before .before .before .before .before .before .before in
-    let o = r .before .before .before in (
+    let r = c .before .before .before .before .before .before in
+    let o = r .before .before in
+    let k = c .before .before .before .before in (
       rw (
-        ← refusal-events _ _ _ (header (o .before .before)) (sym (records r) ∙ c .before .before .before .before .before .before .if2 .left),
+        ← refusal-events _ _ _ (header (o .before .before .before .before)) (sym (records r) ∙ c .before .before .before .before .before .if2 .left),
         c .events-refusal .ensures .0,
-        c .before .before .before .before .correct-references .ensures,
-        c .before .before .before .before .before .section4 .ensures,
-        r .before .before .section2 .ensures,
-        o .section .ensures,
-        o .before .format-of .ensures,
+        k .correct-references .ensures,
+        r .before .section4 .ensures,
+        o .before .section2 .ensures,
+        o .before .before .section .ensures,
+        o .before .before .before .format-of .ensures,
       ),
       λ z. handed-on _ _ _ _ _
-          (rw (c .before .before .before .before .correct-references .ensures, c .before .before .before .before .before .section4 .ensures, r .before .before .section2 .ensures, o .section .ensures, o .before .format-of .ensures) at
+          (rw (k .correct-references .ensures, r .before .section4 .ensures, o .before .section2 .ensures, o .before .before .section .ensures, o .before .before .before .format-of .ensures) at
           (c .events-refusal .ensures .1 z)),
     )))

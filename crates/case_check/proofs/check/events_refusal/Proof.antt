@@ -43,7 +43,7 @@ unfolding eventsRefusal
 events-refusal-spec =
     tie.close
     (tie.spec
-    (λ c κs. tt)
+    (λ c κs. c .before .before .before .before .pre .4)
     (λ c.
     let s = c .before .before .before .before .before .before .args in
     let r = c .before .order-refusal .ensures in

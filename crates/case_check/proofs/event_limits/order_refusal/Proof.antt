@@ -43,8 +43,11 @@ order-refusal-spec =
     let r = c .before .before .before in
     let a = r .before .before .before .before .before .args in
     let s = a .events .now in
-    let t = readable (a .format) s (r .before .before .loop .i) _ (sym (r .read-event .ensures .0) ∙ c .before .e .given .1) in
-    (read-day (a .format) s (r .before .before .loop .i) _ (t .0) (t .1), read-unit (a .format) s (r .before .before .loop .i) _ (λ x. r .before .before .before .before .shared-slice-known .given x .fits) (t .1)))
+    let t = readable (a .format) s (r .before .before .loop .i) _ (sym (r .read-event .ensures .0) ∙ c .before .e .given .1) in (
+      read-day (a .format) s (r .before .before .loop .i) _ (t .0) (t .1),
+      read-unit (a .format) s (r .before .before .loop .i) _ (λ x. r .before .before .before .before .shared-slice-known .given x .fits)
+          (r .before .before .before .before .before .pre) (omega arith) (t .1),
+    ))
     (λ c κs. tt)
     (λ c. omega arith)
     (λ c. omega arith)

@@ -23,9 +23,7 @@ event-at-spec =
     (λ c κs. search needs)
     (λ c κs. search needs)
     (λ c.
-    let n = fits (c .before .before .before .before .before .before .before .before .before .before .before .before .before .args .format) .number in
     rw (
-      n,
       c .load-u324 .ensures,
       c .before .load-u323 .ensures,
       c .before .before .load-u322 .ensures,

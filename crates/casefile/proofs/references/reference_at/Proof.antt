@@ -16,9 +16,7 @@ reference-at-spec =
     (λ c κs. search needs)
     (λ c κs. search needs)
     (λ c.
-    let n = fits (c .before .before .before .before .before .before .args .format) .number in
     rw (
-      n,
       c .load-u32 .ensures,
       c .before .load-u8 .ensures,
       c .before .before .number-at .ensures,

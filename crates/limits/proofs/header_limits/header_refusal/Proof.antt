@@ -21,7 +21,7 @@ header-refusal-spec =
     (λ c κs. tt)
     (λ c κs. tt)
     (λ c.
-    let u = c .before .before in
+    let u = c .before in
     let s = u .before .before .before in
     let p = s .before .before .before .before in
     simp (le-leb _ _ (p .before .if1 .left), le-leb _ _ (p .if2 .left))

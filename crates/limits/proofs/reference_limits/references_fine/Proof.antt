@@ -26,10 +26,14 @@ references-fine-spec =
     Inv-loop
     μ-loop
     (λ c κs. tt)
+    (λ c.
+    let s = c .before .before .before .before .args in
+    let e : referencesIn (s .format) (s .references .now) .count ≡ 0 = omega arith in
+    rw e (all-none _))
     (λ c κs. search needs)
     (λ c. (omega arith, all-none _, c .unit-place .ensures))
     (λ c κs. search needs)
-    (λ c κs. (c .before .before .before .before .before .before .before .pre, c .before .before .loop .inv .2))
+    (λ c κs. (c .before .before .before .before .before .before .before .before .pre, c .before .before .loop .inv .2))
     (λ c κs. search needs)
     (λ c. omega arith)
     (λ c. omega arith)
@@ -45,6 +49,6 @@ references-fine-spec =
       c .before .next-place .ensures,
     ))
     (λ c.
-    let s = c .before .before .before .before .before .before .args in
+    let s = c .before .before .before .before .before .before .before .args in
     let e : c .before .loop .i ≡ referencesIn (s .format) (s .references .now) .count = omega arith in
     rw (c .before .loop .inv .1, e)))

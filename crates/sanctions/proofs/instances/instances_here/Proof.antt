@@ -1,51 +1,51 @@
-use Prim.Native.Nat.{_≤_, _-_}
-use mathlib.Core.Path.{_≡_}
-use borrow.Author.Needs.{needs}
-use native.Mathlib.Omega.{arith}
-use Rattle.binary.specs.Bounded.{countTo}
-use Rattle.binary.proofs.BoundedLaws.{count-none, count-more}
-use Rattle.sanctions.specs.StageTables.{rowCounts, instancesHere}
+use Prim.Native.Nat.{ℕ}
+use mathlib.Core.List.{List}
+use mathlib.Core.Path.{_≡_, sym, ap}
+use Rattle.binary.proofs.BoundedLaws.{count-same}
+use Rattle.casefile.specs.declared.layout.Format.{Format}
+use Rattle.casefile.specs.Case.{Events}
+use Rattle.casefile.specs.Decode.{eventsIn}
+use Rattle.casefile.proofs.RecordLaws.{first-widths, events-by-widths}
+use Rattle.sanctions.specs.StageTables.{withImpact, instanceAt, instanceOf, rowCounts, instancesHere}
 use Rattle.sanctions.proofs.instances.instances_here.Statement.{statement}
 use Rattle.sanctions.proofs.instances.instances_here.Tie as tie
 
-abbrev Inv-loop : tie.InvT-loop
-Inv-loop format events groups masks group market period i three₀ two₀ j₀ three two j =
-    (j ≤ i) × (three ≤ j) × (two ≤ j) × (three ≡ countTo j (rowCounts format events groups masks group market period 2))
-    × (two ≡ countTo j (rowCounts format events groups masks group market period 1))
+-- a format is its version
+abbrev of-version : ℕ → Format
+of-version v = record { version = v }
 
-abbrev μ-loop : tie.MeasureT-loop
-μ-loop format events groups masks group market period i three₀ two₀ j₀ three two j = i - j
+-- the events are those of the widths, and so are their instances
+module _ (a b : Format) (events groups masks : List ℕ) (group market period : ℕ) (e : eventsIn a events ≡ eventsIn b events) where
+  row-same : (k j : ℕ) → rowCounts a events groups masks group market period k j ≡ rowCounts b events groups masks group market period k j
+  unfolding withImpact instanceAt instanceOf rowCounts
+  row-same k j =
+      rw (
+        ap (λ (x : Events). x .kind j) e,
+        ap (λ (x : Events). x .impact j) e,
+        ap (λ (x : Events). x .market j) e,
+        ap (λ (x : Events). x .period j) e,
+      )
+
+  here-same : (i : ℕ) → instancesHere a events groups masks group market period i ≡ instancesHere b events groups masks group market period i
+  unfolding instancesHere
+  here-same i = λ x.
+      record {
+        n3 = count-same i _ _ (λ j l. row-same 2 j) x;
+        n2 = count-same i _ _ (λ j l. row-same 1 j) x;
+      }
 
 pub instances-here-spec : {M : Type 1} → statement M
-unfolding rowCounts instancesHere
 instances-here-spec =
     tie.close
     (tie.spec
-    Inv-loop
-    μ-loop
-    (λ c. (omega arith, omega arith, omega arith, count-none _, count-none _))
-    (λ c κs. search needs)
-    (λ c κs. search needs)
-    (λ c κs. tt)
-    (λ c κs. tt)
-    (λ c. omega arith)
-    (λ c κs. tt)
-    (λ c κs. tt)
-    (λ c. omega arith)
-    (λ c. omega arith)
-    (λ c. omega arith)
+    (λ c κs.
+    let s = c .before .before .before in
+    rw (ap of-version (sym (c .if1 .taken))) (s .pre))
+    (λ c. rw (c .counted-here .ensures, ap of-version (sym (c .before .if1 .taken))))
+    (λ c κs.
+    let s = c .before .before .before in
+    rw (events-by-widths _ _ (s .args .events .now) (first-widths (s .args .format) (c .if1 .left))) (s .pre))
     (λ c.
-    let t = c .before .before in
-    let p = t .before .before in
-    let l = p .before .before .before .loop in (
-      omega arith,
-      omega arith,
-      omega arith,
-      rw (l .inv .3, t .one-where .ensures .0, t .before .period-counts .ensures, p .period-of .ensures, p .before .is-instance-of .ensures, count-more),
-      rw (l .inv .4, c .one-where2 .ensures .0, c .before .period-counts2 .ensures, p .period-of .ensures, p .before .is-instance-of .ensures, count-more),
-    ))
-    (λ c.
-    let s = c .before .before .before .args in
-    let l = c .before .loop in
-    let e : l .j ≡ s .i = omega arith in
-    rw (l .inv .3, l .inv .4, e)))
+    let s = c .before .before .before .before .args in
+    let e = events-by-widths _ _ (s .events .now) (first-widths (s .format) (c .before .if1 .left)) in
+    rw (c .counted-here2 .ensures, here-same _ _ (s .events .now) (s .groups .now) (s .masks .now) (s .group) (s .market) (s .period) e (s .i))))
