@@ -1,1 +1,2 @@
 pub mod WorseCases
+pub mod SecondVersionCase
