@@ -1,31 +1,16 @@
-//! Reading a case file and a correction into records, with the refusals 1 to 15.
+//! Reading a case file and a correction into records, with the refusals 1 to 15 and 17.
 
 use std::collections::BTreeMap;
 
+use crate::event_record::read_event;
+use crate::layout::{Record, correction_records, records, u16_at, u32_at};
 use crate::terms::{
-    Component, HOURS, HourMask, LARGEST_CAPABILITY, LARGEST_CHANGE, LARGEST_PRICE,
-    LARGEST_QUANTITY, LARGEST_RATE, LARGEST_REVENUE, LAST_DAY, MOST_CONSTRAINED_HOURS, Market,
+    Component, HOURS, HourMask, LARGEST_CAPABILITY, LARGEST_PRICE, LARGEST_RATE, LAST_DAY,
+    MOST_CONSTRAINED_HOURS, Market,
 };
 
 /// Bytes of one row in the rows buffer.
 pub const ROW_BYTES: usize = 128;
-
-const HEADER_BYTES: usize = 36;
-const LARGEST_FILE: usize = 65_000;
-const UNIT_BYTES: usize = 24;
-const REFERENCE_BYTES: usize = 8;
-const PAST_BYTES: usize = 12;
-const EVENT_BYTES: usize = 312;
-const CELL_BYTES: usize = 12;
-const MOST_REFERENCES: usize = 256;
-
-/// Record length and largest number of records of units, references, past and events.
-const SECTIONS: [(usize, usize); 4] = [
-    (UNIT_BYTES, 64),
-    (REFERENCE_BYTES, MOST_REFERENCES),
-    (PAST_BYTES, 256),
-    (EVENT_BYTES, 200),
-];
 
 /// A unit of a Market Party.
 #[derive(Clone, Copy, Debug)]
@@ -132,14 +117,14 @@ impl Conduct {
 pub struct Event {
     pub day: u32,
     pub market: Market,
-    pub unit: u16,
+    pub unit: u32,
     pub period: u16,
     pub conduct: Conduct,
 }
 
 impl Event {
     /// Events rise strictly by (day, kind, market, unit, component).
-    fn order(&self) -> (u32, u8, u8, u16, u8) {
+    fn order(&self) -> (u32, u8, u8, u32, u8) {
         (
             self.day,
             self.conduct.kind(),
@@ -151,12 +136,12 @@ impl Event {
 }
 
 /// Reference levels by unit and component.
-pub type References = BTreeMap<(u16, Component), i64>;
+pub type References = BTreeMap<(u32, Component), i64>;
 
 /// A case that breaks nothing.
 #[derive(Clone, Debug)]
 pub struct Case {
-    pub units: BTreeMap<u16, Unit>,
+    pub units: BTreeMap<u32, Unit>,
     pub references: References,
     /// The correction where it isn't empty, otherwise the case's own references.
     pub correct_references: References,
@@ -165,151 +150,115 @@ pub struct Case {
 }
 
 /// Reads a case, or gives the number of the first thing that it breaks: "Checked in number order,
-/// each over everything before the next".
+/// each over everything before the next", but for 17, "checked after 5".
 pub fn read_case(file: &[u8], correction: &[u8], rows_bytes: usize) -> Result<Case, u8> {
-    // 1 to 3
-    if !(HEADER_BYTES..=LARGEST_FILE).contains(&file.len()) {
-        return Err(1);
-    }
-    if u16_at(file, 0) != 1 {
-        return Err(2);
-    }
-    if u16_at(file, 2) != 4 {
-        return Err(3);
-    }
-    // 4 and 5
-    let [unit_bytes, reference_bytes, past_bytes, event_bytes] = sections(file).ok_or(4)?;
-    for (section, (record, most)) in [unit_bytes, reference_bytes, past_bytes, event_bytes]
-        .iter()
-        .zip(SECTIONS)
-    {
-        if !section.len().is_multiple_of(record) || section.len() / record > most {
-            return Err(5);
-        }
-    }
+    // 1 to 5, then 17
+    let records = records(file)?;
     // 6 to 9
-    let units = read_units(unit_bytes).ok_or(6)?;
-    let references = read_references(reference_bytes, &units).ok_or(7)?;
+    let units = read_units(&records.units).ok_or(6)?;
+    let references = read_references(&records.references, &units).ok_or(7)?;
     let correct_references = if correction.is_empty() {
         references.clone()
     } else {
-        if !correction.len().is_multiple_of(REFERENCE_BYTES)
-            || correction.len() / REFERENCE_BYTES > MOST_REFERENCES
-        {
-            return Err(8);
-        }
-        read_references(correction, &units).ok_or(8)?
+        let correction = correction_records(correction, records.version).ok_or(8)?;
+        read_references(&correction, &units).ok_or(8)?
     };
-    let past: Vec<Past> = past_bytes
-        .chunks_exact(PAST_BYTES)
-        .map(read_past)
-        .collect::<Option<_>>()
-        .ok_or(9)?;
-    // 10 to 13
-    let events: Vec<Event> = event_bytes
-        .chunks_exact(EVENT_BYTES)
-        .map(read_event)
-        .collect::<Option<_>>()
-        .ok_or(10)?;
+    let past: Option<_> = records.past.into_iter().map(read_past).collect();
+    let past = past.ok_or(9)?;
+    // 10 to 14
+    let events: Option<_> = records.events.into_iter().map(read_event).collect();
+    let events = events.ok_or(10)?;
+    let case = Case {
+        units,
+        references,
+        correct_references,
+        past,
+        events,
+    };
+    check_events(&case)?;
+    // 15
+    if rows_bytes < ROW_BYTES * case.events.len() {
+        return Err(15);
+    }
+    Ok(case)
+}
+
+/// The refusals of events beside each other and beside their units and references.
+fn check_events(case: &Case) -> Result<(), u8> {
+    let events = &case.events;
     if !events.is_sorted_by(|before, after| before.order() < after.order()) {
         return Err(11);
     }
-    if events.iter().any(|event| !units.contains_key(&event.unit)) {
+    if events
+        .iter()
+        .any(|event| !case.units.contains_key(&event.unit))
+    {
         return Err(12);
     }
     if events
         .iter()
-        .any(|event| is_above_capability(&event.conduct, units[&event.unit].capability))
+        .any(|event| is_above_capability(&event.conduct, case.units[&event.unit].capability))
     {
         return Err(13);
     }
-    // 14
     let lacks_reference = |event: &Event| match event.conduct {
         Conduct::Bids { component, .. } => {
             let key = (event.unit, component);
-            !references.contains_key(&key)
-                || (component.reads_correct_reference() && !correct_references.contains_key(&key))
+            !case.references.contains_key(&key)
+                || (component.reads_correct_reference()
+                    && !case.correct_references.contains_key(&key))
         }
         _ => false,
     };
     if events.iter().any(lacks_reference) {
         return Err(14);
     }
-    // 15
-    if rows_bytes < ROW_BYTES * events.len() {
-        return Err(15);
-    }
-    Ok(Case {
-        units,
-        references,
-        correct_references,
-        past,
-        events,
-    })
+    Ok(())
 }
 
-/// The four sections, if the pairs follow on from byte 36 to the file's end.
-fn sections(file: &[u8]) -> Option<[&[u8]; 4]> {
-    let mut found: [&[u8]; 4] = [&[]; 4];
-    let mut end = HEADER_BYTES as u64;
-    for (place, section) in found.iter_mut().enumerate() {
-        let offset = u64::from(u32_at(file, 4 + 8 * place));
-        let length = u64::from(u32_at(file, 8 + 8 * place));
-        if offset != end {
-            return None;
-        }
-        // Whole numbers: the sum of two u32 never wraps in u64.
-        end = offset + length;
-        *section = file.get(usize::try_from(offset).ok()?..usize::try_from(end).ok()?)?;
-    }
-    (end == file.len() as u64).then_some(found)
-}
-
-fn read_units(section: &[u8]) -> Option<BTreeMap<u16, Unit>> {
+fn read_units(records: &[Record]) -> Option<BTreeMap<u32, Unit>> {
     let mut units = BTreeMap::new();
-    for record in section.chunks_exact(UNIT_BYTES) {
-        let number = u16_at(record, 0);
-        let capability = u32_at(record, 8);
-        let response_rate = u32_at(record, 12);
-        let average_price = u32_at(record, 16);
-        let constrained_hours = u16_at(record, 20);
-        let in_range = record[4] <= 1
-            && record[5..8] == [0, 0, 0]
+    for &Record { unit, bytes } in records {
+        let capability = u32_at(bytes, 8);
+        let response_rate = u32_at(bytes, 12);
+        let average_price = u32_at(bytes, 16);
+        let constrained_hours = u16_at(bytes, 20);
+        let in_range = bytes[4] <= 1
+            && bytes[5..8] == [0, 0, 0]
             && (1..=LARGEST_CAPABILITY).contains(&capability)
             && response_rate <= LARGEST_RATE
             && i64::from(average_price) <= i64::from(LARGEST_PRICE)
             && constrained_hours <= MOST_CONSTRAINED_HOURS
-            && record[22..24] == [0, 0];
-        let rising = units
-            .last_key_value()
-            .is_none_or(|(&last, _)| last < number);
+            && bytes[22..24] == [0, 0];
+        let rising = units.last_key_value().is_none_or(|(&last, _)| last < unit);
         if !in_range || !rising {
             return None;
         }
-        let unit = Unit {
-            group: u16_at(record, 2),
-            constrained_area: record[4] == 1,
-            capability: i64::from(capability),
-            response_rate: i64::from(response_rate),
-            average_price: i64::from(average_price),
-            constrained_hours: i64::from(constrained_hours),
-        };
-        units.insert(number, unit);
+        units.insert(
+            unit,
+            Unit {
+                group: u16_at(bytes, 2),
+                constrained_area: bytes[4] == 1,
+                capability: i64::from(capability),
+                response_rate: i64::from(response_rate),
+                average_price: i64::from(average_price),
+                constrained_hours: i64::from(constrained_hours),
+            },
+        );
     }
     Some(units)
 }
 
-fn read_references(section: &[u8], units: &BTreeMap<u16, Unit>) -> Option<References> {
+fn read_references(records: &[Record], units: &BTreeMap<u32, Unit>) -> Option<References> {
     let mut references = References::new();
-    for record in section.chunks_exact(REFERENCE_BYTES) {
-        let unit = u16_at(record, 0);
-        let component = Component::from_number(record[2])?;
-        let value = i64::from(u32_at(record, 4));
+    for &Record { unit, bytes } in records {
+        let component = Component::from_number(bytes[2])?;
+        let value = i64::from(u32_at(bytes, 4));
         let key = (unit, component);
         let rising = references
             .last_key_value()
             .is_none_or(|(&last, _)| last < key);
-        if record[3] != 0
+        if bytes[3] != 0
             || !component.allows_reference(value)
             || !units.contains_key(&unit)
             || !rising
@@ -340,128 +289,6 @@ fn read_past(record: &[u8]) -> Option<Past> {
     }
 }
 
-/// One hour cell as it stands in the file.
-#[derive(Clone, Copy)]
-struct Cell {
-    a: [u8; 4],
-    b: [u8; 4],
-    m: [u8; 4],
-}
-
-fn read_event(record: &[u8]) -> Option<Event> {
-    let market = Market::from_number(record[1])?;
-    let unit = u16_at(record, 2);
-    let period = u16_at(record, 4);
-    let component = record[6];
-    let impact = match record[7] {
-        0 => false,
-        1 => true,
-        _ => return None,
-    };
-    let day = u32_at(record, 8);
-    if day > LAST_DAY {
-        return None;
-    }
-    // P is a mask in every kind.
-    let p = HourMask::from_bits(u32_at(record, 12))?;
-    let q = word_at(record, 16);
-    let r = word_at(record, 20);
-    let mut cells = [Cell {
-        a: [0; 4],
-        b: [0; 4],
-        m: [0; 4],
-    }; HOURS];
-    for (cell, bytes) in cells.iter_mut().zip(record[24..].chunks_exact(CELL_BYTES)) {
-        *cell = Cell {
-            a: word_at(bytes, 0),
-            b: word_at(bytes, 4),
-            m: word_at(bytes, 8),
-        };
-    }
-    // "m and unnamed fields are 0": only kind 4 names m and the component.
-    let kind = record[0];
-    if kind != 4 && (component != 0 || cells.iter().any(|cell| cell.m != [0; 4])) {
-        return None;
-    }
-    let conduct = match kind {
-        1 => {
-            if q != [0; 4] || r != [0; 4] {
-                return None;
-            }
-            Conduct::Withheld {
-                impact,
-                shadow_price: p,
-                hours: hours_of(&cells, |cell| {
-                    Some(WithheldHour {
-                        withheld: unsigned(cell.a, u32::MAX)?,
-                        price: signed(cell.b, LARGEST_PRICE)?,
-                    })
-                })?,
-            }
-        }
-        2 => {
-            if q != [0; 4] || r != [0; 4] || market != Market::RealTime {
-                return None;
-            }
-            Conduct::Dispatch {
-                impact,
-                shadow_price: p,
-                hours: hours_of(&cells, |cell| {
-                    Some(DispatchHour {
-                        undelivered: unsigned(cell.a, u32::MAX)?,
-                        added_revenue: unsigned(cell.b, LARGEST_REVENUE)?,
-                    })
-                })?,
-            }
-        }
-        3 => {
-            let tcc_change = signed(r, LARGEST_CHANGE)?;
-            if impact || (market == Market::RealTime && tcc_change != 0) {
-                return None;
-            }
-            Conduct::Fuel {
-                inaccurate: p,
-                guarantee_change: signed(q, LARGEST_CHANGE)?,
-                tcc_change,
-                hours: hours_of(&cells, |cell| {
-                    Some(FuelHour {
-                        energy: unsigned(cell.a, LARGEST_QUANTITY)?,
-                        price_change: signed(cell.b, LARGEST_PRICE)?,
-                    })
-                })?,
-            }
-        }
-        4 => {
-            if impact {
-                return None;
-            }
-            let component = Component::from_number(component)?;
-            Conduct::Bids {
-                component,
-                shadow_price: p,
-                impact: HourMask::from_bits(u32::from_le_bytes(q))?,
-                minimum_run_hours: unsigned(r, 24)?,
-                hours: hours_of(&cells, |cell| {
-                    Some(BidHour {
-                        bid: Some(i64::from(i32::from_le_bytes(cell.a)))
-                            .filter(|&bid| component.allows_bid(bid))?,
-                        price: signed(cell.b, LARGEST_PRICE)?,
-                        quantity: unsigned(cell.m, LARGEST_QUANTITY)?,
-                    })
-                })?,
-            }
-        }
-        _ => return None,
-    };
-    Some(Event {
-        day,
-        market,
-        unit,
-        period,
-        conduct,
-    })
-}
-
 /// "kind 1 or 2, a above capability".
 fn is_above_capability(conduct: &Conduct, capability: i64) -> bool {
     match conduct {
@@ -469,32 +296,4 @@ fn is_above_capability(conduct: &Conduct, capability: i64) -> bool {
         Conduct::Dispatch { hours, .. } => hours.iter().any(|hour| hour.undelivered > capability),
         _ => false,
     }
-}
-
-/// Reads each of the 24 cells, if all of them can be read.
-fn hours_of<T>(cells: &[Cell; HOURS], read: impl Fn(&Cell) -> Option<T>) -> Option<[T; HOURS]> {
-    let hours: Vec<T> = cells.iter().map(read).collect::<Option<_>>()?;
-    hours.try_into().ok()
-}
-
-fn unsigned(word: [u8; 4], most: u32) -> Option<i64> {
-    let value = u32::from_le_bytes(word);
-    (value <= most).then_some(i64::from(value))
-}
-
-fn signed(word: [u8; 4], most: i32) -> Option<i64> {
-    let value = i32::from_le_bytes(word);
-    (-most..=most).contains(&value).then_some(i64::from(value))
-}
-
-fn word_at(bytes: &[u8], at: usize) -> [u8; 4] {
-    [bytes[at], bytes[at + 1], bytes[at + 2], bytes[at + 3]]
-}
-
-fn u16_at(bytes: &[u8], at: usize) -> u16 {
-    u16::from_le_bytes([bytes[at], bytes[at + 1]])
-}
-
-fn u32_at(bytes: &[u8], at: usize) -> u32 {
-    u32::from_le_bytes(word_at(bytes, at))
 }

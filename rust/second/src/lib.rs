@@ -1,5 +1,5 @@
-//! A second implementation of the Attachment H settlement, written from the paper of rules alone, its working of the
-//! money from docs/RULES.md, R13 to R15 (A15).
+//! A second implementation of the Attachment H settlement, written from the paper of rules and that of later requests
+//! alone, its working of the money from docs/RULES.md, R13 to R15 (A15).
 //!
 //! It is the test oracle and the benchmark peer of the proved program. Everything is read into
 //! records first ([`refusal`] says what a case breaks), then settled by group and day.
@@ -10,7 +10,9 @@
 //! - [`penalty_working()`], [`instances()`] and [`make_up_working()`] give the terms of an event's money.
 
 mod case_file;
+mod event_record;
 mod instances;
+mod layout;
 mod make_up_working;
 mod penalty_working;
 mod rules;
@@ -45,7 +47,7 @@ pub enum Outcome {
     },
 }
 
-/// 0, or the lowest number from 1 to 15 of what the case breaks.
+/// 0, or the first number that the case breaks: 1 to 5, then 17, then 6 to 15.
 pub fn refusal(file: &[u8], correction: &[u8], rows_len: usize) -> u8 {
     read_case(file, correction, rows_len).err().unwrap_or(0)
 }

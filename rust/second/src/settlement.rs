@@ -306,7 +306,7 @@ fn settle_fuel(case: &Case, rows: &mut [Row]) {
 
 fn settle_bids(case: &Case, rows: &mut [Row]) {
     // The positive increases of the time components, by unit, day and market, for each hour.
-    let mut time_sums: HashMap<(u16, u32, Market), [i64; HOURS]> = HashMap::new();
+    let mut time_sums: HashMap<(u32, u32, Market), [i64; HOURS]> = HashMap::new();
     for event in &case.events {
         if let Conduct::Bids {
             component, hours, ..

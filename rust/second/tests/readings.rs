@@ -12,7 +12,7 @@ fn span(first: u32, last: u32) -> u32 {
 }
 
 /// A unit of the largest capability, so that only the sums and the fixed lines count.
-fn large(number: u16, group: u16) -> Unit {
+fn large(number: u32, group: u16) -> Unit {
     Unit {
         capability: 50_000,
         response_rate: 50_000,

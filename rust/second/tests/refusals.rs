@@ -192,17 +192,17 @@ fn sums_of_offsets_and_lengths_do_not_wrap() {
 
 #[test]
 fn most_records() {
-    let units = |count: u16| Case {
+    let units = |count: u32| Case {
         units: (0..count).map(|place| unit(place, 0)).collect(),
         ..Case::default()
     };
     assert_eq!((number(&units(64), &[]), number(&units(65), &[])), (0, 5));
-    let references = |count: u16| -> Vec<_> {
+    let references = |count: u32| -> Vec<_> {
         (0..count)
             .map(|place| reference(place / 9, (place % 9) as u8, 1))
             .collect()
     };
-    let with_references = |count: u16| Case {
+    let with_references = |count: u32| Case {
         references: references(count),
         ..units(64)
     };

@@ -1,11 +1,14 @@
-//! Settling a typed case and reading its rows back.
+//! Settling a typed case and reading its rows back; the same of its version 2 copy.
 
 #![allow(dead_code)]
 
+pub mod version_2;
+
 use cases::case::{ROW_BYTES, correction_bytes};
-use cases::{Case, Component, Kind, Market, Past, Reference, Row, Unit};
+use cases::{Case, Component, Kind, Market, Past, Reference, Row, Unit, Version};
 use second::calls::BidHour;
-use second::{Outcome, refusal, settle};
+use second::{Outcome, instances, listing, make_up_working, penalty_working, refusal, settle};
+use version_2::{copy_of, correction_copy_of};
 
 /// Day-Ahead, not tight.
 pub const PLAIN: BidHour = BidHour {
@@ -24,7 +27,7 @@ pub const TIGHT: BidHour = BidHour {
 };
 
 /// A unit of capability 5,000 and rate 1,000, outside a Constrained Area.
-pub fn unit(unit: u16, group: u16) -> Unit {
+pub fn unit(unit: u32, group: u16) -> Unit {
     Unit {
         unit,
         group,
@@ -34,7 +37,7 @@ pub fn unit(unit: u16, group: u16) -> Unit {
     }
 }
 
-pub fn reference(unit: u16, component: u8, value: u32) -> Reference {
+pub fn reference(unit: u32, component: u8, value: u32) -> Reference {
     Reference {
         unit,
         component: Component(component),
@@ -64,20 +67,28 @@ pub fn past_fuel(group: u16, market: Market, day: u32) -> Past {
     }
 }
 
-/// The number that the case breaks, with enough rows.
-pub fn number(case: &Case, correction: &[Reference]) -> u8 {
-    refusal(
-        &case.to_bytes(),
-        &correction_bytes(correction),
-        ROW_BYTES * case.events.len(),
-    )
+/// The bytes of a version 1 correction.
+pub fn correction_of(references: &[Reference]) -> Vec<u8> {
+    correction_bytes(Version::One, references)
 }
 
-/// The rows of an accepted case; checks the totals, the zero bytes and the bytes beyond the rows.
+/// The number that the case breaks, with enough rows; its version 2 copy breaks the same.
+pub fn number(case: &Case, correction: &[Reference]) -> u8 {
+    let (file, correction) = (case.to_bytes(), correction_of(correction));
+    let rows_len = ROW_BYTES * case.events.len();
+    let number = refusal(&file, &correction, rows_len);
+    let (copy, correction_copy) = (copy_of(&file), correction_copy_of(&correction));
+    assert_eq!(refusal(&copy, &correction_copy, rows_len), number);
+    number
+}
+
+/// The rows of an accepted case; checks the totals, the zero bytes and the bytes beyond the rows,
+/// and that its version 2 copy gives the same.
 pub fn rows_of(case: &Case, correction: &[Reference]) -> Vec<Row> {
+    let (file, correction) = (case.to_bytes(), correction_of(correction));
     let beyond = 77;
     let mut buffer = vec![0xA5; ROW_BYTES * case.events.len() + beyond];
-    let outcome = settle(&case.to_bytes(), &correction_bytes(correction), &mut buffer);
+    let outcome = settle(&file, &correction, &mut buffer);
     let rows = Row::first(&buffer, case.events.len());
     assert_eq!(
         outcome,
@@ -95,5 +106,29 @@ pub fn rows_of(case: &Case, correction: &[Reference]) -> Vec<Row> {
             .iter()
             .all(|&byte| byte == 0xA5)
     );
+    same_of_the_copy(&file, &correction, outcome, &buffer);
     rows
+}
+
+/// Settles the version 2 copy to the same outcome, rows, listing and workings.
+fn same_of_the_copy(file: &[u8], correction: &[u8], outcome: Outcome, rows: &[u8]) {
+    let (copy, correction_copy) = (copy_of(file), correction_copy_of(correction));
+    let mut buffer = vec![0xA5; rows.len()];
+    assert_eq!(settle(&copy, &correction_copy, &mut buffer), outcome);
+    assert_eq!(buffer, rows);
+    assert_eq!(listing(&copy), listing(file));
+    for event in 0..=rows.len() / ROW_BYTES {
+        assert_eq!(
+            penalty_working(&copy, &correction_copy, event),
+            penalty_working(file, correction, event)
+        );
+        assert_eq!(
+            instances(&copy, &correction_copy, event),
+            instances(file, correction, event)
+        );
+        assert_eq!(
+            make_up_working(&copy, &correction_copy, event),
+            make_up_working(file, correction, event)
+        );
+    }
 }
