@@ -1,7 +1,9 @@
-/* Calls the archive from C: settles and lists the shipped case, refuses changes of it, shows its working and that of a case with bids, and works
-   the pencil sheet. The argument is the repository's root, the current folder where it is left out. Every buffer that is lent comes from malloc
-   with exactly its length, so that a checker of memory sees the first byte beyond it. Exit status 0 where every answer is right. */
+/* Calls the archive from C: settles and lists the shipped case, refuses changes of it, shows its working and that of a case with bids, all of it
+   in both versions of the case file, and works the pencil sheet. The argument is the repository's root, the current folder where it is left out.
+   Every buffer that is lent comes from malloc with exactly its length, so that a checker of memory sees the first byte beyond it. Exit status 0
+   where every answer is right. */
 #include "attachment_h.h"
+#include "bytes.h"
 
 #include <stdio.h>
 #include <stdlib.h>
@@ -19,35 +21,6 @@ static void expect(const char *what, uint64_t got, uint64_t expected) {
 static void expect_answer(const char *what, attachment_h_answer got, uint8_t number, uint64_t figure) {
     expect(what, got.number, number);
     expect(what, got.figure, figure);
-}
-
-static void put16(uint8_t *at, uint16_t value) {
-    at[0] = (uint8_t)value;
-    at[1] = (uint8_t)(value >> 8);
-}
-
-static void put32(uint8_t *at, uint32_t value) {
-    put16(at, (uint16_t)value);
-    put16(at + 2, (uint16_t)(value >> 16));
-}
-
-static void *block(size_t length) {
-    void *made = malloc(length);
-    if (made == NULL) {
-        puts("C: no memory");
-        exit(2);
-    }
-    return made;
-}
-
-/* A block of exactly these bytes. */
-static void *copy(const void *bytes, size_t length) {
-    return memcpy(block(length), bytes, length);
-}
-
-/* A block of one byte many times. */
-static uint8_t *filled(size_t length, uint8_t byte) {
-    return memset(block(length), byte, length);
 }
 
 /* A case of two units and one event, which the shipped one is. */
@@ -107,9 +80,44 @@ static void check_cases(const uint8_t *shipped) {
     free(file);
 }
 
-static void settle_cases(const uint8_t *shipped) {
+/* The shipped case in version 2, with numbers of six digits and numbers that it cannot have. */
+static void check_version_2(const uint8_t *copied) {
+    enum { WIDE = CASE + 4 * 3, UNIT_2 = UNIT + 4, NUMBER = HEADER + UNIT, EVENT_2 = HEADER + 2 * UNIT_2 };
+    uint8_t *file = copy(copied, WIDE);
+    expect("the shipped case in version 2", check(file, WIDE, 128), 0);
+    expect("127 bytes, one event of version 2", check(file, WIDE, 127), 15);
+    put32(file + NUMBER + UNIT_2, 999999);
+    expect("unit 999,999", check(file, WIDE, 128), 0);
+    put32(file + NUMBER, 65548); /* 65,536 + 12 */
+    expect("an event of unit 12 beside unit 65,548", check(file, WIDE, 128), 12);
+    put32(file + EVENT_2 + EVENT, 65548);
+    expect("unit 65,548", check(file, WIDE, 128), 0);
+    uint8_t *correction = filled(12, 0);
+    put32(correction + 8, 65548);
+    expect("a correction of 12 bytes", attachment_h_check(file, WIDE, correction, 12, 128), 0);
+    put16(correction, 12);
+    expect("a correction with an old field", attachment_h_check(file, WIDE, correction, 12, 128), 8);
+    free(correction);
+    correction = filled(8, 0);
+    expect("a correction of 8 bytes", attachment_h_check(file, WIDE, correction, 8, 128), 8);
+    free(correction);
+    file[HEADER + 4] = 2;
+    expect("area 2 in version 2", check(file, WIDE, 128), 6);
+    put32(file + NUMBER + UNIT_2, 1000000);
+    expect("unit 1,000,000", check(file, WIDE, 128), 17);
+    put32(file + NUMBER + UNIT_2, 999999);
+    put16(file + EVENT_2 + 2, 12);
+    expect("the old field of an event", check(file, WIDE, 128), 17);
+    file[0] = 1;
+    expect("the widths of version 2 in version 1", check(file, WIDE, 128), 5);
+    file[0] = 3;
+    expect("version 3", check(file, WIDE, 128), 2);
+    free(file);
+}
+
+static void settle_cases(const uint8_t *shipped, size_t bytes) {
     uint8_t *rows = filled(127, 0xA5);
-    attachment_h_outcome outcome = attachment_h_settle(shipped, CASE, NULL, 0, rows, 127);
+    attachment_h_outcome outcome = attachment_h_settle(shipped, bytes, NULL, 0, rows, 127);
     expect("refused", outcome.number, 15);
     expect("refused, rows", outcome.rows, 0);
     expect("refused, penalties", outcome.penalties, 0);
@@ -124,7 +132,7 @@ static void settle_cases(const uint8_t *shipped) {
     expected[28] = 1;
     for (size_t length = 128; length <= 130; length++) {
         rows = filled(length, 0xA5);
-        outcome = attachment_h_settle(shipped, CASE, NULL, 0, rows, length);
+        outcome = attachment_h_settle(shipped, bytes, NULL, 0, rows, length);
         expect("settled", outcome.number, 0);
         expect("settled, rows", outcome.rows, 1);
         expect("settled, penalties", outcome.penalties, 200400);
@@ -135,14 +143,14 @@ static void settle_cases(const uint8_t *shipped) {
     }
 }
 
-static void list_cases(const uint8_t *shipped, const uint8_t *listed) {
+static void list_cases(const uint8_t *shipped, size_t bytes, const uint8_t *listed) {
     uint8_t *rows = filled(ATTACHMENT_H_ROWS_LENGTH, 0);
     uint8_t *out = filled(ATTACHMENT_H_LISTING_LENGTH - 1, 0);
-    size_t length = attachment_h_listing(shipped, CASE, rows, ATTACHMENT_H_ROWS_LENGTH, out, ATTACHMENT_H_LISTING_LENGTH - 1);
+    size_t length = attachment_h_listing(shipped, bytes, rows, ATTACHMENT_H_ROWS_LENGTH, out, ATTACHMENT_H_LISTING_LENGTH - 1);
     expect("too short for a listing", length + out[0], 0);
     free(out);
     out = filled(ATTACHMENT_H_LISTING_LENGTH, 0);
-    length = attachment_h_listing(shipped, CASE, rows, ATTACHMENT_H_ROWS_LENGTH, out, ATTACHMENT_H_LISTING_LENGTH);
+    length = attachment_h_listing(shipped, bytes, rows, ATTACHMENT_H_ROWS_LENGTH, out, ATTACHMENT_H_LISTING_LENGTH);
     expect("length of the listing", length, LISTED);
     expect("the shipped listing", memcmp(out, listed, LISTED) == 0, 1);
     uint8_t *start = copy(shipped, 35);
@@ -154,8 +162,8 @@ static void list_cases(const uint8_t *shipped, const uint8_t *listed) {
     free(rows);
 }
 
-static void work_hours(const uint8_t *shipped) {
-    attachment_h_hour hour = attachment_h_working(shipped, CASE, NULL, 0, 0, 0);
+static void work_hours(const uint8_t *shipped, size_t bytes) {
+    attachment_h_hour hour = attachment_h_working(shipped, bytes, NULL, 0, 0, 0);
     expect("working", hour.number, 0);
     expect("working, flagged", hour.flagged, 1);
     expect("working, failed", hour.failed, 1);
@@ -166,8 +174,8 @@ static void work_hours(const uint8_t *shipped) {
     expect("working, G", hour.right[2], 20000);
     expect("working, S", hour.s, 501);
     expect("working, N3 and N2", hour.n3 * 256 + hour.n2, 257);
-    expect("working, no such hour", attachment_h_working(shipped, CASE, NULL, 0, 0, 24).number, 10);
-    expect("working, no such event", attachment_h_working(shipped, CASE, NULL, 0, 1, 0).number, 10);
+    expect("working, no such hour", attachment_h_working(shipped, bytes, NULL, 0, 0, 24).number, 10);
+    expect("working, no such event", attachment_h_working(shipped, bytes, NULL, 0, 1, 0).number, 10);
     uint8_t *start = copy(shipped, 35);
     expect("working of 35 bytes", attachment_h_working(start, 35, NULL, 0, 0, 0).number, 1);
     free(start);
@@ -208,8 +216,8 @@ static uint8_t *larger_case(const uint8_t *shipped) {
 
 /* 501 at 4,000 are 2,004,000 tenths of a cent. The past entry is of the same period, so that N3 and N2 are 2 and the multiplier is 2
    halves: 2 x 2,004,000 / 20 cents. */
-static void work_penalty(const uint8_t *file) {
-    attachment_h_penalty_terms terms = attachment_h_penalty_working(file, LARGER, NULL, 0, 0);
+static void work_penalty(const uint8_t *file, size_t bytes) {
+    attachment_h_penalty_terms terms = attachment_h_penalty_working(file, bytes, NULL, 0, 0);
     expect("penalty", terms.number, 0);
     expect("penalty, kind", terms.kind, 1);
     expect("penalty, N3 and N2", terms.n3 * 256 + terms.n2, 514);
@@ -219,34 +227,36 @@ static void work_penalty(const uint8_t *file) {
     expect("penalty, hour 23", terms.hours[23], 0);
     expect("penalty, amount", terms.amount, 2004000);
     expect("penalty, cents", terms.penalty, 200400);
-    terms = attachment_h_penalty_working(file, LARGER, NULL, 0, 2);
+    terms = attachment_h_penalty_working(file, bytes, NULL, 0, 2);
     expect("penalty, no such event", terms.number, 10);
     expect("penalty, nothing", terms.kind + terms.row + terms.penalty, 0);
 }
 
-static void count_instances(const uint8_t *file) {
+static void count_instances(const uint8_t *file, size_t bytes) {
     /* of the past entries bit 0, after 25 bytes of events, for N3 and 57 bytes on for N2 */
     uint8_t expected[ATTACHMENT_H_INSTANCES_LENGTH] = {0};
     expected[25] = 1;
     expected[82] = 1;
     for (size_t length = ATTACHMENT_H_INSTANCES_LENGTH - 1; length <= ATTACHMENT_H_INSTANCES_LENGTH + 1; length++) {
         uint8_t *out = filled(length, 0xA5);
-        expect("instances, no such event", attachment_h_instances(file, LARGER, NULL, 0, 2, out, length), 10);
+        expect("instances, no such event", attachment_h_instances(file, bytes, NULL, 0, 2, out, length), 10);
         for (size_t at = 0; at < length; at++) expect("out as it was", out[at], 0xA5);
         int fits = length >= sizeof expected;
-        expect("instances", attachment_h_instances(file, LARGER, NULL, 0, 0, out, length), fits ? 0 : 15);
+        expect("instances", attachment_h_instances(file, bytes, NULL, 0, 0, out, length), fits ? 0 : 15);
         if (fits) expect("the bits", memcmp(out, expected, sizeof expected) == 0, 1);
         for (size_t at = fits ? sizeof expected : 0; at < length; at++) expect("beyond the bits", out[at], 0xA5);
         free(out);
     }
 }
 
-/* r is 2,000, so that the bid of 9,000 is flagged, and c 6,000: 1,000 x (6,000 - 5,000) tenths of a cent. */
-static void work_make_up(const uint8_t *file) {
-    uint8_t *correction = filled(REFERENCE, 0);
-    put16(correction, 12);
+/* r is 2,000, so that the bid of 9,000 is flagged, and c 6,000: 1,000 x (6,000 - 5,000) tenths of a cent. A correction has the width of its
+   case. */
+static void work_make_up(const uint8_t *file, size_t bytes) {
+    size_t width = file[0] == 1 ? REFERENCE : REFERENCE + 4;
+    uint8_t *correction = filled(width, 0);
+    put16(file[0] == 1 ? correction : correction + REFERENCE, 12);
     put32(correction + 4, 6000);
-    attachment_h_make_up_terms terms = attachment_h_make_up_working(file, LARGER, correction, REFERENCE, 1);
+    attachment_h_make_up_terms terms = attachment_h_make_up_working(file, bytes, correction, width, 1);
     expect("make-up", terms.number, 0);
     expect("make-up, r", terms.reference, 2000);
     expect("make-up, c", terms.correct, 6000);
@@ -256,7 +266,7 @@ static void work_make_up(const uint8_t *file) {
     expect("make-up, hour 23", terms.hours[23], 0);
     expect("make-up, tenths", terms.tenths, 1000000);
     expect("make-up, cents", terms.make_up, 100000);
-    terms = attachment_h_make_up_working(file, LARGER, NULL, 0, 1);
+    terms = attachment_h_make_up_working(file, bytes, NULL, 0, 1);
     expect("make-up, c is r", terms.correct, 2000);
     expect("make-up, nothing due", terms.make_up, 0);
     free(correction);
@@ -321,14 +331,26 @@ int main(int count, char **arguments) {
     uint8_t *shipped = read_file(root, "crates/listing/stdin", CASE);
     uint8_t *listed = read_file(root, "crates/listing/stdout", LISTED);
     uint8_t *larger = larger_case(shipped);
+    /* two units and an event; a reference and an event more */
+    uint8_t *shipped_2 = version_2(shipped, CASE, 3);
+    uint8_t *larger_2 = version_2(larger, LARGER, 5);
     check_cases(shipped);
-    settle_cases(shipped);
-    list_cases(shipped, listed);
-    work_hours(shipped);
-    work_penalty(larger);
-    count_instances(larger);
-    work_make_up(larger);
+    check_version_2(shipped_2);
+    for (int version = 1; version <= 2; version++) {
+        const uint8_t *file = version == 1 ? shipped : shipped_2;
+        size_t bytes = version == 1 ? CASE : CASE + 4 * 3;
+        settle_cases(file, bytes);
+        list_cases(file, bytes, listed);
+        work_hours(file, bytes);
+        file = version == 1 ? larger : larger_2;
+        bytes = version == 1 ? LARGER : LARGER + 4 * 5;
+        work_penalty(file, bytes);
+        count_instances(file, bytes);
+        work_make_up(file, bytes);
+    }
     call_rules();
+    free(larger_2);
+    free(shipped_2);
     free(larger);
     free(listed);
     free(shipped);

@@ -2,17 +2,23 @@
  * The proved Attachment H settlement, for C and whatever calls C. Link libapi.a, which
  * `rt staticlib api` writes to target/staticlib (x86-64 Linux).
  *
- * Refusals. A number of 0 refuses nothing. Otherwise a whole case is refused with the lowest number of what it breaks:
+ * Versions. A case file is of version 1 or 2, and every call takes both. Version 2 has the number of the unit, at most
+ * 999,999, as u32 at the end of a unit, a reference and an event, which have 28, 12 and 316 bytes and not 24, 8 and 312;
+ * their old two bytes are 0. A correction has the width of its case's references. docs/FORMAT.md has every byte.
+ *
+ * Refusals. A number of 0 refuses nothing. Otherwise a whole case is refused with the number of what it breaks that is
+ * checked first, in the order 1 to 5, 17, 6 to 15:
  *
  *    1  the length of the file is outside 36 to 65,000      9  a past entry's field
- *    2  the version is not 1                               10  an event's field
+ *    2  the version is neither 1 nor 2                     10  an event's field
  *    3  the section count is not 4                         11  the order of the events
  *    4  the pairs do not follow on                         12  an event's unit is not listed
  *    5  a section's length is no multiple of its           13  kind 1 or 2: a above the unit's capability
  *       records', or it has too many                       14  kind 4 without its reference, or without the
  *    6  a unit's field, or the order of the units              correct reference where that is read
  *    7  a reference's field, the order, or its unit        15  rows shorter than 128 bytes for each event
- *    8  the same of the correction, or its length
+ *    8  the same of the correction, its length, or         17  version 2: in a unit, a reference or an event the old
+ *       what 17 is, in the correction                          two bytes are not 0, or the number is above 999,999
  *
  * and a smaller call first with 7 for a reference out of its component's range (skipped where no such component
  * exists), then with 10 for any other argument out of its range; attachment_h_line refuses all of them with 16. The
@@ -139,7 +145,7 @@ typedef struct {
 } attachment_h_make_up_terms;
 
 /*
- * Checks a case: its file, its correction (laid out as references; empty for none) and the length of the rows buffer
+ * Checks a case: its file, its correction (laid out as its references; empty for none) and the length of the rows buffer
  * into which it is to be settled. Gives the number of the first limit that it breaks, or 0 where it is accepted.
  */
 uint8_t attachment_h_check(const uint8_t *file, size_t file_length,

@@ -1,9 +1,10 @@
 """The proved Attachment H settlement, called from Python.
 
 Needs the archive as a shared object; where it is not there, the import says how to build it. ATTACHMENT_H_LIBRARY names
-another place of it. Every function answers a number, a bool, a Row or a tuple of them, a working a dictionary, or raises
-Refused with the number of docs/RULES.md and what it means; the ranges are those of include/attachment_h.h. ctypes would cut an
-int to the width of its argument: one that does not fit raises OverflowError.
+another place of it. A case is the bytes of a case file of version 1 or 2, and a correction has the width of its case's references.
+Every function answers a number, a bool, a Row or a tuple of them, a working a dictionary, or raises Refused with the number of
+docs/RULES.md and what it means; the ranges are those of include/attachment_h.h. ctypes would cut an int to the width of its
+argument: one that does not fit raises OverflowError.
 """
 
 import ctypes
@@ -31,13 +32,13 @@ except OSError as error:
 # what a number means of a case: docs/RULES.md, L
 _OF_A_CASE = {
     1: "the file's length is outside 36 to 65,000 bytes",
-    2: "the version is not 1",
+    2: "the version is neither 1 nor 2",
     3: "the section count is not 4",
     4: "the pairs of offset and length don't follow on from byte 36 to the file's end",
     5: "a section's length is no multiple of its record, or it has too many records",
     6: "a unit has a field out of its limits, or the unit numbers don't rise strictly",
     7: "a reference has a field out of its limits or an unlisted unit, or the references don't rise strictly by unit and component",
-    8: "the correction is no multiple of 8 bytes, has over 256 records, or one of them breaks the limits or the order of references",
+    8: "the correction is no multiple of the case's reference width (8 bytes, 12 in version 2), has over 256 records, or one of them breaks the limits or the order of references",
     9: "a past entry has a field out of its limits",
     10: "an event has a field out of its limits",
     11: "the events don't rise strictly by day, kind, market, unit and component",
@@ -45,6 +46,7 @@ _OF_A_CASE = {
     13: "an event of kind 1 or 2 has an a above its unit's capability",
     14: "an event of kind 4 has no reference r, or no correct reference c where its component reads one",
     15: "the rows buffer has fewer than 128 bytes for each event",
+    17: "a version 2 unit, reference or event has an old unit field that is not 0, or a unit number above 999,999",
 }
 
 # and of a smaller call: docs/RULES.md, C2 and C3
@@ -59,7 +61,7 @@ _OF_AN_EVENT = {10: "the case has no such event"}
 
 
 class Refused(Exception):
-    """A refusal with its number, 1 to 15 for a case, 7 or 10 for a smaller call, 16 for the line, and what that means."""
+    """A refusal with its number, 1 to 15 and 17 for a case, 7 or 10 for a smaller call, 16 for the line, and what that means."""
 
     def __init__(self, number, meanings=_OF_A_CASE):
         self.number = number

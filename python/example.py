@@ -1,5 +1,5 @@
-"""Settles and lists the shipped case, checks changes of it, shows its working and that of a case with bids, and works some of the pencil
-sheet. Fails where an answer is wrong.
+"""Settles and lists the shipped case, checks changes of it, shows its working and that of a case with bids, does the same of their copies in
+version 2 of the case file, and works some of the pencil sheet. Fails where an answer is wrong.
 
 The argument is the repository's root; where it is left out, the one that this file stands in.
 """
@@ -42,12 +42,36 @@ def larger():
     reference = struct.pack("<HBxI", 12, 0, 2_000)
     past = SHIPPED[36 + 2 : 36 + 4] + struct.pack("<BBHxxI", 1, 0, 44, 0)  # of the group of unit 12
     bids = struct.pack("<BBHHBBIIIIIiI276x", 4, 0, 12, 0, 0, 0, 8_000, 0, 1, 0, 9_000, 5_000, 1_000)
-    sections = [SHIPPED[36:EVENT], reference, past, SHIPPED[EVENT:] + bids]
-    header, offset = struct.pack("<HH", 1, 4), 36
+    return file_of(1, [SHIPPED[36:EVENT], reference, past, SHIPPED[EVENT:] + bids])
+
+
+def file_of(version, sections):
+    """The file of four sections."""
+    header, offset = struct.pack("<HH", version, 4), 36
     for section in sections:
         header += struct.pack("<II", offset, len(section))
         offset += len(section)
     return header + b"".join(sections)
+
+
+def widened(records, width, place, numbers):
+    """Records of version 1 in version 2: 0 in the old two bytes, and the number, or what `numbers` has for it, at the end."""
+    wide = b""
+    for at in range(0, len(records), width):
+        record = bytearray(records[at : at + width])
+        (number,) = struct.unpack_from("<H", record, place)
+        struct.pack_into("<H", record, place, 0)
+        wide += record + struct.pack("<I", numbers.get(number, number))
+    return wide
+
+
+def version_2(file, numbers=None):
+    """The version 2 copy of a case, some of its units under other numbers."""
+    numbers = numbers or {}
+    pairs = struct.unpack_from("<8I", file, 4)
+    units, references, past, events = (file[at : at + length] for at, length in zip(pairs[::2], pairs[1::2]))
+    units, references = widened(units, 24, 0, numbers), widened(references, 8, 0, numbers)
+    return file_of(2, [units, references, past, widened(events, 312, 2, numbers)])
 
 
 def sentence(call, *arguments):
@@ -99,6 +123,24 @@ expect("the make-up payment", (made_up["make_up"], made_up["restored"]), (100_00
 for call in [attachment_h.penalty_working, attachment_h.instances, attachment_h.make_up_working]:
     expect("no event 2", sentence(call, larger(), 2), "refused 10: the case has no such event")
     expect("a case of 35 bytes", refusal(call, bytes(35), 0), 1)
+# a version 2 copy has the same figures, also where unit 12 is 65,548, which is 65,536 + 12, and unit 13 is 999,999
+for copied in [version_2(SHIPPED), version_2(SHIPPED, {12: 65_548, 13: 999_999})]:
+    expect("rows of a copy", attachment_h.settle(copied), settled)
+    expect("the working of a copy", attachment_h.working(copied, 0, 0), hour)
+correction = struct.pack("<HBxI", 12, 0, 6_000)
+wide_correction = widened(correction, 8, 0, {})
+expect("the larger case copied", attachment_h.settle(version_2(larger()), wide_correction), attachment_h.settle(larger(), correction))
+expect("its make-up", attachment_h.make_up_working(version_2(larger()), 1, wide_correction), made_up)
+expect("its penalty", attachment_h.penalty_working(version_2(larger()), 0), penalty)
+expect("what its N3 and N2 counted", attachment_h.instances(version_2(larger()), 0), counted)
+expect("the listing of a copy", attachment_h.listing(version_2(SHIPPED)), LISTED)
+expect("and with unit 65,548", attachment_h.listing(version_2(SHIPPED, {12: 65_548, 13: 999_999})), LISTED.replace(" 12 ", " 65548 "))
+expect("a correction of 8 bytes", refusal(attachment_h.check, version_2(larger()), correction), 8)
+expect("a correction of 12 bytes in version 1", refusal(attachment_h.check, larger(), wide_correction), 8)
+expect("the widths of version 1", refusal(attachment_h.check, b"\2" + SHIPPED[1:]), 5)
+expect("version 3", sentence(attachment_h.check, b"\3" + SHIPPED[1:]), "refused 2: the version is neither 1 nor 2")
+of_17 = "refused 17: a version 2 unit, reference or event has an old unit field that is not 0, or a unit number above 999,999"
+expect("unit 1,000,000", sentence(attachment_h.check, version_2(SHIPPED, {13: 1_000_000})), of_17)
 expect("the shipped listing", attachment_h.listing(SHIPPED), LISTED)
 expect("listing of 35 bytes", attachment_h.listing(bytes(35)), "refused 1\n")
 expect("501 of 5,000 fails", attachment_h.withheld_fails(501, 5_000, 501, 20_000), True)

@@ -4,14 +4,8 @@
 pub const HEADER_BYTES: usize = 36;
 /// Bytes of the largest file.
 pub const LARGEST_FILE: usize = 65_000;
-/// Bytes of a unit.
-pub const UNIT_BYTES: usize = 24;
-/// Bytes of a reference, of the case or of a correction.
-pub const REFERENCE_BYTES: usize = 8;
-/// Bytes of a past entry.
+/// Bytes of a past entry, which names no unit, in both versions.
 pub const PAST_BYTES: usize = 12;
-/// Bytes of an event.
-pub const EVENT_BYTES: usize = 312;
 /// Bytes of an event before its hour cells.
 pub const EVENT_HEAD_BYTES: usize = 24;
 /// Bytes of an hour cell.
@@ -20,6 +14,40 @@ pub const CELL_BYTES: usize = 12;
 pub const HOURS: usize = 24;
 /// Bytes of a row in the rows buffer.
 pub const ROW_BYTES: usize = 128;
+
+/// A version of the case file: it decides how wide a record is, and where the number of its unit stands.
+#[derive(Clone, Copy, Debug, PartialEq, Eq, PartialOrd, Ord, Hash)]
+pub enum Version {
+    /// Unit numbers of two bytes.
+    One,
+    /// Unit numbers of six digits: four bytes at the record's end, the old two bytes 0.
+    Two,
+}
+
+/// The highest unit number of version 2.
+pub const HIGHEST_UNIT_NUMBER: u32 = 999_999;
+/// Bytes at the end of a unit, a reference and an event of version 2: the number of the unit.
+const NUMBER_BYTES: usize = 4;
+
+impl Version {
+    /// The versions, the oldest first.
+    pub const ALL: [Version; 2] = [Version::One, Version::Two];
+
+    /// The version of this number.
+    pub fn of(number: u16) -> Option<Version> {
+        Version::ALL
+            .into_iter()
+            .find(|version| version.number() == number)
+    }
+
+    /// Its number in the header.
+    pub const fn number(self) -> u16 {
+        match self {
+            Version::One => 1,
+            Version::Two => 2,
+        }
+    }
+}
 
 /// A section of the case file.
 #[derive(Clone, Copy, Debug, PartialEq, Eq)]
@@ -43,13 +71,58 @@ impl Section {
         Section::Events,
     ];
 
-    /// Bytes of one record.
-    pub const fn record_bytes(self) -> usize {
+    /// Bytes of one record in that version; of a correction those of its case's references.
+    pub const fn width(self, version: Version) -> usize {
+        match (version, self) {
+            (Version::One, _) | (_, Section::Past) => self.old_width(),
+            (Version::Two, _) => self.old_width() + NUMBER_BYTES,
+        }
+    }
+
+    /// Bytes of one record of version 1, which one of version 2 begins with.
+    const fn old_width(self) -> usize {
         match self {
-            Section::Units => UNIT_BYTES,
-            Section::References => REFERENCE_BYTES,
+            Section::Units => 24,
+            Section::References => 8,
             Section::Past => PAST_BYTES,
-            Section::Events => EVENT_BYTES,
+            Section::Events => EVENT_HEAD_BYTES + CELL_BYTES * HOURS,
+        }
+    }
+
+    /// Where the two bytes of a unit's number stand in a record of version 1; a past entry names no unit.
+    const fn old_place(self) -> Option<usize> {
+        match self {
+            Section::Units | Section::References => Some(0),
+            Section::Past => None,
+            Section::Events => Some(2),
+        }
+    }
+
+    /// The old two bytes of a record: the number in version 1, 0 in a good record of version 2.
+    pub fn old_number(self, record: &[u8]) -> u16 {
+        self.old_place().map_or(0, |at| u16_at(record, at))
+    }
+
+    /// The number of the unit that a record is of or names; 0 of a past entry, which names none.
+    pub fn unit_number(self, version: Version, record: &[u8]) -> u32 {
+        match (version, self) {
+            (_, Section::Past) => 0,
+            (Version::One, _) => u32::from(self.old_number(record)),
+            (Version::Two, _) => u32_at(record, self.old_width()),
+        }
+    }
+
+    /// Writes the number of the unit that a record is of or names; in version 1 it has to fit into two bytes.
+    pub fn put_unit_number(self, version: Version, record: &mut [u8], number: u32) {
+        match (version, self.old_place()) {
+            (_, None) => {}
+            (Version::One, Some(at)) => {
+                put_u16(record, at, u16::try_from(number).expect("two bytes"));
+            }
+            (Version::Two, Some(at)) => {
+                put_u16(record, at, 0);
+                put_u32(record, self.old_width(), number);
+            }
         }
     }
 
@@ -75,17 +148,18 @@ impl Section {
 
 /// The sections of a case file: each is that stretch of the file itself.
 #[derive(Clone, Copy, Debug)]
-pub struct Sections<'a>([&'a [u8]; 4]);
+pub struct Sections<'a> {
+    version: Version,
+    parts: [&'a [u8]; 4],
+}
 
 impl<'a> Sections<'a> {
     /// The sections of a file that breaks none of the numbers 1 to 5; otherwise none.
     pub fn of(file: &'a [u8]) -> Option<Sections<'a>> {
-        if !(HEADER_BYTES..=LARGEST_FILE).contains(&file.len())
-            || u16_at(file, 0) != 1
-            || u16_at(file, 2) != 4
-        {
+        if !(HEADER_BYTES..=LARGEST_FILE).contains(&file.len()) || u16_at(file, 2) != 4 {
             return None;
         }
+        let version = Version::of(u16_at(file, 0))?;
         let mut found: [&[u8]; 4] = [&[]; 4];
         let mut end = HEADER_BYTES as u64;
         for (section, part) in Section::ALL.into_iter().zip(&mut found) {
@@ -95,33 +169,42 @@ impl<'a> Sections<'a> {
             }
             end = offset + length;
             *part = file.get(usize::try_from(offset).ok()?..usize::try_from(end).ok()?)?;
-            let (bytes, most) = (section.record_bytes(), section.most());
+            let (bytes, most) = (section.width(version), section.most());
             if !part.len().is_multiple_of(bytes) || part.len() / bytes > most {
                 return None;
             }
         }
-        (end == file.len() as u64).then_some(Sections(found))
+        (end == file.len() as u64).then_some(Sections {
+            version,
+            parts: found,
+        })
+    }
+
+    /// The version of the file.
+    pub fn version(&self) -> Version {
+        self.version
     }
 
     /// The bytes of a section.
     pub fn bytes(&self, section: Section) -> &'a [u8] {
-        self.0[section as usize]
+        self.parts[section as usize]
     }
 
     /// The records of a section.
     pub fn records(&self, section: Section) -> impl Iterator<Item = &'a [u8]> + use<'a> {
-        self.bytes(section).chunks_exact(section.record_bytes())
+        self.bytes(section)
+            .chunks_exact(section.width(self.version))
     }
 
     /// How many records a section has.
     pub fn count(&self, section: Section) -> usize {
-        self.bytes(section).len() / section.record_bytes()
+        self.bytes(section).len() / section.width(self.version)
     }
 
     /// The record of the unit with this number.
-    pub fn unit(&self, number: u16) -> Option<&'a [u8]> {
+    pub fn unit(&self, number: u32) -> Option<&'a [u8]> {
         self.records(Section::Units)
-            .find(|record| u16_at(record, 0) == number)
+            .find(|record| Section::Units.unit_number(self.version, record) == number)
     }
 }
 
@@ -132,9 +215,9 @@ pub fn pair(file: &[u8], section: Section) -> (u64, u64) {
 }
 
 /// The file of four sections: version, section count, pairs that follow on, then the sections.
-pub fn file_of(sections: &[Vec<u8>; 4]) -> Vec<u8> {
+pub fn file_in(version: Version, sections: &[Vec<u8>; 4]) -> Vec<u8> {
     let mut file = Vec::new();
-    file.extend(1_u16.to_le_bytes());
+    file.extend(version.number().to_le_bytes());
     file.extend(4_u16.to_le_bytes());
     let mut offset = HEADER_BYTES;
     for section in sections {
@@ -146,6 +229,22 @@ pub fn file_of(sections: &[Vec<u8>; 4]) -> Vec<u8> {
         file.extend(section);
     }
     file
+}
+
+/// The records of a section in another version; none where a number has more than the two bytes that version 1 has for it.
+pub fn converted(section: Section, records: &[u8], from: Version, to: Version) -> Option<Vec<u8>> {
+    let mut bytes = Vec::with_capacity(records.len());
+    for record in records.chunks_exact(section.width(from)) {
+        let number = section.unit_number(from, record);
+        if to == Version::One {
+            u16::try_from(number).ok()?;
+        }
+        let start = bytes.len();
+        bytes.extend(&record[..section.old_width()]);
+        bytes.resize(start + section.width(to), 0);
+        section.put_unit_number(to, &mut bytes[start..], number);
+    }
+    Some(bytes)
 }
 
 /// The hour cell of an event.

@@ -2,7 +2,8 @@
 //!
 //! Every function is a call of the archive that `rt staticlib api` writes, with nothing tested here:
 //! the proved functions take every value of every argument. Ranges are those of docs/RULES.md, and
-//! an argument out of its range is answered with a refusal's number.
+//! an argument out of its range is answered with a refusal's number. A case file is of version 1 or 2
+//! (docs/FORMAT.md), and every call takes both.
 //!
 //! ```
 //! use attachment_h::{Refused, check, withheld_fails};
@@ -39,8 +40,8 @@ pub use numbers::{Cents, Component, Kind, Market, Mask, Multiplier};
 pub use row::Row;
 pub use working::{Comparison, Working, working};
 
-/// A refusal with its number: 1 to 15 for a case, 7 or 10 for a smaller call, 16 for [`line()`]. A working has 10
-/// also for an event or hour that the case lacks, [`instances_into`] 15 for an `out` that is too short.
+/// A refusal with its number: 1 to 15 and 17 for a case, 7 or 10 for a smaller call, 16 for [`line()`]. A working has
+/// 10 also for an event or hour that the case lacks, [`instances_into`] 15 for an `out` that is too short.
 #[derive(Clone, Copy, Debug, PartialEq, Eq, PartialOrd, Ord, Hash)]
 pub struct Refused(
     /// The number of "What a case can break"; 16 is the line's.
@@ -60,7 +61,7 @@ impl Refused {
     pub fn meaning(self) -> &'static str {
         match self.0 {
             1 => "the file's length is outside 36 to 65,000 bytes",
-            2 => "the version is not 1",
+            2 => "the version is neither 1 nor 2",
             3 => "the section count is not 4",
             4 => "the pairs of offset and length don't follow on from byte 36 to the file's end",
             5 => "a section's length is no multiple of its record, or it has too many records",
@@ -69,7 +70,7 @@ impl Refused {
                 "a reference has a field out of its limits or an unlisted unit, or the references don't rise strictly by unit and component"
             }
             8 => {
-                "the correction is no multiple of 8 bytes, has over 256 records, or one of them breaks the limits or the order of references"
+                "the correction is no multiple of the case's reference width (8 bytes, 12 in version 2), has over 256 records, or one of them breaks the limits or the order of references"
             }
             9 => "a past entry has a field out of its limits",
             10 => "an event has a field out of its limits",
@@ -81,13 +82,16 @@ impl Refused {
             }
             15 => "the rows buffer has fewer than 128 bytes for each event",
             16 => "an argument of the line is out of its range",
+            17 => {
+                "a version 2 unit, reference or event has an old unit field that is not 0, or a unit number above 999,999"
+            }
             _ => "no limit has this number",
         }
     }
 }
 
-/// Checks a case with its correction (empty for none) and the length of its rows buffer; refuses
-/// with the number of the first limit that it breaks.
+/// Checks a case of either version with its correction (empty for none, else of the case's reference width) and the
+/// length of its rows buffer; refuses with the number of the first limit that it breaks: 17 is checked after 5.
 pub fn check(file: &[u8], correction: &[u8], rows_length: usize) -> Result<(), Refused> {
     ffi::check(file, correction, rows_length)
 }

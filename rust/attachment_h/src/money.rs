@@ -192,7 +192,7 @@ pub struct MakeUpWorking {
 /// no such event.
 ///
 /// ```
-/// use attachment_h::layout::{file_of, put_u16, put_u32};
+/// use attachment_h::layout::{Version, file_in, put_u16, put_u32};
 /// use attachment_h::{Cents, Mask, Refused, make_up_working};
 ///
 /// let (mut unit, mut reference, mut bids) = (vec![0; 24], vec![0; 8], vec![0; 312]);
@@ -210,7 +210,8 @@ pub struct MakeUpWorking {
 /// for (at, value) in [(24, 9_000), (28, 5_000), (32, 1_000)] {
 ///     put_u32(&mut bids, at, value);
 /// }
-/// let worked = make_up_working(&file_of(&[unit, reference, vec![], bids]), &correction, 0)?;
+/// let file = file_in(Version::One, &[unit, reference, vec![], bids]);
+/// let worked = make_up_working(&file, &correction, 0)?;
 /// assert_eq!((worked.reference, worked.correct), (2_000, 6_000));
 /// // 1,000 × (6,000 − 5,000) tenths of a cent.
 /// assert_eq!((worked.mitigated, worked.hours[0]), (Mask(1), 1_000_000));

@@ -1,11 +1,11 @@
 //! The line of every component: its figures, beside the second implementation's, beside the test of
-//! single bids, its refusals, and in whole cases.
+//! single bids, its refusals, and in whole cases of both versions.
 
 use attachment_h::{
     BidHour, Component, Market, Refused, Row, Working, bid_fails, line, settle, working,
 };
 use cases::generator::{bid_limits, case, reference_limit};
-use cases::{Conduct, Generated, Random, Size, Unit, Wanted};
+use cases::{Conduct, Generated, Random, Size, Unit, Version, Wanted};
 use second::calls;
 
 /// The arguments of a line.
@@ -364,15 +364,18 @@ fn compare(generated: &Generated, seen: &mut Hours) {
 
 #[test]
 fn whole_cases() {
-    let mut random = Random::new(803);
-    let mut seen = Hours::default();
-    for (size, count) in [(Size::Small, 500), (Size::Medium, 100), (Size::Full, 2)] {
-        for _ in 0..count {
-            compare(&case(&mut random, Wanted::of(size)), &mut seen);
+    for version in Version::ALL {
+        let mut random = Random::new(803);
+        let mut seen = Hours::default();
+        for (size, count) in [(Size::Small, 500), (Size::Medium, 100), (Size::Full, 2)] {
+            for _ in 0..count {
+                let wanted = Wanted::of(size).in_version(version);
+                compare(&case(&mut random, wanted), &mut seen);
+            }
         }
+        println!("{version:?}: {seen:?}");
+        let mut of_each = seen.unflagged.iter().chain(&seen.flagged);
+        assert!(of_each.all(|&hours| hours > 300));
+        assert!(seen.by_sum > 300 && seen.brought_down > 300);
     }
-    println!("{seen:?}");
-    let mut of_each = seen.unflagged.iter().chain(&seen.flagged);
-    assert!(of_each.all(|&hours| hours > 300));
-    assert!(seen.by_sum > 300 && seen.brought_down > 300);
 }

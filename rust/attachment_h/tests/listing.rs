@@ -1,57 +1,121 @@
-//! The listing against the second implementation's, as text, and what it leaves in its buffers.
+//! The listing against the second implementation's, as text, in both versions, and what it leaves in its buffers. The
+//! listing of a version 2 copy is that of version 1.
 
 use attachment_h::{LISTING_LENGTH, ROWS_LENGTH, TooShort, list_into, listing};
-use cases::generator::{any_case, case, random_bytes};
-use cases::{Case, Event, Market, Random, Size, Unit, Wanted};
+use cases::generator::{any_case_in, case, random_bytes_in};
+use cases::{Case, Event, Generated, Input, Market, Random, Size, Unit, Version, Wanted};
 
-#[test]
-fn shipped_case() {
+/// The shipped case in a version, its units under these numbers.
+fn shipped(version: Version, numbers: [u32; 2]) -> Vec<u8> {
     let unit = |unit, capability| Unit {
         unit,
         group: 7,
         capability,
         ..Unit::default()
     };
+    let [first, second] = numbers;
+    let event = Event::withheld(8_000, Market::DAY_AHEAD, first, &[(0, 501, 4_000)]);
     let case = Case {
-        units: vec![unit(12, 5_000), unit(13, 15_000)],
-        events: vec![
-            Event::withheld(8_000, Market::DAY_AHEAD, 12, &[(0, 501, 4_000)]).in_period(44),
-        ],
+        version,
+        units: vec![unit(first, 5_000), unit(second, 15_000)],
+        events: vec![event.in_period(44)],
         ..Case::default()
     };
-    assert_eq!(
-        listing(&case.to_bytes()),
-        "8000 1 12 0 0 1 0 2 200400 0\ntotal 200400 0\n"
-    );
-    assert_eq!(listing(&Case::default().to_bytes()), "total 0 0\n");
+    case.to_bytes()
+}
+
+#[test]
+fn shipped_case() {
+    for version in Version::ALL {
+        assert_eq!(
+            listing(&shipped(version, [12, 13])),
+            "8000 1 12 0 0 1 0 2 200400 0\ntotal 200400 0\n"
+        );
+        let empty = Case::default().in_version(version);
+        assert_eq!(listing(&empty.to_bytes()), "total 0 0\n");
+    }
     assert_eq!(listing(&[]), "refused 1\n");
     assert_eq!(listing(&[0; 65_001]), "refused 1\n");
 }
 
 #[test]
-fn generated_cases() {
-    let mut random = Random::new(501);
-    let (mut lines, mut refused) = (0, 0);
-    for place in 0..6_000 {
-        let file = match place % 30 {
-            0 => case(&mut random, Wanted::of(Size::Full)).input().file,
-            1..=9 => random_bytes(&mut random).file,
-            _ => any_case(&mut random).input().file,
-        };
-        let text = listing(&file);
-        assert_eq!(text, second::listing(&file), "case {place}");
-        lines += text.lines().count();
-        refused += usize::from(text.starts_with("refused"));
+fn six_digit_numbers() {
+    for number in [0, 65_535, 65_536, 100_000, 999_998] {
+        let text = format!("8000 1 {number} 0 0 1 0 2 200400 0\ntotal 200400 0\n");
+        assert_eq!(listing(&shipped(Version::Two, [number, 999_999])), text);
     }
-    println!("6000 listings of {lines} lines, {refused} refusals");
-    assert!(lines > 50_000 && refused > 1_000);
+    let past_six_digits = shipped(Version::Two, [12, 1_000_000]);
+    assert_eq!(listing(&past_six_digits), "refused 17\n");
+}
+
+/// The listing of a version 2 case as it is in version 1, with its units numbered through.
+fn numbered_through(generated: &Generated, text: &str) -> String {
+    let through = generated.numbered_through();
+    let mut events = through.case.events.iter();
+    text.lines()
+        .map(|line| {
+            let mut words: Vec<String> = line.split(' ').map(String::from).collect();
+            if let Some(event) = events.next() {
+                words[2] = event.unit.to_string();
+            }
+            words.join(" ") + "\n"
+        })
+        .collect()
+}
+
+#[test]
+fn generated_cases() {
+    for version in Version::ALL {
+        let mut random = Random::new(501);
+        let (mut lines, mut refused, mut copies, mut through) = (0, 0, 0, 0);
+        for place in 0..6_000 {
+            let full = Wanted::of(Size::Full).in_version(version);
+            let (generated, input) = match place % 30 {
+                0 => made(case(&mut random, full)),
+                1..=9 => (None, random_bytes_in(version, &mut random)),
+                _ => made(any_case_in(version, &mut random)),
+            };
+            let text = listing(&input.file);
+            assert_eq!(
+                text,
+                second::listing(&input.file),
+                "{version:?}, case {place}"
+            );
+            if let Some(copy) = input.version_2_copy() {
+                assert_eq!(listing(&copy.file), text, "case {place}, copied");
+                assert_eq!(second::listing(&copy.file), text, "case {place}, copied");
+                copies += 1;
+            }
+            if let Some(generated) = generated.filter(|_| version == Version::Two) {
+                let of_version_1 = listing(&generated.numbered_through().input().file);
+                assert_eq!(of_version_1, numbered_through(&generated, &text));
+                through += 1;
+            }
+            lines += text.lines().count();
+            refused += usize::from(text.starts_with("refused"));
+        }
+        println!(
+            "{version:?}: 6000 listings of {lines} lines, {refused} refusals, {copies} copies, {through} numbered through"
+        );
+        assert!(lines > 50_000 && refused > 1_000);
+        assert_eq!(copies > 3_000, version == Version::One);
+        assert_eq!(through > 3_000, version == Version::Two);
+    }
+}
+
+/// A generated case with its bytes.
+fn made(generated: Generated) -> (Option<Generated>, Input) {
+    let input = generated.input();
+    (Some(generated), input)
 }
 
 #[test]
 fn buffers() {
     let mut random = Random::new(502);
-    for _ in 0..200 {
-        let file = any_case(&mut random).input().file;
+    for place in 0..400 {
+        let file = any_case_in(Version::ALL[place % 2], &mut random)
+            .input()
+            .file;
         let text = second::listing(&file);
         // Too short for the longest listing: nothing is written.
         let (mut rows, mut out) = (vec![0xA5; ROWS_LENGTH], vec![0x5A; LISTING_LENGTH - 1]);

@@ -1,4 +1,4 @@
-//! The program `listing` on many inputs, short and too long. `rt ci` and `rt check listing` write it to
+//! The program `listing` on many inputs of both versions, short and too long. `rt ci` and `rt check listing` write it to
 //! target/bin; the gate names it in `ATTACHMENT_H_LISTING`, and elsewhere it may be missing.
 
 use std::env;
@@ -7,8 +7,8 @@ use std::path::{Path, PathBuf};
 use std::process::{Command, Stdio};
 use std::thread;
 
-use cases::Random;
-use cases::generator::{any_case, random_bytes};
+use cases::generator::{any_case_in, random_bytes_in};
+use cases::{Random, Version};
 
 fn listed(program: &Path, input: Vec<u8>) -> String {
     let mut child = Command::new(program)
@@ -36,14 +36,25 @@ fn many_inputs() {
         return;
     }
     let program = named.unwrap_or(default);
-    let mut random = Random::new(601);
-    for place in 0..300 {
-        let file = match place % 3 {
-            0 => random_bytes(&mut random).file,
-            _ => any_case(&mut random).input().file,
-        };
-        let expected = second::listing(&file);
-        assert_eq!(listed(&program, file), expected, "input {place}");
+    for version in Version::ALL {
+        let mut random = Random::new(601);
+        for place in 0..300 {
+            let input = match place % 3 {
+                0 => random_bytes_in(version, &mut random),
+                _ => any_case_in(version, &mut random).input(),
+            };
+            let expected = second::listing(&input.file);
+            if let Some(copy) = input.version_2_copy() {
+                let text = listed(&program, copy.file);
+                assert_eq!(text, expected, "input {place}, copied");
+            }
+            let file = input.file;
+            assert_eq!(
+                listed(&program, file),
+                expected,
+                "{version:?}, input {place}"
+            );
+        }
     }
     for length in [
         0, 1, 35, 36, 64_999, 65_000, 65_001, 65_002, 70_000, 200_000,

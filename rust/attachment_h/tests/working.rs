@@ -1,10 +1,12 @@
-//! The working of every hour of random cases, against the settled rows and the fields of the file.
+//! The working of every hour of random cases of both versions, against the settled rows and the fields of the file. Every
+//! hour of a version 1 case has the same working in its version 2 copy.
 
+use attachment_h::layout::Sections;
 use attachment_h::{Refused, Working, settle, working};
-use cases::case::{sections_of, u16_at, u32_at};
-use cases::faults::FAULTS;
+use cases::case::{Section, u16_at, u32_at};
+use cases::faults::faults_in;
 use cases::generator::case;
-use cases::{Input, Random, Row, Size, Wanted};
+use cases::{Input, Random, Row, Size, Version, Wanted};
 
 /// What a taken comparison that fails first says, from the comparisons alone.
 fn first_failed(hour: &Working) -> u8 {
@@ -15,17 +17,29 @@ fn first_failed(hour: &Working) -> u8 {
     (0..4).find(fails).map_or(0, |place| place as u8 + 1)
 }
 
-/// Every hour of a case; how many of them fail each comparison.
-fn work(input: &Input, failed: &mut [usize; 5]) {
+/// How many hours fail each comparison, and how many were worked in a copy too.
+#[derive(Debug, Default)]
+struct Hours {
+    failed: [usize; 5],
+    copied: usize,
+}
+
+/// Every hour of a case.
+fn work(input: &Input, hours: &mut Hours) {
     let mut rows = vec![0; 25_600];
     let settled = settle(&input.file, &input.correction, &mut rows).expect("accepted");
-    let events = &sections_of(&input.file)[3];
-    for place in 0..settled.rows {
+    let sections = Sections::of(&input.file).expect("an accepted case has its sections");
+    let copy = input.version_2_copy();
+    for (place, event) in sections.records(Section::Events).enumerate() {
         let row = Row::of(&rows, place);
-        let event = &events[312 * place..][..312];
         for hour in 0..24 {
             let what = format!("event {place}, hour {hour}");
             let worked = working(&input.file, &input.correction, place, hour).expect(&what);
+            if let Some(copy) = &copy {
+                let copied = working(&copy.file, &copy.correction, place, hour);
+                assert_eq!(copied, Ok(worked), "{what}, copied");
+                hours.copied += 1;
+            }
             assert_eq!(worked.flagged, row.flags.0 >> hour & 1 == 1, "{what}");
             assert_eq!(worked.failed, first_failed(&worked), "{what}");
             assert_eq!(worked.failed > 0, worked.flagged, "{what}");
@@ -39,7 +53,7 @@ fn work(input: &Input, failed: &mut [usize; 5]) {
                 assert_eq!((worked.reference, worked.total), (0, 0), "{what}");
                 assert_eq!(parts, (0, 0), "{what}");
             }
-            failed[usize::from(worked.failed)] += 1;
+            hours.failed[usize::from(worked.failed)] += 1;
         }
     }
     for (event, hour) in [(settled.rows, 0), (0, 24), (usize::MAX, usize::MAX)] {
@@ -50,78 +64,121 @@ fn work(input: &Input, failed: &mut [usize; 5]) {
 
 #[test]
 fn every_hour() {
-    let mut random = Random::new(701);
-    let mut failed = [0; 5];
-    for (size, count) in [(Size::Small, 400), (Size::Medium, 40), (Size::Full, 2)] {
-        for _ in 0..count {
-            work(&case(&mut random, Wanted::of(size)).input(), &mut failed);
+    for version in Version::ALL {
+        let mut random = Random::new(701);
+        let mut hours = Hours::default();
+        for (size, count) in [(Size::Small, 400), (Size::Medium, 40), (Size::Full, 2)] {
+            for _ in 0..count {
+                let wanted = Wanted::of(size).in_version(version);
+                work(&case(&mut random, wanted).input(), &mut hours);
+            }
+        }
+        println!("{version:?}, hours by the comparison that fails: {hours:?}");
+        assert!(hours.failed.iter().all(|&hours| hours > 50));
+        assert_eq!(hours.copied > 80_000, version == Version::One);
+    }
+}
+
+/// A case of version 2 has the workings that it has in version 1 with its units numbered through.
+#[test]
+fn six_digit_numbers() {
+    let mut random = Random::new(704);
+    let mut hours = 0;
+    for _ in 0..400 {
+        let wanted = Wanted::of(Size::Small).in_version(Version::Two);
+        let generated = case(&mut random, wanted);
+        let (input, through) = (generated.input(), generated.numbered_through().input());
+        for event in 0..generated.case.events.len() {
+            for hour in 0..24 {
+                assert_eq!(
+                    working(&input.file, &input.correction, event, hour),
+                    working(&through.file, &through.correction, event, hour)
+                );
+                hours += 1;
+            }
         }
     }
-    println!("hours by the comparison that fails: {failed:?}");
-    assert!(failed.iter().all(|&hours| hours > 50));
+    println!("{hours} hours numbered through");
+    assert!(hours > 20_000);
 }
 
 /// S of every withheld and dispatch hour and G of the withheld ones, summed again over the file.
 #[test]
 fn sums() {
-    let mut random = Random::new(702);
+    for version in Version::ALL {
+        let mut random = Random::new(702);
+        let mut checked = 0;
+        for _ in 0..200 {
+            let wanted = Wanted::of(Size::Small).in_version(version);
+            checked += sums_of(&case(&mut random, wanted).input());
+        }
+        assert!(checked > 1_000);
+    }
+}
+
+/// The sums of a case; how many hours there were.
+fn sums_of(input: &Input) -> usize {
+    let sections = Sections::of(&input.file).expect("an accepted case has its sections");
+    let version = sections.version();
+    let units: Vec<&[u8]> = sections.records(Section::Units).collect();
+    let events: Vec<&[u8]> = sections.records(Section::Events).collect();
+    let group = |event: &[u8]| {
+        let unit = sections.unit(Section::Events.unit_number(version, event));
+        u16_at(unit.expect("listed"), 2)
+    };
     let mut checked = 0;
-    for _ in 0..200 {
-        let input = case(&mut random, Wanted::of(Size::Small)).input();
-        let [units, _, _, events] = sections_of(&input.file);
-        let group = |unit: u16| {
-            let record = units.chunks(24).find(|record| u16_at(record, 0) == unit);
-            u16_at(record.expect("listed"), 2)
-        };
-        for (place, event) in events
-            .chunks(312)
-            .enumerate()
-            .filter(|(_, event)| event[0] <= 2)
-        {
-            let own = group(u16_at(event, 2));
-            let g: u64 = units
-                .chunks(24)
-                .filter(|record| event[0] == 1 && u16_at(record, 2) == own)
-                .map(|record| u64::from(u32_at(record, 8)))
+    let of_power = |(_, event): &(usize, &&[u8])| event[0] <= 2;
+    for (place, event) in events.iter().enumerate().filter(of_power) {
+        let own = group(event);
+        let g: u64 = units
+            .iter()
+            .filter(|record| event[0] == 1 && u16_at(record, 2) == own)
+            .map(|record| u64::from(u32_at(record, 8)))
+            .sum();
+        for hour in 0..24 {
+            let s: u64 = events
+                .iter()
+                .filter(|other| other[..2] == event[..2] && other[8..12] == event[8..12])
+                .filter(|other| group(other) == own)
+                .map(|other| u64::from(u32_at(other, 24 + 12 * hour)))
                 .sum();
-            for hour in 0..24 {
-                let s: u64 = events
-                    .chunks(312)
-                    .filter(|other| other[..2] == event[..2] && other[8..12] == event[8..12])
-                    .filter(|other| group(u16_at(other, 2)) == own)
-                    .map(|other| u64::from(u32_at(other, 24 + 12 * hour)))
-                    .sum();
-                let worked =
-                    working(&input.file, &input.correction, place, hour).expect("accepted");
-                assert_eq!((worked.s, worked.g), (s, g), "event {place}, hour {hour}");
-                checked += 1;
-            }
+            let worked = working(&input.file, &input.correction, place, hour).expect("accepted");
+            assert_eq!((worked.s, worked.g), (s, g), "event {place}, hour {hour}");
+            checked += 1;
         }
     }
-    assert!(checked > 1_000);
+    checked
 }
 
 #[test]
 fn refused_cases() {
-    let mut random = Random::new(703);
-    let wanted = Wanted {
-        every_kind: true,
-        ..Wanted::of(Size::Small)
-    };
-    let inputs: Vec<Input> = (0..20).map(|_| case(&mut random, wanted).input()).collect();
-    let (mut faults, mut refused) = (0, 0);
-    for fault in FAULTS.iter().filter(|fault| fault.number != 15) {
-        let before = refused;
-        for input in &inputs {
-            let mut faulty = input.clone();
-            if (fault.apply)(&mut faulty, &mut random).is_some() {
-                let worked = working(&faulty.file, &faulty.correction, 0, 0);
-                assert_eq!(worked, Err(Refused(fault.number)), "{}", fault.name);
+    for version in Version::ALL {
+        let mut random = Random::new(703);
+        let wanted = Wanted {
+            version,
+            every_kind: true,
+            ..Wanted::of(Size::Small)
+        };
+        let inputs: Vec<Input> = (0..20).map(|_| case(&mut random, wanted).input()).collect();
+        let (mut faults, mut refused, mut copies) = (0, 0, 0);
+        for fault in faults_in(version).filter(|fault| fault.number != 15) {
+            let before = refused;
+            for input in &inputs {
+                let mut faulty = input.clone();
+                if (fault.apply)(&mut faulty, &mut random).is_none() {
+                    continue;
+                }
+                let copy = faulty.version_2_copy();
+                copies += usize::from(copy.is_some());
+                for input in [Some(faulty), copy].into_iter().flatten() {
+                    let worked = working(&input.file, &input.correction, 0, 0);
+                    assert_eq!(worked, Err(Refused(fault.number)), "{}", fault.name);
+                }
                 refused += 1;
             }
+            assert!(refused > before, "no case for {}", fault.name);
+            faults += 1;
         }
-        assert!(refused > before, "no case for {}", fault.name);
-        faults += 1;
+        println!("{version:?}: {faults} faults, {refused} refused, {copies} of them copied");
     }
-    println!("{faults} faults, {refused} refused");
 }

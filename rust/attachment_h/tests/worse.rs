@@ -1,63 +1,104 @@
-//! Demand 3, run on the archive: after a list of worsening changes no flag is cleared, and no
+//! Demand 3, run on the archive in both versions: after a list of worsening changes no flag is cleared, and no
 //! multiplier, penalty or total of penalties falls. It is proved of the definitions; this is for what
-//! lies between them and the compiled code.
+//! lies between them and the compiled code. The same list makes of the version 2 copy the copy of what it makes of
+//! version 1.
 
 use attachment_h::{Cents, Refused, settle};
 use cases::case::ROW_BYTES;
 use cases::generator::case;
-use cases::worse::random_changes;
-use cases::{Random, Row, Size, Wanted};
+use cases::worse::{Change, apply, random_changes};
+use cases::{Input, Random, Row, Size, Version, Wanted};
 use second::fuel_party_days;
 
 /// The rows and the total of penalties.
-fn settled(file: &[u8], correction: &[u8], held: u8) -> Result<(Vec<Row>, Cents), Refused> {
+type After = (Vec<Row>, Cents);
+
+fn settled(file: &[u8], correction: &[u8], held: u8) -> Result<After, Refused> {
     let mut buffer = vec![held; 200 * ROW_BYTES];
     let settled = settle(file, correction, &mut buffer)?;
     Ok((Row::first(&buffer, settled.rows), settled.penalties))
 }
 
+/// Lists that were compared, their changes, those with a higher total, and those made in a copy too.
+#[derive(Debug, Default)]
+struct Lists {
+    compared: usize,
+    changes: usize,
+    risen: usize,
+    copied: usize,
+}
+
+impl Lists {
+    fn compare(&mut self, before: &After, after: &After, list: &[Change], what: &str) {
+        assert_eq!(before.0.len(), after.0.len(), "{what}");
+        assert!(before.1 <= after.1, "{what}: {list:?}");
+        for (before, after) in before.0.iter().zip(&after.0) {
+            assert_eq!(before.flags.0 & !after.flags.0, 0, "{what}: {list:?}");
+            assert!(before.multiplier <= after.multiplier, "{what}: {list:?}");
+            assert!(before.penalty <= after.penalty, "{what}: {list:?}");
+        }
+        self.compared += 1;
+        self.changes += list.len();
+        self.risen += usize::from(before.1 < after.1);
+    }
+
+    /// The list on the version 2 copy, which has the same rows before it, and after it those of the changed file.
+    fn copy(&mut self, input: &Input, changed: &Input, list: &[Change], after: &After, what: &str) {
+        let (Some(copy), Some(changed_copy)) = (input.version_2_copy(), changed.version_2_copy())
+        else {
+            return;
+        };
+        let make = |file: Vec<u8>, change| apply(&file, change).expect("a worsening change");
+        let file = list.iter().fold(copy.file, make);
+        assert!(file == changed_copy.file, "{what}: {list:?}");
+        let of_the_copy = settled(&file, &copy.correction, 0x5A);
+        assert_eq!(of_the_copy.as_ref(), Ok(after), "{what}: {list:?}");
+        self.copied += 1;
+    }
+}
+
 #[test]
 fn lists_of_changes() {
-    let mut random = Random::new(401);
-    let (mut compared, mut changes, mut risen) = (0, 0, 0);
-    for place in 0..3_000 {
-        let size = match place % 30 {
-            0 => Size::Full,
-            1..=9 => Size::Medium,
-            _ => Size::Small,
-        };
-        let wanted = Wanted {
-            fuel_not_negative: true,
-            ..Wanted::of(size)
-        };
-        let input = case(&mut random, wanted).input();
-        let premise = fuel_party_days(&input.file, &input.correction)
-            .expect("generated cases are accepted")
-            .iter()
-            .all(|day| day.e >= 0);
-        assert!(premise, "case {place}");
-        let before = settled(&input.file, &input.correction, 0x00).expect("accepted");
-        for most in [1, 4, 40] {
-            let (list, file) = random_changes(&input.file, most, &mut random);
-            // A change may make a case that is refused: nothing is said of it.
-            let Ok(after) = settled(&file, &input.correction, 0xFF) else {
-                continue;
+    for version in Version::ALL {
+        let mut random = Random::new(401);
+        let mut lists = Lists::default();
+        for place in 0..3_000 {
+            let size = match place % 30 {
+                0 => Size::Full,
+                1..=9 => Size::Medium,
+                _ => Size::Small,
             };
-            assert_eq!(before.0.len(), after.0.len(), "case {place}");
-            assert!(before.1 <= after.1, "case {place}: {list:?}");
-            for (before, after) in before.0.iter().zip(&after.0) {
-                assert_eq!(before.flags.0 & !after.flags.0, 0, "case {place}: {list:?}");
-                assert!(
-                    before.multiplier <= after.multiplier,
-                    "case {place}: {list:?}"
-                );
-                assert!(before.penalty <= after.penalty, "case {place}: {list:?}");
-            }
-            compared += 1;
-            changes += list.len();
-            risen += usize::from(before.1 < after.1);
+            let wanted = Wanted {
+                version,
+                fuel_not_negative: true,
+                ..Wanted::of(size)
+            };
+            let input = case(&mut random, wanted).input();
+            let what = format!("{version:?}, case {place}");
+            lists_of_a_case(&input, &mut random, &mut lists, &what);
         }
+        println!("{version:?}: {lists:?}");
+        assert!(lists.compared > 3_000 && lists.risen > 500);
+        assert_eq!(lists.copied > 3_000, version == Version::One);
     }
-    println!("{compared} lists of {changes} changes, {risen} with a higher total");
-    assert!(compared > 3_000 && risen > 500);
+}
+
+/// Some lists of changes of a case under the premise.
+fn lists_of_a_case(input: &Input, random: &mut Random, lists: &mut Lists, what: &str) {
+    let days = fuel_party_days(&input.file, &input.correction).expect("accepted");
+    assert!(days.iter().all(|day| day.e >= 0), "{what}");
+    let before = settled(&input.file, &input.correction, 0x00).expect("accepted");
+    for most in [1, 4, 40] {
+        let (list, file) = random_changes(&input.file, most, random);
+        let changed = Input {
+            file,
+            ..input.clone()
+        };
+        // A change may make a case that is refused: nothing is said of it.
+        let Ok(after) = settled(&changed.file, &changed.correction, 0xFF) else {
+            continue;
+        };
+        lists.compare(&before, &after, &list, what);
+        lists.copy(input, &changed, &list, &after, what);
+    }
 }

@@ -1,13 +1,14 @@
 //! Times of the proved check and settlement, beside a plain copy of the same bytes and beside the second
 //! implementation: one process, the best of many rounds, seeded. Single cases are timed again and again;
 //! forty generated ones also in turn, since the processor's branch predictor learns a case that comes
-//! again at once.
+//! again at once. Cases of version 2 are timed beside the same case in version 1, its units numbered through.
 //!
 //!     rt staticlib api
 //!     cargo run --release --offline --locked -p bench [rounds [proved]]
 //!
 //! With `proved` a line is a case's name and the times of the proved check and settlement, in
-//! microseconds and with tabs between them: what scripts/compare reads.
+//! microseconds and with tabs between them, and of version 2 also those of the same case in version 1:
+//! what scripts/compare reads.
 
 mod shapes;
 mod times;
@@ -15,8 +16,9 @@ mod times;
 use std::env;
 use std::slice;
 
-use cases::growth::{CASES, SEED, STEPS, full_cases, with_events};
-use cases::{Generated, Input};
+use attachment_h::check;
+use cases::growth::{CASES, SEED, STEPS, full_cases_in, with_events};
+use cases::{Case, Generated, Input, Version};
 use times::{Calls, Times, proved};
 
 const ROUNDS: usize = 400;
@@ -28,26 +30,41 @@ fn main() {
         Some(rounds) => rounds.parse().expect("a number of rounds"),
     };
     match words.next().as_deref() {
-        None => print_tables(rounds),
+        None => {
+            for version in read_versions() {
+                print_tables(version, rounds);
+            }
+            print_pairs(rounds);
+        }
         Some("proved") => print_proved(rounds),
         Some(word) => panic!("{word} is not `proved`"),
     }
 }
 
-fn print_tables(rounds: usize) {
-    let full = full_cases();
-    println!("seed {SEED}, best of {rounds}, in microseconds; second is the second implementation");
+/// The versions that the archive reads: an older one may not read version 2.
+fn read_versions() -> Vec<Version> {
+    let empty = |version| Case::default().in_version(version).to_bytes();
+    let reads = |&version: &Version| check(&empty(version), &[], 0).is_ok();
+    Version::ALL.into_iter().filter(reads).collect()
+}
+
+fn print_tables(version: Version, rounds: usize) {
+    let full = full_cases_in(version);
+    let name = version.number();
+    println!(
+        "version {name}, seed {SEED}, best of {rounds}, in microseconds; second is the second implementation"
+    );
     Times::print_head();
-    for (name, input) in shapes::all(&full) {
-        Times::of(rounds, slice::from_ref(&input)).print(&name);
+    for (name, shape) in shapes::all(version, &full) {
+        Times::of(rounds, slice::from_ref(&shape.input())).print(&name);
     }
     let last = CASES - 1;
     println!();
     println!(
-        "seed {SEED}, cases 0 to {last} in turn, best of {rounds}, in microseconds for a case"
+        "version {name}, seed {SEED}, cases 0 to {last} in turn, best of {rounds}, in microseconds for a case"
     );
     Times::print_head();
-    let steps = STEPS.map(|events| Times::of(rounds, &step(&full, events)));
+    let steps = STEPS.map(|events| Times::of(rounds, &inputs(&step(&full, events))));
     let [fewest, .., most] = &steps;
     most.print("in turn");
     println!();
@@ -65,25 +82,76 @@ fn print_tables(rounds: usize) {
         most.second.check / fewest.second.check,
         most.second.settle / fewest.second.settle,
     );
+    println!();
 }
 
-fn print_proved(rounds: usize) {
-    let full = full_cases();
-    let shapes = shapes::all(&full)
+/// Every case of a version that is timed, with its name: single ones, then those in turn.
+fn timed(version: Version) -> Vec<(String, Vec<Generated>)> {
+    let full = full_cases_in(version);
+    let shapes = shapes::all(version, &full)
         .into_iter()
-        .map(|(name, input)| (name, vec![input]));
+        .map(|(name, shape)| (name, vec![shape]));
     let steps = STEPS
         .iter()
         .map(|&events| (format!("in turn, {events}"), step(&full, events)));
-    for (name, inputs) in shapes.chain(steps) {
-        let Calls { check, settle } = proved(rounds, &inputs);
+    shapes.chain(steps).collect()
+}
+
+/// The times of a version 2 case and of the same case in version 1.
+fn pair(rounds: usize, cases: &[Generated]) -> [Calls; 2] {
+    let through: Vec<Generated> = cases.iter().map(Generated::numbered_through).collect();
+    [cases, &through].map(|cases| proved(rounds, &inputs(cases)))
+}
+
+/// Cases of version 2 beside the same cases in version 1.
+fn print_pairs(rounds: usize) {
+    if !read_versions().contains(&Version::Two) {
+        println!("this archive does not read version 2");
+        return;
+    }
+    println!("version 2 beside the same case in version 1, best of {rounds}, in microseconds");
+    println!(
+        "{:>12} {:>7} {:>7} {:>6} {:>8} {:>8} {:>6}",
+        "case", "check", "of 1", "ratio", "settle", "of 1", "ratio"
+    );
+    for (name, cases) in timed(Version::Two) {
+        let [two, one] = pair(rounds, &cases);
+        println!(
+            "{name:>12} {:>7.2} {:>7.2} {:>6.3} {:>8.2} {:>8.2} {:>6.3}",
+            two.check,
+            one.check,
+            two.check / one.check,
+            two.settle,
+            one.settle,
+            two.settle / one.settle,
+        );
+    }
+}
+
+fn print_proved(rounds: usize) {
+    for (name, cases) in timed(Version::One) {
+        let Calls { check, settle } = proved(rounds, &inputs(&cases));
         println!("{name}\t{check:.4}\t{settle:.4}");
+    }
+    if !read_versions().contains(&Version::Two) {
+        return;
+    }
+    for (name, cases) in timed(Version::Two) {
+        let [two, one] = pair(rounds, &cases);
+        println!(
+            "{name}\t{:.4}\t{:.4}\t{:.4}\t{:.4}",
+            two.check, two.settle, one.check, one.settle
+        );
     }
 }
 
 /// The cases with so many of their events.
-fn step(full: &[Generated], events: usize) -> Vec<Input> {
+fn step(full: &[Generated], events: usize) -> Vec<Generated> {
     full.iter()
-        .map(|generated| with_events(generated, events).input())
+        .map(|generated| with_events(generated, events))
         .collect()
+}
+
+fn inputs(cases: &[Generated]) -> Vec<Input> {
+    cases.iter().map(Generated::input).collect()
 }

@@ -1,55 +1,73 @@
-//! The single cases: generated ones, the shipped one, and shapes that hold one kind or the longest ways.
+//! The single cases: generated ones, the shipped one, and shapes that hold one kind or the longest ways. A full file of
+//! version 2 has room for fewer units and references beside its 200 events, so that its shapes are their own.
 
-use cases::case::{EVERY_HOUR, LARGEST_FILE};
+use cases::case::{EVERY_HOUR, LARGEST_FILE, Version};
 use cases::growth::STEPS;
-use cases::{Case, Component, Event, Generated, Input, Kind, Market, Past, Reference, Unit};
+use cases::{Case, Component, Event, Generated, Kind, Market, Past, Reference, Unit};
 
 /// How many of the generated cases are timed alone.
 const ALONE: usize = 5;
 
-/// Every single case with its name, the generated ones from `full`.
-pub fn all(full: &[Generated]) -> Vec<(String, Input)> {
+/// Every single case of a version with its name, the generated ones from `full`.
+pub fn all(version: Version, full: &[Generated]) -> Vec<(String, Generated)> {
     let mut shapes: Vec<_> = full[..ALONE]
         .iter()
         .enumerate()
-        .map(|(place, generated)| (format!("generated {place}"), generated.input()))
+        .map(|(place, generated)| (format!("generated {place}"), generated.clone()))
         .collect();
-    shapes.push(("last unit".to_string(), bids_of_the_last_unit()));
-    shapes.push(("worked".to_string(), worked_example()));
+    shapes.push(("last unit".to_string(), bids_of_the_last_unit(version)));
+    shapes.push(("worked".to_string(), worked_example(version)));
     for kind in 1..=4 {
         for count in STEPS {
-            let shape = one_kind(kind, count as u16);
+            let shape = one_kind(version, kind, count as u32);
             shapes.push((format!("kind {kind}, {count}"), shape));
         }
     }
-    shapes.push(("mixed 200".to_string(), mixed()));
+    shapes.push(("mixed 200".to_string(), mixed(version)));
     shapes
 }
 
+/// The number of the unit at a place: in version 2 it has six digits.
+fn number(version: Version, place: u32) -> u32 {
+    match version {
+        Version::One => place,
+        Version::Two => 900_000 + place,
+    }
+}
+
+/// A case with no correction, its events in order.
+fn without_correction(mut case: Case) -> Generated {
+    case.sort_events();
+    Generated {
+        case,
+        correction: Vec::new(),
+    }
+}
+
 /// The shipped case: one withheld event.
-fn worked_example() -> Input {
-    let unit = |unit, capability| Unit {
-        unit,
+fn worked_example(version: Version) -> Generated {
+    let unit = |place, capability| Unit {
+        unit: number(version, place),
         group: 1,
         capability,
         ..Unit::default()
     };
-    let case = Case {
+    let cells = [(0, 501, 4_000)];
+    without_correction(Case {
+        version,
         units: vec![unit(12, 5_000), unit(13, 15_000)],
-        references: Vec::new(),
-        past: Vec::new(),
         events: vec![Event::withheld(
             8_000,
             Market::DAY_AHEAD,
-            12,
-            &[(0, 501, 4_000)],
+            number(version, 12),
+            &cells,
         )],
-    };
-    Input::new(&case, &[])
+        ..Case::default()
+    })
 }
 
 /// An event of a kind in every hour; of kind 4, component by component.
-fn event(kind: u8, day: u32, unit: u16, component: u8) -> Event {
+fn event(kind: u8, day: u32, unit: u32, component: u8) -> Event {
     let hours = 0..24;
     match kind {
         1 => {
@@ -71,55 +89,66 @@ fn event(kind: u8, day: u32, unit: u16, component: u8) -> Event {
     }
 }
 
-/// One group's events of one kind: 64 units to a day, the largest party-days there can be; of kind 4 all
-/// nine components of up to 23 units, beside more units and references and a past entry, so that 200 of
-/// them are a file of exactly 65,000 bytes.
-fn one_kind(kind: u8, count: u16) -> Input {
-    let (units, references, past) = if kind == 4 { (27, 238, 1) } else { (64, 0, 0) };
-    let place = |i: u16| {
+/// One group's events of one kind: as many units to a day as fit, the largest party-days there can be; of kind 4 all
+/// nine components of unit after unit, day after day, beside as many references and past entries that 200 of them are a
+/// file of exactly 65,000 bytes.
+fn one_kind(version: Version, kind: u8, count: u32) -> Generated {
+    let (units, references, past) = match (kind, version) {
+        (4, Version::One) => (27, 238, 1),
+        (4, Version::Two) => (12, 108, 11),
+        (_, Version::One) => (64, 0, 0),
+        (_, Version::Two) => (63, 0, 0),
+    };
+    let place = |i: u32| {
         if kind == 4 {
-            (0, i / 9, (i % 9) as u8)
+            (i / references, i % references / 9, (i % 9) as u8)
         } else {
-            (u32::from(i / 64), i % 64, 0)
+            (i / units, i % units, 0)
         }
     };
-    let mut case = Case {
-        units: units_of(units, 1),
-        references: references_of(references),
+    let shape = without_correction(Case {
+        version,
+        units: units_of(version, units, 1),
+        references: references_of(version, references),
         past: past_of(past),
         events: (0..count)
             .map(|i| {
                 let (day, unit, component) = place(i);
-                event(kind, day, unit, component)
+                event(kind, day, number(version, unit), component)
             })
             .collect(),
-    };
-    case.sort_events();
-    let input = Input::new(&case, &[]);
-    assert!(kind != 4 || count != 200 || input.file.len() == LARGEST_FILE);
-    input
+    });
+    let fills = count == 200 && (kind == 4 || version == Version::Two);
+    assert!(!fills || shape.input().file.len() == LARGEST_FILE);
+    shape
 }
 
-/// 200 events over 10 days and 4 groups of 5 units, with every kind in every group on every day.
-fn mixed() -> Input {
-    let mut case = Case {
-        units: units_of(20, 4),
-        references: references_of(20 * 9),
-        past: Vec::new(),
-        events: (0..200u16)
-            .map(|i| event((i % 4 + 1) as u8, u32::from(i / 20), i % 20, (i % 9) as u8))
-            .collect(),
+/// 200 events over days of one each of 20 units in 4 groups, in version 2 of 12 in 3, with every kind in every group on
+/// every day.
+fn mixed(version: Version) -> Generated {
+    let (units, groups) = match version {
+        Version::One => (20, 4),
+        Version::Two => (12, 3),
     };
-    case.sort_events();
-    Input::new(&case, &[])
+    let of = |i: u32| {
+        let unit = number(version, i % units);
+        event((i % 4 + 1) as u8, i / units, unit, (i % 9) as u8)
+    };
+    without_correction(Case {
+        version,
+        units: units_of(version, units, groups),
+        references: references_of(version, 9 * units),
+        events: (0..200).map(of).collect(),
+        ..Case::default()
+    })
 }
 
 /// Units in groups of neighbours.
-fn units_of(count: u16, groups: u16) -> Vec<Unit> {
+fn units_of(version: Version, count: u32, groups: u32) -> Vec<Unit> {
     (0..count)
-        .map(|unit| Unit {
-            unit,
-            group: unit * groups / count,
+        .map(|place| Unit {
+            unit: number(version, place),
+            group: (place * groups / count) as u16,
             capability: 5_000,
             ..Unit::default()
         })
@@ -138,56 +167,49 @@ fn past_of(count: usize) -> Vec<Past> {
     vec![entry; count]
 }
 
+fn reference(version: Version, place: u32, component: u8) -> Reference {
+    Reference {
+        unit: number(version, place),
+        component: Component(component),
+        value: 1_000,
+    }
+}
+
 /// References of all nine components of one unit after the other.
-fn references_of(count: u16) -> Vec<Reference> {
+fn references_of(version: Version, count: u32) -> Vec<Reference> {
     (0..count)
-        .map(|place| Reference {
-            unit: place / 9,
-            component: Component((place % 9) as u8),
-            value: 1_000,
-        })
+        .map(|place| reference(version, place / 9, (place % 9) as u8))
         .collect()
 }
 
-/// 200 bids of the last of 64 units on all nine components, with 127 references and 256 corrections: the
-/// longest way to every unit and reference. A past entry fills the 65,000 bytes.
-fn bids_of_the_last_unit() -> Input {
-    let references = |count: u16| -> Vec<Reference> {
-        let reference = |unit, component| Reference {
-            unit,
-            component: Component(component),
-            value: 1_000,
-        };
-        let last = (0..9).map(|component| reference(63, component));
-        (0..count - 9)
-            .map(|place| reference(place / 9, (place % 9) as u8))
-            .chain(last)
-            .collect()
+/// 200 bids of the last of 64 units on all nine components, with 127 references and 256 corrections, in version 2 of the
+/// last of 48 with 34 references: the longest way to every unit and reference. A past entry fills the 65,000 bytes.
+fn bids_of_the_last_unit(version: Version) -> Generated {
+    let (units, references) = match version {
+        Version::One => (64, 127),
+        Version::Two => (48, 34),
     };
-    let case = Case {
-        units: (0..64)
-            .map(|unit| Unit {
-                unit,
-                capability: 5_000,
-                ..Unit::default()
-            })
-            .collect(),
-        references: references(127),
-        past: past_of(1),
-        events: (0..200)
-            .map(|place| {
-                Event::bids(
-                    place / 9,
-                    Market::DAY_AHEAD,
-                    63,
-                    (place % 9) as u8,
-                    1_000,
-                    &[],
-                )
-            })
-            .collect(),
+    let last = units - 1;
+    let references_to = |count: u32| -> Vec<Reference> {
+        let of_the_last = (0..9).map(|component| reference(version, last, component));
+        let before = references_of(version, count - 9);
+        before.into_iter().chain(of_the_last).collect()
     };
-    let input = Input::new(&case, &references(256));
-    assert_eq!(input.file.len(), LARGEST_FILE);
-    input
+    let bids = |place: u32| {
+        let (day, component) = (place / 9, (place % 9) as u8);
+        let unit = number(version, last);
+        Event::bids(day, Market::DAY_AHEAD, unit, component, 1_000, &[])
+    };
+    let shape = Generated {
+        case: Case {
+            version,
+            units: units_of(version, units, 1),
+            references: references_to(references),
+            past: past_of(1),
+            events: (0..200).map(bids).collect(),
+        },
+        correction: references_to(256),
+    };
+    assert_eq!(shape.input().file.len(), LARGEST_FILE);
+    shape
 }

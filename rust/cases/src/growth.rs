@@ -1,6 +1,6 @@
 //! The generated cases that the benchmark times in turn, and the same cases with fewer events.
 
-use crate::case::Case;
+use crate::case::{Case, Version};
 use crate::generator::{Generated, Size, Wanted, case};
 use crate::random::Random;
 
@@ -11,12 +11,16 @@ pub const CASES: usize = 40;
 /// The numbers of events; the last is a full case's.
 pub const STEPS: [usize; 4] = [25, 50, 100, 200];
 
-/// The first full cases of the seed.
+/// The first full version 1 cases of the seed.
 pub fn full_cases() -> Vec<Generated> {
+    full_cases_in(Version::One)
+}
+
+/// The first full cases of a version, of the seed.
+pub fn full_cases_in(version: Version) -> Vec<Generated> {
     let mut random = Random::new(SEED);
-    (0..CASES)
-        .map(|_| case(&mut random, Wanted::of(Size::Full)))
-        .collect()
+    let wanted = Wanted::of(Size::Full).in_version(version);
+    (0..CASES).map(|_| case(&mut random, wanted)).collect()
 }
 
 /// A case with `count` of its events, evenly spread over them; units, references, past entries and the

@@ -1,6 +1,6 @@
 //! Cases for tests and benchmarks of the Attachment H settlement.
 //!
-//! - [`case`]: a case as typed records, and its bytes.
+//! - [`case`]: a case as typed records, and its bytes in either version of the case file.
 //! - [`generator`]: random cases that break nothing, and random bytes.
 //! - [`growth`]: the cases that the benchmark times in turn, by their number of events.
 //! - [`faults`]: faults of every number, as functions on bytes.
@@ -15,7 +15,7 @@ pub mod random;
 pub mod worse;
 
 pub use attachment_h::{Component, Kind, Market, Row};
-pub use case::{Case, Conduct, Event, Input, Past, Reference, Unit};
+pub use case::{Case, Conduct, Event, Input, Past, Reference, Unit, Version};
 pub use generator::{Generated, Size, Wanted};
 pub use random::Random;
 pub use worse::Change;

@@ -1,10 +1,10 @@
-//! Worse conduct: the changes of demand 3, as functions on the bytes of a file.
+//! Worse conduct: the changes of demand 3, as functions on the bytes of a file of either version.
 
 use attachment_h::{Component, Kind, Market};
 
 use crate::case::{
-    CELL_BYTES, EVENT_BYTES, EVENT_HEAD_BYTES, PAST_BYTES, Past, UNIT_BYTES, put_u32,
-    section_place, u16_at, u32_at,
+    CELL_BYTES, EVENT_HEAD_BYTES, LARGEST_FILE, PAST_BYTES, Past, Section, put_u32, section_place,
+    u16_at, u32_at, version_of,
 };
 use crate::generator::bid_limits;
 use crate::random::Random;
@@ -78,9 +78,16 @@ pub fn add_past_entry(file: &[u8], place: usize, entry: &[u8]) -> Option<Vec<u8>
     Some(changed)
 }
 
+/// How many records a section has, and the offset of one of them.
+fn records(file: &[u8], section: Section) -> (usize, impl Fn(usize) -> usize) {
+    let (offset, length) = section_place(file, section as usize);
+    let width = section.width(version_of(file));
+    (length / width, move |record| offset + width * record)
+}
+
 fn event_offset(file: &[u8], event: usize) -> Option<usize> {
-    let (offset, length) = section_place(file, 3);
-    (event < length / EVENT_BYTES).then(|| offset + EVENT_BYTES * event)
+    let (events, offset) = records(file, Section::Events);
+    (event < events).then(|| offset(event))
 }
 
 fn cell_offset(record: usize, hour: usize) -> Option<usize> {
@@ -91,8 +98,7 @@ fn cell_offset(record: usize, hour: usize) -> Option<usize> {
 ///
 /// Most changes leave an accepted file accepted; a few make a fault, which then stays.
 pub fn random_change(file: &[u8], random: &mut Random) -> Option<Change> {
-    let (_, event_bytes) = section_place(file, 3);
-    let events = event_bytes / EVENT_BYTES;
+    let (events, _) = records(file, Section::Events);
     if events == 0 || random.chance(1, 4) {
         return random_entry(file, random);
     }
@@ -104,7 +110,8 @@ pub fn random_change(file: &[u8], random: &mut Random) -> Option<Change> {
     let beyond = random.chance(1, 200);
     let a = match kind {
         1 | 2 => {
-            let capability = capability_of(file, u16_at(file, record + 2))?;
+            let unit = Section::Events.unit_number(version_of(file), &file[record..]);
+            let capability = capability_of(file, unit)?;
             if beyond {
                 random.pick(&[capability + 1, u32::MAX])
             } else {
@@ -144,30 +151,28 @@ pub fn random_change(file: &[u8], random: &mut Random) -> Option<Change> {
     is_worse(kind, component, old, a).then_some(Change::Hour { event, hour, a })
 }
 
-fn capability_of(file: &[u8], unit: u16) -> Option<u32> {
-    let (offset, length) = section_place(file, 0);
-    (offset..offset + length)
-        .step_by(UNIT_BYTES)
-        .find(|&record| u16_at(file, record) == unit)
+fn capability_of(file: &[u8], unit: u32) -> Option<u32> {
+    let (units, offset) = records(file, Section::Units);
+    let version = version_of(file);
+    (0..units)
+        .map(offset)
+        .find(|&record| Section::Units.unit_number(version, &file[record..]) == unit)
         .map(|record| u32_at(file, record + 8))
 }
 
 /// A past entry of an event's group, in or near its windows.
 fn random_entry(file: &[u8], random: &mut Random) -> Option<Change> {
-    let (_, past_bytes) = section_place(file, 2);
-    let (units_offset, units_bytes) = section_place(file, 0);
-    let (events_offset, event_bytes) = section_place(file, 3);
-    let entries = past_bytes / PAST_BYTES;
+    let (entries, _) = records(file, Section::Past);
+    let (units, unit_offset) = records(file, Section::Units);
+    let (events, event_offset) = records(file, Section::Events);
     // Seldom one entry too many, which is a fault.
-    if (entries >= 256 || file.len() + PAST_BYTES > 65_000) && !random.chance(1, 20) {
+    if (entries >= 256 || file.len() + PAST_BYTES > LARGEST_FILE) && !random.chance(1, 20) {
         return None;
     }
-    let units = units_bytes / UNIT_BYTES;
-    let events = event_bytes / EVENT_BYTES;
     let (day, period, market) = if events == 0 {
         (0, 0, 0)
     } else {
-        let record = events_offset + EVENT_BYTES * random.below(events);
+        let record = event_offset(random.below(events));
         (
             i64::from(u32_at(file, record + 8)),
             i64::from(u16_at(file, record + 4)),
@@ -177,7 +182,7 @@ fn random_entry(file: &[u8], random: &mut Random) -> Option<Change> {
     let group = if units == 0 || random.chance(1, 20) {
         random.between(0, 65_535) as u16
     } else {
-        u16_at(file, units_offset + UNIT_BYTES * random.below(units) + 2)
+        u16_at(file, unit_offset(random.below(units)) + 2)
     };
     let kind = if random.chance(1, 100) {
         Kind::DISPATCH

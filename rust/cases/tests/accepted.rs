@@ -1,48 +1,54 @@
-//! Generated cases are accepted, and reach what they are meant to reach.
+//! Generated cases of both versions are accepted, and so are the version 2 copies of version 1.
 
 use cases::case::{LARGEST_FILE, ROW_BYTES};
-use cases::generator::{any_case, case, random_bytes};
-use cases::{Component, Kind, Market, Random, Row, Size, Wanted};
+use cases::generator::{any_case_in, case, random_bytes_in};
+use cases::{Component, Kind, Market, Random, Row, Size, Version, Wanted};
 use second::{Outcome, listing, refusal, settle};
 
 #[test]
 fn generated_cases_are_accepted() {
-    let mut random = Random::new(1);
-    let count = 4_000;
-    let mut refused = Vec::new();
-    for place in 0..count {
-        let generated = any_case(&mut random);
-        let input = generated.input();
-        let number = refusal(&input.file, &input.correction, input.rows_len);
-        if number != 0 {
-            refused.push((place, number));
+    for version in Version::ALL {
+        let mut random = Random::new(1);
+        let mut copies = 0;
+        for place in 0..4_000 {
+            let input = any_case_in(version, &mut random).input();
+            let copy = input.version_2_copy();
+            copies += usize::from(copy.is_some());
+            for input in [Some(input), copy].into_iter().flatten() {
+                let number = refusal(&input.file, &input.correction, input.rows_len);
+                assert_eq!(number, 0, "{version:?}, case {place}");
+            }
         }
+        assert_eq!(copies > 3_500, version == Version::One);
     }
-    assert!(
-        refused.is_empty(),
-        "{} of {count}: {refused:?}",
-        refused.len()
-    );
 }
 
 #[test]
 fn full_cases_have_200_events_in_65000_bytes() {
-    let mut random = Random::new(2);
-    for _ in 0..300 {
-        let generated = case(&mut random, Wanted::of(Size::Full));
-        let input = generated.input();
-        assert_eq!(generated.case.events.len(), 200);
-        assert_eq!(input.file.len(), LARGEST_FILE);
-        assert_eq!(refusal(&input.file, &input.correction, input.rows_len), 0);
+    for version in Version::ALL {
+        let mut random = Random::new(2);
+        for _ in 0..300 {
+            let generated = case(&mut random, Wanted::of(Size::Full).in_version(version));
+            let input = generated.input();
+            assert_eq!(generated.case.events.len(), 200);
+            assert_eq!(input.file.len(), LARGEST_FILE);
+            assert_eq!(refusal(&input.file, &input.correction, input.rows_len), 0);
+        }
     }
 }
 
 #[test]
 fn random_bytes_are_refused_or_settled() {
+    random_bytes_of(Version::One, &[0, 1, 2, 4, 6, 8, 10]);
+    random_bytes_of(Version::Two, &[0, 1, 2, 4, 6, 8, 10, 17]);
+}
+
+/// Random bytes of a version, which have all these numbers.
+fn random_bytes_of(version: Version, reached: &[usize]) {
     let mut random = Random::new(3);
-    let mut numbers = [0; 16];
+    let mut numbers = [0; 18];
     for _ in 0..6_000 {
-        let input = random_bytes(&mut random);
+        let input = random_bytes_in(version, &mut random);
         let number = refusal(&input.file, &input.correction, input.rows_len);
         numbers[usize::from(number)] += 1;
         let mut rows = vec![0x5A; input.rows_len];
@@ -57,8 +63,8 @@ fn random_bytes_are_refused_or_settled() {
             }
         }
     }
-    println!("refusals by number: {numbers:?}");
-    for number in [0, 1, 2, 4, 6, 8, 10] {
+    println!("{version:?}, refusals by number: {numbers:?}");
+    for &number in reached {
         assert!(numbers[number] > 0, "{number}");
     }
 }
@@ -66,8 +72,8 @@ fn random_bytes_are_refused_or_settled() {
 #[test]
 fn rows_do_not_depend_on_what_the_buffer_held() {
     let mut random = Random::new(11);
-    for _ in 0..400 {
-        let input = any_case(&mut random).input();
+    for place in 0..400 {
+        let input = any_case_in(Version::ALL[place % 2], &mut random).input();
         let mut first = vec![0x00; input.rows_len + 40];
         let mut second = vec![0xFF; input.rows_len + 40];
         assert_eq!(
@@ -83,8 +89,8 @@ fn rows_do_not_depend_on_what_the_buffer_held() {
 #[test]
 fn listings_say_what_the_rows_say() {
     let mut random = Random::new(12);
-    for _ in 0..400 {
-        let generated = any_case(&mut random);
+    for place in 0..400 {
+        let generated = any_case_in(Version::ALL[place % 2], &mut random);
         let input = generated.input();
         let mut buffer = vec![0; input.rows_len];
         let outcome = settle(&input.file, &[], &mut buffer);

@@ -3,8 +3,9 @@
 
 use std::collections::{BTreeMap, BTreeSet, HashMap};
 
-use cases::generator::{any_case, case};
-use cases::{Component, Conduct, Generated, Kind, Market, Random, Row, Size, Unit, Wanted};
+use cases::generator::{any_case_in, case};
+use cases::{Component, Conduct, Generated, Kind, Market, Random, Row, Size, Unit};
+use cases::{Version, Wanted};
 use second::{Outcome, fuel_party_days, settle};
 
 /// Counts by what was reached.
@@ -29,7 +30,7 @@ impl Reached {
     }
 }
 
-fn unit_of(generated: &Generated, number: u16) -> &Unit {
+fn unit_of(generated: &Generated, number: u32) -> &Unit {
     generated
         .case
         .units
@@ -67,13 +68,13 @@ fn reach(reached: &mut Reached, generated: &Generated) {
     let outcome = settle(&input.file, &input.correction, &mut buffer);
     assert!(matches!(outcome, Outcome::Settled { .. }));
     let rows = Row::first(&buffer, generated.case.events.len());
-    let references: HashMap<(u16, Component), i64> = generated
+    let references: HashMap<(u32, Component), i64> = generated
         .case
         .references
         .iter()
         .map(|entry| ((entry.unit, entry.component), i64::from(entry.value)))
         .collect();
-    let corrections: HashMap<(u16, Component), i64> = generated
+    let corrections: HashMap<(u32, Component), i64> = generated
         .correction
         .iter()
         .map(|entry| ((entry.unit, entry.component), i64::from(entry.value)))
@@ -108,7 +109,7 @@ fn reach(reached: &mut Reached, generated: &Generated) {
     reached.add_if(generated.case.events.is_empty(), "no events");
 
     let sums = sums(generated);
-    let mut time_sums: HashMap<(u16, u32, Market), [i64; 24]> = HashMap::new();
+    let mut time_sums: HashMap<(u32, u32, Market), [i64; 24]> = HashMap::new();
     for event in &generated.case.events {
         if let Conduct::Bids {
             component, hours, ..
@@ -422,19 +423,38 @@ fn reach(reached: &mut Reached, generated: &Generated) {
 
 #[test]
 fn generated_cases_reach_every_edge() {
+    reach_every_edge(Version::One);
+}
+
+#[test]
+fn generated_cases_of_version_2_reach_every_edge() {
+    reach_every_edge(Version::Two);
+}
+
+fn reach_every_edge(version: Version) {
     let mut random = Random::new(10);
     let mut reached = Reached::default();
     for _ in 0..4_000 {
-        let generated = any_case(&mut random);
+        let generated = any_case_in(version, &mut random);
         reach(&mut reached, &generated);
     }
     for _ in 0..60 {
-        reach(&mut reached, &case(&mut random, Wanted::of(Size::Full)));
+        let wanted = Wanted::of(Size::Full).in_version(version);
+        reach(&mut reached, &case(&mut random, wanted));
     }
     for (what, times) in &reached.0 {
         println!("{times:8} {what}");
     }
+    let expected = edges();
+    println!("{version:?}: {} edges", expected.len());
+    for what in expected {
+        let times = reached.0.get(&what).copied().unwrap_or(0);
+        assert!(times >= 10, "{version:?}, {what}: {times}");
+    }
+}
 
+/// What generated cases have to reach.
+fn edges() -> Vec<String> {
     let mut expected: Vec<String> = [
         "correction: empty",
         "correction: equal to own",
@@ -561,9 +581,5 @@ fn generated_cases_reach_every_edge() {
         expected.push(format!("fuel: penalty {before} days before"));
         expected.push(format!("fuel: cut penalty {before} days before"));
     }
-    println!("{} edges", expected.len());
-    for what in expected {
-        let times = reached.0.get(&what).copied().unwrap_or(0);
-        assert!(times >= 10, "{what}: {times}");
-    }
+    expected
 }

@@ -1,15 +1,16 @@
-//! Every fault gives its number, and every pair of faults the lower one.
+//! In both versions every fault gives its number, and every pair of faults the one that is checked first.
 
 use std::collections::BTreeMap;
 
-use cases::faults::FAULTS;
+use cases::faults::{CHECKED, faults_in, faults_of, numbers_in, pairs_in};
 use cases::generator::case;
-use cases::{Input, Random, Size, Wanted};
+use cases::{Input, Random, Size, Version, Wanted};
 use second::refusal;
 
 /// A good case with records in every section and events of every kind.
-fn good(random: &mut Random) -> Input {
+fn good(version: Version, random: &mut Random) -> Input {
     let wanted = Wanted {
+        version,
         every_kind: true,
         ..Wanted::of(Size::Small)
     };
@@ -28,70 +29,88 @@ fn number(input: &Input) -> u8 {
 
 #[test]
 fn each_fault_gives_its_number() {
-    let mut random = Random::new(4);
-    let mut times = vec![0; FAULTS.len()];
-    for _ in 0..60 {
-        let input = good(&mut random);
-        for (place, fault) in FAULTS.iter().enumerate() {
-            let mut faulty = input.clone();
-            if (fault.apply)(&mut faulty, &mut random).is_some() {
-                assert_eq!(number(&faulty), fault.number, "{}", fault.name);
-                times[place] += 1;
+    for version in Version::ALL {
+        let mut random = Random::new(4);
+        let mut times: BTreeMap<(u8, &str), usize> = BTreeMap::new();
+        for _ in 0..60 {
+            let input = good(version, &mut random);
+            for fault in faults_in(version) {
+                let mut faulty = input.clone();
+                if (fault.apply)(&mut faulty, &mut random).is_some() {
+                    assert_eq!(number(&faulty), fault.number, "{}", fault.name);
+                    *times.entry((fault.number, fault.name)).or_default() += 1;
+                }
             }
         }
-    }
-    for (fault, times) in FAULTS.iter().zip(&times) {
-        assert!(*times >= 20, "{} {}: {times}", fault.number, fault.name);
-    }
-    for number in 1..=15 {
-        assert!(FAULTS.iter().any(|fault| fault.number == number));
+        assert_eq!(times.len(), faults_in(version).count());
+        assert!(times.values().all(|&times| times >= 20), "{times:?}");
+        println!("{version:?}: {} faults", times.len());
+        for number in CHECKED {
+            let some = !faults_of(version, number).is_empty();
+            assert_eq!(some, numbers_in(version).any(|other| other == number));
+        }
     }
 }
 
 #[test]
-fn each_pair_of_faults_gives_the_lower_number() {
-    let mut random = Random::new(5);
-    let mut pairs: BTreeMap<(u8, u8), usize> = BTreeMap::new();
-    let mut combinations = 0;
-    for _ in 0..12 {
-        let input = good(&mut random);
-        for higher in FAULTS {
-            for lower in FAULTS.iter().filter(|lower| lower.number < higher.number) {
-                let mut faulty = input.clone();
-                // From the higher number to the lower, which breaks the layout.
-                if (higher.apply)(&mut faulty, &mut random).is_none() {
-                    continue;
-                }
-                assert_eq!(number(&faulty), higher.number, "{}", higher.name);
-                if (lower.apply)(&mut faulty, &mut random).is_none() {
-                    continue;
-                }
-                assert_eq!(
-                    number(&faulty),
-                    lower.number,
-                    "{} after {}",
-                    lower.name,
-                    higher.name
-                );
-                *pairs.entry((lower.number, higher.number)).or_default() += 1;
-                combinations += 1;
+fn each_pair_of_faults_gives_the_one_checked_first() {
+    for (version, expected) in [(Version::One, 105), (Version::Two, 120)] {
+        let mut random = Random::new(5);
+        let mut pairs: BTreeMap<(u8, u8), usize> = BTreeMap::new();
+        for _ in 0..12 {
+            let input = good(version, &mut random);
+            for (first, second) in pairs_in(version) {
+                *pairs.entry((first, second)).or_default() +=
+                    two_faults(version, &input, first, second, &mut random);
             }
         }
+        let combinations: usize = pairs.values().sum();
+        println!("{version:?}: {combinations} combinations of two faults");
+        assert_eq!(pairs.len(), expected);
+        assert!(pairs.values().all(|&times| times >= 10), "{pairs:?}");
     }
-    println!("{combinations} combinations of two faults");
-    assert_eq!(pairs.len(), 105);
-    assert!(pairs.values().all(|&times| times >= 10), "{pairs:?}");
+}
+
+/// Every two faults of these numbers, from the one checked last, since the other may break the layout; how many have a
+/// place.
+fn two_faults(
+    version: Version,
+    input: &Input,
+    first: u8,
+    second: u8,
+    random: &mut Random,
+) -> usize {
+    let mut combinations = 0;
+    for later in faults_of(version, second) {
+        for sooner in faults_of(version, first) {
+            let mut faulty = input.clone();
+            if (later.apply)(&mut faulty, random).is_none() {
+                continue;
+            }
+            assert_eq!(number(&faulty), second, "{}", later.name);
+            if (sooner.apply)(&mut faulty, random).is_none() {
+                continue;
+            }
+            let what = format!("{} after {}", sooner.name, later.name);
+            assert_eq!(number(&faulty), first, "{what}");
+            combinations += 1;
+        }
+    }
+    combinations
 }
 
 #[test]
 fn faults_in_full_files() {
-    let mut random = Random::new(6);
-    for _ in 0..5 {
-        let input = case(&mut random, Wanted::of(Size::Full)).input();
-        for fault in FAULTS {
-            let mut faulty = input.clone();
-            if (fault.apply)(&mut faulty, &mut random).is_some() {
-                assert_eq!(number(&faulty), fault.number, "{}", fault.name);
+    for version in Version::ALL {
+        let mut random = Random::new(6);
+        for _ in 0..5 {
+            let wanted = Wanted::of(Size::Full).in_version(version);
+            let input = case(&mut random, wanted).input();
+            for fault in faults_in(version) {
+                let mut faulty = input.clone();
+                if (fault.apply)(&mut faulty, &mut random).is_some() {
+                    assert_eq!(number(&faulty), fault.number, "{}", fault.name);
+                }
             }
         }
     }

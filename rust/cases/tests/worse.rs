@@ -1,10 +1,11 @@
-//! Demand 3 on the second implementation: worse conduct never lowers a flag, a multiplier, a
-//! penalty or the total of penalties.
+//! Demand 3 on the second implementation, in both versions: worse conduct never lowers a flag, a
+//! multiplier, a penalty or the total of penalties.
 
 use cases::case::{ROW_BYTES, section_place, u32_at};
 use cases::generator::case;
 use cases::worse::{Change, apply, is_worse, random_changes};
-use cases::{Case, Component, Event, Kind, Market, Past, Random, Row, Size, Unit, Wanted};
+use cases::{Case, Component, Event, Kind, Market, Past, Random, Row, Size, Unit};
+use cases::{Version, Wanted};
 use second::{Outcome, fuel_party_days, settle};
 
 /// The rows and the total of penalties, or None if the case is refused.
@@ -34,6 +35,12 @@ fn keeps_demand_3(before: &(Vec<Row>, u64), after: &(Vec<Row>, u64)) -> bool {
 
 #[test]
 fn random_lists_keep_demand_3() {
+    for version in Version::ALL {
+        random_lists(version);
+    }
+}
+
+fn random_lists(version: Version) {
     let mut random = Random::new(7);
     let (mut lists, mut compared, mut refused, mut risen, mut changes) = (0, 0, 0, 0, 0);
     for place in 0..3_000 {
@@ -43,6 +50,7 @@ fn random_lists_keep_demand_3() {
             _ => Size::Small,
         };
         let wanted = Wanted {
+            version,
             // Without it most cases have a fuel party-day with E below 0, and are left out.
             fuel_not_negative: random.chance(2, 3),
             ..Wanted::of(size)
@@ -70,7 +78,7 @@ fn random_lists_keep_demand_3() {
         }
     }
     println!(
-        "{lists} lists, {compared} compared with {changes} changes, {refused} refused after, \
+        "{version:?}: {lists} lists, {compared} compared with {changes} changes, {refused} refused after, \
          {risen} with a higher total"
     );
     assert!(compared > 4_000 && refused > 100 && risen > 1_000);
@@ -87,11 +95,14 @@ fn an_empty_list_changes_nothing() {
     }
 }
 
+/// The number of the one unit of the cases by hand.
+const NUMBER: u32 = 12;
+
 /// One unit of 5,000, with this event.
 fn with_event(event: Event) -> Case {
     Case {
         units: vec![Unit {
-            unit: 12,
+            unit: NUMBER,
             group: 7,
             capability: 5_000,
             ..Unit::default()
@@ -107,7 +118,7 @@ fn the_premise_is_needed() {
     let event = Event::fuel(
         8_000,
         Market::DAY_AHEAD,
-        12,
+        NUMBER,
         (0, -1_000_000, 2_000_000),
         &[],
     );
@@ -133,11 +144,11 @@ fn the_premise_is_needed() {
 fn demand_3_leaves_out_mitigated_hours() {
     // Hour 10 with R 8 is mitigated from 10 to 17; hour 5 failing too, from 5 to 12.
     let mut case = with_event(
-        Event::bids(8_000, Market::DAY_AHEAD, 12, 1, 0, &[(10, 9_000, 0, 0)])
+        Event::bids(8_000, Market::DAY_AHEAD, NUMBER, 1, 0, &[(10, 9_000, 0, 0)])
             .with_minimum_run_hours(8),
     );
     case.references = vec![cases::Reference {
-        unit: 12,
+        unit: NUMBER,
         component: Component(1),
         value: 2_000,
     }];
@@ -172,8 +183,9 @@ fn higher_is_unsigned_or_signed_by_kind() {
 #[test]
 fn a_past_entry_moves_the_events() {
     let mut random = Random::new(9);
-    for _ in 0..100 {
+    for place in 0..100 {
         let wanted = Wanted {
+            version: Version::ALL[place % 2],
             every_kind: true,
             ..Wanted::of(Size::Small)
         };
@@ -199,33 +211,30 @@ fn a_past_entry_moves_the_events() {
     }
 }
 
+/// A withheld event with this a in hour 3.
+fn withheld(version: Version, a: u32) -> Vec<u8> {
+    let event = Event::withheld(8_000, Market::DAY_AHEAD, NUMBER, &[(3, a, 0)]);
+    with_event(event).in_version(version).to_bytes()
+}
+
 #[test]
 fn an_hour_change_is_made_against_what_stands_there() {
-    let file = with_event(Event::withheld(
-        8_000,
-        Market::DAY_AHEAD,
-        12,
-        &[(3, 500, 0)],
-    ))
-    .to_bytes();
     let hour = |a| Change::Hour {
         event: 0,
         hour: 3,
         a,
     };
-    assert_eq!(apply(&file, &hour(500)), None);
-    assert_eq!(apply(&file, &hour(499)), None);
-    let once = apply(&file, &hour(501)).unwrap();
-    let expected = with_event(Event::withheld(
-        8_000,
-        Market::DAY_AHEAD,
-        12,
-        &[(3, 501, 0)],
-    ));
-    assert_eq!(once, expected.to_bytes());
-    assert_eq!(apply(&once, &hour(501)), None);
-    assert!(apply(&once, &hour(502)).is_some());
-    // A fuel event has no such change.
-    let fuel = with_event(Event::fuel(8_000, Market::DAY_AHEAD, 12, (0, 0, 0), &[])).to_bytes();
-    assert_eq!(apply(&fuel, &hour(1)), None);
+    for version in Version::ALL {
+        let file = withheld(version, 500);
+        assert_eq!(apply(&file, &hour(500)), None);
+        assert_eq!(apply(&file, &hour(499)), None);
+        let once = apply(&file, &hour(501)).unwrap();
+        assert_eq!(once, withheld(version, 501));
+        assert_eq!(apply(&once, &hour(501)), None);
+        assert!(apply(&once, &hour(502)).is_some());
+        // A fuel event has no such change.
+        let fuel = Event::fuel(8_000, Market::DAY_AHEAD, NUMBER, (0, 0, 0), &[]);
+        let fuel = with_event(fuel).in_version(version).to_bytes();
+        assert_eq!(apply(&fuel, &hour(1)), None);
+    }
 }

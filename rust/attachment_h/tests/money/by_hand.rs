@@ -5,10 +5,10 @@ use attachment_h::{
 };
 use cases::{Case, Event, Input, Past, Random, Reference, Unit};
 
-use crate::{Worked, both};
+use crate::{Inputs, Worked, both};
 
 /// A unit of group 7 outside of Constrained Areas, with 15 × its response rate at 450.
-fn unit(unit: u16, capability: u32) -> Unit {
+fn unit(unit: u32, capability: u32) -> Unit {
     Unit {
         unit,
         group: 7,
@@ -39,9 +39,10 @@ fn reference(component: u8, value: u32) -> Reference {
 /// The workings of all events of an accepted case.
 fn workings(case: &Case, correction: &[Reference]) -> Vec<Worked> {
     let mut random = Random::new(931);
-    let input = Input::new(case, correction);
+    let inputs = Inputs::of(Input::new(case, correction));
+    assert!(inputs.copy.is_some());
     (0..case.events.len())
-        .map(|event| both(&mut random, &input, event, "by hand").expect("accepted"))
+        .map(|event| both(&mut random, &inputs, event, "by hand").expect("accepted"))
         .collect()
 }
 

@@ -4,9 +4,9 @@ use attachment_h::{Cents, Component, INSTANCES_LENGTH, Kind, Market, Multiplier,
 use cases::case::EVERY_HOUR;
 use cases::{Case, Event, Input, Past, Random, Reference, Unit};
 
-use crate::{Worked, both};
+use crate::{Inputs, Worked, both};
 
-fn unit(unit: u16) -> Unit {
+fn unit(unit: u32) -> Unit {
     Unit {
         unit,
         group: 7,
@@ -31,8 +31,9 @@ fn all_day<A: Copy, B: Copy>(a: A, b: B) -> [(usize, A, B); 24] {
 }
 
 fn worked(case: &Case, correction: &[Reference], event: usize) -> Worked {
-    let input = Input::new(case, correction);
-    both(&mut Random::new(941), &input, event, "at an edge").expect("accepted")
+    let inputs = Inputs::of(Input::new(case, correction));
+    assert!(inputs.copy.is_some());
+    both(&mut Random::new(941), &inputs, event, "at an edge").expect("accepted")
 }
 
 #[test]

@@ -7,7 +7,7 @@ use attachment_h::{
 };
 use cases::case::{DispatchHour, WithheldHour};
 use cases::generator::case;
-use cases::{Case, Conduct, Event, Generated, Market, Random, Size, Unit, Wanted};
+use cases::{Case, Conduct, Event, Generated, Market, Random, Size, Unit, Version, Wanted};
 
 use crate::of_make_up;
 
@@ -32,6 +32,27 @@ struct Compared {
     make_up_hours: usize,
     single_make_ups: usize,
     bids_tested_again: usize,
+}
+
+impl Compared {
+    /// All events of a case.
+    fn add(&mut self, generated: &Generated, what: String) {
+        let settled = Settled::of(what, generated);
+        for event in 0..settled.rows.len() {
+            settled.compare_rows(event);
+            settled.compare_counts(event, self);
+            settled.compare_penalty(event, self);
+            settled.compare_make_up(event, self);
+            self.events += 1;
+        }
+    }
+
+    fn done(&self) {
+        assert!(self.instances > 1_000 && self.withheld > 5_000);
+        assert!(self.dispatch > 1_000 && self.party_days > 1_000);
+        assert!(self.make_up_hours > 100 && self.single_make_ups > 20);
+        assert!(self.bids_tested_again > 100);
+    }
 }
 
 impl Settled<'_> {
@@ -310,28 +331,31 @@ fn of_party_day(worked: &PenaltyWorking) -> PenaltyWorking {
 
 #[test]
 fn figures_of_the_rows_and_of_the_smaller_calls() {
-    let mut random = Random::new(911);
-    let mut compared = Compared::default();
-    for (size, count) in [
+    let sizes = [
         (Size::Small, 12_000),
         (Size::Medium, 1_000),
         (Size::Full, 6),
-    ] {
+    ];
+    figures_of(Version::One, sizes);
+}
+
+#[test]
+fn figures_of_version_2() {
+    // Half as many: the calls that are compared have no version.
+    let sizes = [(Size::Small, 6_000), (Size::Medium, 500), (Size::Full, 6)];
+    figures_of(Version::Two, sizes);
+}
+
+/// The figures of so many generated cases.
+fn figures_of(version: Version, sizes: [(Size, usize); 3]) {
+    let mut random = Random::new(911);
+    let mut compared = Compared::default();
+    for (size, count) in sizes {
         for place in 0..count {
-            let generated = case(&mut random, Wanted::of(size));
-            let settled = Settled::of(format!("{size:?} {place}"), &generated);
-            for event in 0..settled.rows.len() {
-                settled.compare_rows(event);
-                settled.compare_counts(event, &mut compared);
-                settled.compare_penalty(event, &mut compared);
-                settled.compare_make_up(event, &mut compared);
-                compared.events += 1;
-            }
+            let generated = case(&mut random, Wanted::of(size).in_version(version));
+            compared.add(&generated, format!("{version:?}, {size:?} {place}"));
         }
     }
-    println!("{compared:?}");
-    assert!(compared.instances > 1_000 && compared.withheld > 5_000);
-    assert!(compared.dispatch > 1_000 && compared.party_days > 1_000);
-    assert!(compared.make_up_hours > 100 && compared.single_make_ups > 20);
-    assert!(compared.bids_tested_again > 100);
+    println!("{version:?}: {compared:?}");
+    compared.done();
 }

@@ -1,6 +1,7 @@
 //! The working of an event's money: what its penalty and its make-up payment are made of, and what N3 and N2
 //! counted. Every answer is held to the second implementation's, field by field and byte by byte; what it says is
-//! held to the rows and to the smaller calls, and to a case of each kind by hand.
+//! held to the rows and to the smaller calls, and to a case of each kind by hand. All of it is done in both versions, and
+//! the version 2 copy of a case has the same workings.
 
 mod beside;
 mod by_hand;
@@ -23,8 +24,55 @@ struct Worked {
     length: usize,
 }
 
-/// The working of an event, in which both implementations agree.
-fn both(random: &mut Random, input: &Input, event: usize, what: &str) -> Result<Worked, Refused> {
+/// An input, and its version 2 copy where it has one.
+struct Inputs {
+    input: Input,
+    copy: Option<Input>,
+}
+
+impl Inputs {
+    fn of(input: Input) -> Inputs {
+        let copy = input.version_2_copy();
+        Inputs { input, copy }
+    }
+}
+
+/// The working of an event, in which both implementations agree, and which the copy has too. Every fourth event of a copy,
+/// its first among them, is worked by the second implementation again: that takes the longest, and reads the whole case
+/// each time.
+fn both(random: &mut Random, inputs: &Inputs, event: usize, what: &str) -> Result<Worked, Refused> {
+    let worked = one(random, &inputs.input, event, what);
+    let Some(copy) = &inputs.copy else {
+        return worked;
+    };
+    let what = format!("{what}, event {event}, copied");
+    if event.is_multiple_of(4) {
+        let copied = one(random, copy, event, &what);
+        assert_eq!(copied.err(), worked.as_ref().err().copied(), "{what}");
+    }
+    let (file, correction) = (&copy.file, &copy.correction);
+    let answers = (
+        penalty_working(file, correction, event),
+        instances(file, correction, event),
+        make_up_working(file, correction, event),
+    );
+    match &worked {
+        Ok(worked) => {
+            assert_eq!(answers.0.as_ref(), Ok(&worked.penalty), "{what}");
+            assert_eq!(answers.1.as_ref(), Ok(&worked.instances), "{what}");
+            assert_eq!(answers.2.as_ref(), Ok(&worked.make_up), "{what}");
+        }
+        Err(refused) => {
+            assert_eq!(answers.0.err(), Some(*refused), "{what}");
+            assert_eq!(answers.1.err(), Some(*refused), "{what}");
+            assert_eq!(answers.2.err(), Some(*refused), "{what}");
+        }
+    }
+    worked
+}
+
+/// The working of an event of one input.
+fn one(random: &mut Random, input: &Input, event: usize, what: &str) -> Result<Worked, Refused> {
     let (file, correction) = (&input.file, &input.correction);
     let penalty = penalty_working(file, correction, event);
     let expected = second::penalty_working(file, correction, event);
