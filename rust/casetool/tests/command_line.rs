@@ -268,12 +268,13 @@ fn a_correction_from_standard_input() {
     let correction = casetool(&["write", "--correction"], text.as_bytes());
     assert_eq!((correction.status, correction.output.len()), (0, 8));
     let shown = casetool(&["show", "--correction"], &correction.output);
-    let expected = "# correction: 1 reference\n\nreference unit 12 component energy value $1.00\n";
+    let expected =
+        "version 1\n# correction: 1 reference\n\nreference unit 12 component energy value $1.00\n";
     assert_eq!((shown.status, shown.text()), (0, expected));
     let ran = casetool(&["check", &path, "--correction", "-"], &correction.output);
     assert_eq!((ran.status, ran.text()), (0, "accepted, 0 events\n"));
     let ran = casetool(&["show", "--correction"], &[0; 9]);
-    let message = "casetool: standard input: no correction: it has 9 bytes; expected a multiple of 8, at most 2,048\n";
+    let message = "casetool: standard input: no correction: it has 9 bytes; expected a multiple of 8, at most 2,048, or a multiple of 12, at most 3,072, in version 2\n";
     assert_eq!((ran.status, ran.errors.as_str()), (1, message));
 }
 
@@ -290,8 +291,8 @@ fn a_refused_case_is_described_by_every_command() {
     assert_eq!(
         shown.errors,
         "casetool: standard input: this file has no sections to show\n\
-         refused 2: the version is not 1\n\
-         the header: version is 28,277; expected 1\n\
+         refused 2: the version is neither 1 nor 2\n\
+         the header: version is 28,277; expected 1 or 2\n\
          this file looks like text: casetool write makes a case file of it\n"
     );
 }

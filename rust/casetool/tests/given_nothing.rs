@@ -157,8 +157,8 @@ fn a_correction_with_no_reference() {
     // Six references whose bytes could be those of a case with a past entry and no event.
     let bytes = written("past group 7 kind fuel market day-ahead period 0 day 1");
     assert_eq!(bytes.len(), 48);
-    let shown = casetool(&["show", "--correction"], &bytes);
-    let start = "order as-written\n# correction: 6 references\n";
+    let shown = casetool(&["show", "--correction", "--version", "1"], &bytes);
+    let start = "order as-written\nversion 1\n# correction: 6 references\n";
     assert!(shown.text().starts_with(start));
     let ran = casetool(&["write", "--correction"], &shown.output);
     assert_eq!((ran.status, ran.output), (0, bytes));

@@ -56,7 +56,7 @@ fn numbers_1_to_5() {
     );
     refused_bytes(
         &changed(0, 9),
-        "refused 2: the version is not 1\nthe header: version is 9; expected 1\n",
+        "refused 2: the version is neither 1 nor 2\nthe header: version is 9; expected 1 or 2\n",
     );
     refused_bytes(
         &changed(2, 3),

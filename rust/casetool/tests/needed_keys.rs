@@ -288,6 +288,7 @@ fn the_area_of_every_unit_whose_events_read_it() {
 
 /// Every kind, with nothing but 0 in what is needed.
 const ZEROS: &str = "\
+version 1
 # case: 2 units, 0 references, 0 past entries, 9 events
 
 unit 12 group 7 area 0 capability 0.0 MW response-rate 0.0 MW/min

@@ -69,6 +69,7 @@ fn folder() -> PathBuf {
     for name in [
         "examples/two-plants.txt",
         "examples/two-plants-correction.txt",
+        "examples/new-plant.txt",
         "target/bin/listing",
     ] {
         let copied = fs::copy(repository(name), folder.join(name));
@@ -107,7 +108,7 @@ fn commands_print_what_the_readme_shows() {
         assert_eq!(printed.trim_end(), output.trim_end(), "{command}");
     }
     println!("{} commands of README.md", shown.len());
-    assert!(shown.len() >= 10);
+    assert!(shown.len() >= 15);
 }
 
 /// Where a word first stands alone in a text.

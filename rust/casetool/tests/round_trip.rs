@@ -1,16 +1,16 @@
-//! From file to text and back, byte for byte: generated cases, faulty ones whose sections can be
+//! From file to text and back, byte for byte, in both versions: generated cases, faulty ones whose sections can be
 //! read, sections of noise, and corrections. Then texts that people may write, and their own text.
 
 mod support;
 
-use attachment_h::layout::Sections;
+use attachment_h::layout::{Section, Sections, Version};
 use cases::Random;
-use cases::case::{Input, file_of, section_place};
-use cases::faults::FAULTS;
-use cases::generator::{Generated, Size, Wanted, case, random_bytes};
+use cases::case::{Input, file_in};
+use cases::faults::faults_in;
+use cases::generator::{Generated, Size, Wanted, case, random_bytes_in};
 use casetool::text::show::{case_text, correction_text};
 use casetool::text::write::{case_file, correction};
-use support::{casetool, repository, written};
+use support::{casetool, in_turn, repository, written};
 
 /// Shows a file and writes it again, if it has sections to show; whether it has.
 fn comes_back(file: &[u8]) -> bool {
@@ -29,8 +29,8 @@ fn comes_back(file: &[u8]) -> bool {
     true
 }
 
-fn correction_comes_back(bytes: &[u8]) {
-    let text = correction_text(bytes);
+fn correction_comes_back(version: Version, bytes: &[u8]) {
+    let text = correction_text(version, bytes);
     let again = correction(text.as_bytes()).map(|written| written.bytes);
     assert_eq!(again.as_deref(), Ok(bytes), "{text}");
 }
@@ -41,24 +41,25 @@ fn accepted() {
     let mut bytes = 0;
     for place in 0..2_500 {
         let size = match place % 50 {
-            0 => Size::Full,
-            1..=10 => Size::Medium,
+            0 | 1 => Size::Full,
+            2..=11 => Size::Medium,
             _ => Size::Small,
         };
-        let generated = case(&mut random, Wanted::of(size));
+        let version = in_turn(place);
+        let generated = case(&mut random, Wanted::of(size).in_version(version));
         let input = generated.input();
         assert!(comes_back(&input.file), "case {place}");
-        correction_comes_back(&input.correction);
+        correction_comes_back(version, &input.correction);
         bytes += input.file.len();
     }
     println!("2,500 accepted cases of {bytes} bytes");
 }
 
 /// A small case with all kinds, so that most faults have a place.
-fn every_kind(random: &mut Random) -> Generated {
+fn every_kind(version: Version, random: &mut Random) -> Generated {
     let wanted = Wanted {
         every_kind: true,
-        ..Wanted::of(Size::Small)
+        ..Wanted::of(Size::Small).in_version(version)
     };
     case(random, wanted)
 }
@@ -66,50 +67,60 @@ fn every_kind(random: &mut Random) -> Generated {
 #[test]
 fn faulty() {
     let mut random = Random::new(702);
-    let mut shown = 0;
-    let mut not_shown = 0;
-    for fault in FAULTS {
-        for _ in 0..25 {
-            let mut input = every_kind(&mut random).input();
-            if (fault.apply)(&mut input, &mut random).is_none() {
-                continue;
+    for version in Version::ALL {
+        let (mut shown, mut not_shown) = (0, 0);
+        for fault in faults_in(version) {
+            for _ in 0..25 {
+                let mut input = every_kind(version, &mut random).input();
+                if (fault.apply)(&mut input, &mut random).is_none() {
+                    continue;
+                }
+                let readable = comes_back(&input.file);
+                assert_eq!(readable, fault.number > 5, "{}", fault.name);
+                *(if readable { &mut shown } else { &mut not_shown }) += 1;
             }
-            let readable = comes_back(&input.file);
-            assert_eq!(readable, fault.number > 5, "{}", fault.name);
-            *(if readable { &mut shown } else { &mut not_shown }) += 1;
         }
+        println!("{version:?}: {shown} faulty files shown, {not_shown} without sections");
+        assert!(shown > 1_000);
     }
-    println!("{shown} faulty files shown, {not_shown} without sections");
-    assert!(shown > 1_000);
 }
 
 /// Sections of whole records with noise in them, or with noise in some of their bytes.
-fn noise(random: &mut Random) -> Vec<u8> {
+fn noise(version: Version, random: &mut Random) -> [Vec<u8>; 4] {
     let sparse = random.chance(1, 2);
-    let sections = [24, 8, 12, 312].map(|record| {
-        (0..record * random.below(4))
+    Section::ALL.map(|section| {
+        (0..section.width(version) * random.below(4))
             .map(|_| match sparse && !random.chance(1, 30) {
                 true => 0,
                 false => random.bits() as u8,
             })
             .collect()
-    });
-    file_of(&sections)
+    })
 }
 
-/// Gives the units and events of a file of noise mostly what the limits allow: units of three numbers, so
-/// that events find none, one or two of them, areas, kinds, markets and components.
-fn liken(file: &mut [u8], random: &mut Random) {
-    let (units, length) = section_place(file, 0);
-    let (events, _) = section_place(file, 3);
-    for unit in file[units..units + length].chunks_exact_mut(24) {
-        unit[..2].copy_from_slice(&[random.below(3) as u8, 0]);
+/// Gives the units and events of noise mostly what the limits allow: units of three numbers, so that events find none,
+/// one or two of them, areas, kinds, markets and components. What stands in old fields is left now and then.
+fn liken(version: Version, sections: &mut [Vec<u8>; 4], random: &mut Random) {
+    let number = |section: Section, record: &mut [u8], random: &mut Random| {
+        let old = section.old_number(record);
+        let least = match version {
+            Version::One => 0,
+            Version::Two => 65_534,
+        };
+        section.put_unit_number(version, record, least + random.below(3) as u32);
+        if version == Version::Two && random.chance(1, 3) {
+            section.put_unit_number(Version::One, record, old.into());
+        }
+    };
+    let [units, _, _, events] = sections;
+    for unit in units.chunks_exact_mut(Section::Units.width(version)) {
+        number(Section::Units, unit, random);
         unit[4] = random.below(3) as u8;
     }
-    for event in file[events..].chunks_exact_mut(312) {
+    for event in events.chunks_exact_mut(Section::Events.width(version)) {
+        number(Section::Events, event, random);
         event[0] = random.below(6) as u8;
         event[1] = random.below(3) as u8;
-        event[2..4].copy_from_slice(&[random.below(3) as u8, 0]);
         event[6] = random.below(10) as u8;
     }
 }
@@ -117,18 +128,27 @@ fn liken(file: &mut [u8], random: &mut Random) {
 #[test]
 fn any_content() {
     let mut random = Random::new(703);
-    let mut shown = 0;
-    for _ in 0..3_000 {
-        let mut file = noise(&mut random);
-        liken(&mut file, &mut random);
-        assert!(comes_back(&file));
-        let Input { file, .. } = random_bytes(&mut random);
-        shown += usize::from(comes_back(&file));
-    }
-    println!("3,000 files of noise, {shown} of 3,000 changed ones");
-    for length in 0..256 {
-        let bytes: Vec<u8> = (0..8 * length).map(|_| random.bits() as u8).collect();
-        correction_comes_back(&bytes);
+    for version in Version::ALL {
+        let (mut shown, mut old_numbers) = (0, 0);
+        for _ in 0..3_000 {
+            let mut sections = noise(version, &mut random);
+            liken(version, &mut sections, &mut random);
+            let file = file_in(version, &sections);
+            assert!(comes_back(&file));
+            let text = case_text(&Sections::of(&file).expect("sections"));
+            old_numbers += usize::from(text.contains(" old-number "));
+            let Input { file, .. } = random_bytes_in(version, &mut random);
+            shown += usize::from(comes_back(&file));
+        }
+        println!(
+            "{version:?}: 3,000 files of noise, {old_numbers} with old numbers, {shown} of 3,000 changed ones"
+        );
+        assert_eq!(old_numbers > 500, version == Version::Two);
+        for length in 0..256 {
+            let bytes =
+                (0..Section::References.width(version) * length).map(|_| random.bits() as u8);
+            correction_comes_back(version, &bytes.collect::<Vec<u8>>());
+        }
     }
 }
 
@@ -142,21 +162,25 @@ fn canonical(text: &str) -> String {
 
 #[test]
 fn fixed_point() {
-    let text = std::fs::read_to_string(repository("examples/two-plants.txt")).expect("the example");
-    let shown = canonical(&text);
-    assert_ne!(shown, text);
-    assert_eq!(canonical(&shown), shown);
-    assert_eq!(written(&shown), written(&text));
-    assert_eq!(
-        canonical(""),
-        "# case: 0 units, 0 references, 0 past entries, 0 events\n"
-    );
+    for name in ["two-plants.txt", "new-plant.txt"] {
+        let path = repository(&format!("examples/{name}"));
+        let text = std::fs::read_to_string(path).expect("the example");
+        let shown = canonical(&text);
+        assert_ne!(shown, text);
+        assert_eq!(canonical(&shown), shown);
+        assert_eq!(written(&shown), written(&text));
+    }
+    for version in ["version 1", "version 2"] {
+        let empty = "# case: 0 units, 0 references, 0 past entries, 0 events";
+        assert_eq!(canonical(version), format!("{version}\n{empty}\n"));
+    }
+    assert_eq!(canonical(""), canonical("version 1"));
 }
 
-#[test]
-fn every_key_out_of_the_ordinary() {
-    let text = "\
+/// A text with every key, at the edges of its field.
+const EVERY_KEY: &str = "\
 order as-written
+version 1
 # case: 1 unit, 2 references, 1 past entry, 4 events
 
 unit 65535 group 0 area 255 spare-5 1 spare-6 2 spare-7 3 capability 429496729.5 MW response-rate 0.1 MW/min average-price $42949672.95 constrained-hours 65535 spare-22 4 spare-23 255
@@ -166,7 +190,7 @@ reference unit 1 component minimum-down-time value 4294967295 minutes
 
 past group 65535 kind dispatch market 2 period 65535 spare-6 1 spare-7 2 day 4294967295  # 19 January 11761221
 
-event day 0 kind 0 market 255 unit 0 period 0 component energy impact 255 P 24-31 Q 1 R 4294967295  # event 0, 1 January 2000
+event day 0 kind 0 market 255 unit 0 period 0 impact 255 P 24-31 Q 1 R 4294967295  # event 0, 1 January 2000
   hour 23 a 1 b 2 m 3
 event day 59 kind withheld market day-ahead unit 0 period 0 component maximum-parameter impact 0 shadow-price-hours 0,2,4-31 Q 7 R 8  # event 1, 29 February 2000
   hours 0-23 withheld 429496729.5 MW price -$21474836.48 m 9
@@ -176,9 +200,30 @@ event day 366 kind bids market real-time unit 0 period 0 component start-up-time
   hour 1 bid -2147483648 minutes
   hours 2-3 bid 0 minutes price $0.01
   hour 4 bid 0 minutes quantity 0.1 MW
-"
-    .replace(" component energy impact 255", " impact 255");
+";
+
+#[test]
+fn every_key_out_of_the_ordinary() {
+    assert_eq!(canonical(EVERY_KEY), EVERY_KEY);
+    let mut text = EVERY_KEY.to_string();
+    for (good, changed) in [
+        ("version 1", "version 2"),
+        ("unit 65535 group", "unit 4294967295 old-number 65535 group"),
+        ("unit 1 component 9", "unit 65536 old-number 1 component 9"),
+        (
+            "255 unit 0 period",
+            "255 unit 1000000 old-number 256 period",
+        ),
+    ] {
+        assert_eq!(text.matches(good).count(), 1, "{good}");
+        text = text.replace(good, changed);
+    }
     assert_eq!(canonical(&text), text);
+    // One that is 0 is not shown.
+    let zero = text.replace("period 0 inaccurate", "period 0 old-number 0 inaccurate");
+    assert_eq!(canonical(&zero), text);
+    let file = case_file(text.as_bytes()).expect("a case").bytes;
+    assert_eq!(file.len(), 36 + 28 + 2 * 12 + 12 + 4 * 316);
 }
 
 #[test]

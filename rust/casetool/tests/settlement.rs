@@ -4,13 +4,14 @@
 mod support;
 
 use attachment_h::Cents;
+use attachment_h::layout::{Section, Sections, u32_at};
 use cases::Random;
-use cases::case::{Input, sections_of, u32_at};
-use cases::generator::any_case;
+use cases::case::Input;
+use cases::generator::any_case_in;
 use cases::{Component, Kind, Row};
 use casetool::text::amounts::{Measure, dollars};
 use casetool::text::{calendar, hours};
-use support::{casetool, file_with, repository};
+use support::{casetool, file_with, in_turn, repository};
 
 fn example(name: &str) -> Vec<u8> {
     std::fs::read(repository(&format!("examples/{name}"))).expect("an example")
@@ -131,11 +132,18 @@ fn mitigated_bids(row: &Row) -> Vec<(u32, i32)> {
 /// The mitigated hours in which a bid of component 1 or 3 is in force though it is above the case's own
 /// reference: what a correction restored.
 fn restored(input: &Input, event: usize, row: &Row) -> u32 {
-    let sections = sections_of(&input.file);
-    let record = &sections[3][312 * event..312 * (event + 1)];
-    let reference = sections[1]
-        .chunks_exact(8)
-        .find(|reference| reference[..3] == [record[2], record[3], record[6]]);
+    let sections = Sections::of(&input.file).expect("an accepted case");
+    let key = |section: Section, record: &[u8], component: usize| {
+        (
+            section.unit_number(sections.version(), record),
+            record[component],
+        )
+    };
+    let mut events = sections.records(Section::Events);
+    let record = events.nth(event).expect("an event");
+    let reference = sections.records(Section::References).find(|reference| {
+        key(Section::References, reference, 2) == key(Section::Events, record, 6)
+    });
     let Some(reference) = reference.filter(|_| record[0] == 4 && [1, 3].contains(&record[6]))
     else {
         return 0;
@@ -164,7 +172,7 @@ fn generated_cases_beside_the_second_implementation() {
     let mut random = Random::new(731);
     let (mut events, mut mitigated, mut with_restored) = (0, 0, 0);
     for place in 0..400 {
-        let generated = any_case(&mut random);
+        let generated = any_case_in(in_turn(place), &mut random);
         let input = generated.input();
         let mut rows = vec![0; input.rows_len];
         let second::Outcome::Settled {
@@ -183,10 +191,18 @@ fn generated_cases_beside_the_second_implementation() {
         let ran = casetool(&arguments, &input.file);
         assert_eq!(ran.status, 0, "case {place}");
         let text = ran.text();
-        assert_eq!(text.matches("\nUnit ").count(), generated.case.units.len());
+        let blocks: Vec<&str> = text.split("\nUnit ").skip(1).collect();
+        assert_eq!(blocks.len(), generated.case.units.len());
+        for (block, unit) in blocks.iter().zip(&generated.case.units) {
+            let start = format!("{}, group {}\n", unit.unit, unit.group);
+            assert!(block.starts_with(&start), "{block}");
+        }
         for (event, record) in generated.case.events.iter().enumerate() {
             let row = Row::of(&rows, event);
             let lines = paragraph(text, event);
+            let place_of_unit = generated.case.units.iter();
+            let place_of_unit = place_of_unit.take_while(|unit| unit.unit < record.unit);
+            assert!(blocks[place_of_unit.count()].contains(lines[0]));
             assert_eq!(
                 figure(&lines, "flagged hours").map(mask_of),
                 Some(row.flags.0)

@@ -5,8 +5,8 @@ mod support;
 
 use cases::Random;
 use cases::Row;
-use cases::generator::any_case;
-use support::{casetool, file_with, written};
+use cases::generator::any_case_in;
+use support::{casetool, file_with, in_turn, written};
 
 const UNITS: &str = "\
 unit 12 group 7 area 1 capability 500.0 MW response-rate 10.0 MW/min average-price $50.00 constrained-hours 1000
@@ -285,8 +285,8 @@ No step is exceeded: hour 7 is not flagged",
 fn generated_cases_beside_the_second_implementation() {
     let mut random = Random::new(742);
     let (mut hours, mut flagged) = (0, 0);
-    for _ in 0..150 {
-        let input = any_case(&mut random).input();
+    for place in 0..150 {
+        let input = any_case_in(in_turn(place), &mut random).input();
         let mut rows = vec![0; input.rows_len];
         second::settle(&input.file, &input.correction, &mut rows);
         let path = file_with("working.correction", &input.correction);

@@ -1,9 +1,14 @@
 //! The command line.
 
+mod values;
+
 use std::ffi::{OsStr, OsString};
 use std::fmt;
 use std::path::PathBuf;
 
+use attachment_h::layout::Version;
+
+use self::values::{flag, number, once, one_of, value};
 use crate::command::help::Topic;
 use crate::command::one_line;
 
@@ -75,8 +80,12 @@ pub struct Given {
     pub output: Option<PathBuf>,
     /// The correction to settle with.
     pub correction: Option<Source>,
-    /// That what is written or shown is a correction.
+    /// That what is written, shown or converted is a correction.
     pub is_correction: bool,
+    /// The version of that correction.
+    pub version: Option<Version>,
+    /// The version of the copy.
+    pub to: Option<Version>,
     /// That a text without an event, or a correction without a reference, is taken.
     pub allow_empty: bool,
     /// What the case is; nothing where its bytes decide.
@@ -96,6 +105,9 @@ pub struct Given {
 /// The words of `--as`.
 const FORMS: [(&str, As); 2] = [("text", As::Text), ("case", As::Case)];
 
+/// The words of `--version` and `--to`.
+const VERSIONS: [(&str, Version); 2] = [("1", Version::One), ("2", Version::Two)];
+
 /// The words of `--format`.
 const FORMATS: [(&str, Format); 3] = [
     ("text", Format::Text),
@@ -110,6 +122,8 @@ struct Found {
     output: Option<PathBuf>,
     correction: Option<Source>,
     is_correction: bool,
+    version: Option<Version>,
+    to: Option<Version>,
     allow_empty: bool,
     taken_as: Option<As>,
     format: Option<Format>,
@@ -212,9 +226,17 @@ impl Found {
         option: &str,
         rest: &mut impl Iterator<Item = &'a OsString>,
     ) -> Result<(), String> {
-        let converts = matches!(topic, Topic::Write | Topic::Show);
+        let converts = matches!(topic, Topic::Write | Topic::Show | Topic::Convert);
         match option {
             "--correction" if converts => flag(&mut self.is_correction, option),
+            "--version" if converts => {
+                let version = one_of(option, value(option, rest)?, &VERSIONS)?;
+                once(&mut self.version, option, version)
+            }
+            "--to" if topic == Topic::Convert => {
+                let version = one_of(option, value(option, rest)?, &VERSIONS)?;
+                once(&mut self.to, option, version)
+            }
             "--correction" => once(&mut self.correction, option, source(value(option, rest)?)),
             "-o" | "--output" => once(&mut self.output, option, value(option, rest)?.into()),
             "--allow-empty" if topic.allows_empty() => flag(&mut self.allow_empty, option),
@@ -290,6 +312,14 @@ impl Found {
         if topic == Topic::Working && self.event.is_none() {
             return Err("--event is missing".to_string());
         }
+        if topic == Topic::Convert && self.to.is_none() {
+            return Err("--to is missing".to_string());
+        }
+        if self.version.is_some() && !self.is_correction {
+            let problem =
+                "--version is that of a correction, with --correction: a case says its own";
+            return Err(problem.to_string());
+        }
         if self.explain && self.format == Some(Format::Csv) {
             let problem = "--explain and --format csv can't both be given: a table of rows has no place for a working";
             return Err(problem.to_string());
@@ -299,6 +329,8 @@ impl Found {
             output: self.output,
             correction: self.correction,
             is_correction: self.is_correction,
+            version: self.version,
+            to: self.to,
             allow_empty: self.allow_empty,
             taken_as: self.taken_as,
             format: self.format.unwrap_or_default(),
@@ -310,62 +342,9 @@ impl Found {
     }
 }
 
-fn once<T>(place: &mut Option<T>, option: &str, value: T) -> Result<(), String> {
-    match place.replace(value) {
-        None => Ok(()),
-        Some(_) => Err(format!("{option} is there twice")),
-    }
-}
-
-fn flag(place: &mut bool, option: &str) -> Result<(), String> {
-    if *place {
-        return Err(format!("{option} is there twice"));
-    }
-    *place = true;
-    Ok(())
-}
-
-fn value<'a>(
-    option: &str,
-    rest: &mut impl Iterator<Item = &'a OsString>,
-) -> Result<&'a OsStr, String> {
-    rest.next()
-        .map(OsString::as_os_str)
-        .ok_or_else(|| format!("{option} needs a value after it"))
-}
-
 fn source(argument: &OsStr) -> Source {
     match argument.to_str() {
         Some("-") => Source::Input,
         _ => Source::File(argument.into()),
     }
-}
-
-/// One of the words that an option takes.
-fn one_of<T: Copy>(option: &str, argument: &OsStr, words: &[(&str, T)]) -> Result<T, String> {
-    let found = words
-        .iter()
-        .find(|(word, _)| argument.to_str() == Some(*word));
-    found.map(|(_, form)| *form).ok_or_else(|| {
-        let words: Vec<&str> = words.iter().map(|(word, _)| *word).collect();
-        let words = match words.as_slice() {
-            [first, second] => format!("{first} or {second}"),
-            [others @ .., last] => format!("{} or {last}", others.join(", ")),
-            [] => String::new(),
-        };
-        format!("{option} {}: expected {words}", shown(argument))
-    })
-}
-
-fn number(option: &str, argument: &OsStr, most: usize) -> Result<usize, String> {
-    let expected = match most {
-        usize::MAX => "a number from 0".to_string(),
-        most => format!("0 to {most}"),
-    };
-    argument
-        .to_str()
-        .filter(|digits| digits.bytes().all(|byte| byte.is_ascii_digit()))
-        .and_then(|digits| digits.parse().ok())
-        .filter(|&number| number <= most)
-        .ok_or_else(|| format!("{option} {}: expected {expected}", shown(argument)))
 }

@@ -2,7 +2,7 @@
 
 use std::io::Read;
 
-use attachment_h::layout::{REFERENCE_BYTES, Section, Sections};
+use attachment_h::layout::{Section, Sections};
 use attachment_h::{ROWS_LENGTH, Settled, settle, working};
 
 use super::arguments::{Format, Given};
@@ -43,22 +43,24 @@ pub fn answer(topic: Topic, given: &Given, input: &mut dyn Read) -> Result<Answe
 fn checked(inputs: &Inputs, format: Format) -> Answer {
     let sections = Sections::of(&inputs.case.bytes);
     let events = sections.map_or(0, |sections| sections.count(Section::Events));
+    let version = inputs.version();
     match (inputs.check(), format) {
         (Ok(()), Format::Json) => {
             let correction = correction_of(inputs);
-            Answer::done(accepted_json(events, correction.as_ref()))
+            Answer::done(accepted_json(version, events, correction.as_ref()))
         }
         (Ok(()), _) => Answer::done(accepted(events)),
-        (Err(refusal), Format::Json) => Answer::not_accepted(refused_json(&refusal)),
+        (Err(refusal), Format::Json) => Answer::not_accepted(refused_json(version, &refusal)),
         (Err(refusal), _) => Answer::not_accepted(refusal.to_string()),
     }
 }
 
-/// The correction that was named.
+/// The correction that was named, of an accepted case.
 fn correction_of(inputs: &Inputs) -> Option<Correction> {
-    inputs.correction.as_ref().map(|correction| Correction {
+    let (correction, version) = (inputs.correction.as_ref()?, inputs.version()?);
+    Some(Correction {
         name: correction.name.clone(),
-        references: correction.bytes.len() / REFERENCE_BYTES,
+        references: correction.bytes.len() / Section::References.width(version),
     })
 }
 
@@ -118,8 +120,7 @@ fn worked(inputs: &Inputs, given: &Given, hour: usize) -> Result<Answer, Failure
 
 /// The event that `--event` asks for, which the case may not have.
 pub fn event_of<'a>(sections: &Sections<'a>, number: usize) -> Result<Event<'a>, Failure> {
-    let record = sections.records(Section::Events).nth(number);
-    record.map(Event::of).ok_or_else(|| {
+    Event::all(sections).nth(number).ok_or_else(|| {
         let events = match sections.count(Section::Events) {
             0 => "no events".to_string(),
             1 => "one event, 0".to_string(),

@@ -9,6 +9,8 @@ pub enum Topic {
     Write,
     /// `casetool show`.
     Show,
+    /// `casetool convert`.
+    Convert,
     /// `casetool check`.
     Check,
     /// `casetool settle`.
@@ -21,9 +23,10 @@ pub enum Topic {
 
 impl Topic {
     /// The commands.
-    pub const COMMANDS: [Topic; 6] = [
+    pub const COMMANDS: [Topic; 7] = [
         Topic::Write,
         Topic::Show,
+        Topic::Convert,
         Topic::Check,
         Topic::Settle,
         Topic::Working,
@@ -36,6 +39,7 @@ impl Topic {
             Topic::Casetool => "",
             Topic::Write => "write",
             Topic::Show => "show",
+            Topic::Convert => "convert",
             Topic::Check => "check",
             Topic::Settle => "settle",
             Topic::Working => "working",
@@ -62,6 +66,7 @@ impl Topic {
             Topic::Casetool => CASETOOL,
             Topic::Write => WRITE,
             Topic::Show => SHOW,
+            Topic::Convert => CONVERT,
             Topic::Check => CHECK,
             Topic::Settle => SETTLE,
             Topic::Working => WORKING,
@@ -79,8 +84,9 @@ casetool: cases of the Attachment H settlement, as text and in words
   casetool line     how high a bid may go: a table for each event of bids, or one figure
   casetool write    makes a case file of a text
   casetool show     shows a case file as text
+  casetool convert  copies a case file into the other version
 
-casetool COMMAND --help has the options of a command; casetool --version the version.
+casetool COMMAND --help has the options of a command; casetool --version the version of the tool.
 The first four take a text or a case file. Text is valid UTF-8, not empty, with no zero byte;
 all else is a case file. A file that is - or left out is standard input; -o FILE takes the
 answer, otherwise it goes to standard output. Where a command fails, a FILE that was there is
@@ -93,7 +99,7 @@ Exit status: 0 done, 1 refused, unreadable or not text of a case, 2 misuse.
 
 const WRITE: &str = "\
 casetool write [TEXT] [-o CASE] [--allow-empty]
-casetool write --correction [TEXT] [-o CORRECTION] [--allow-empty]
+casetool write --correction [TEXT] [--version 1|2] [-o CORRECTION] [--allow-empty]
 
 Makes a case file of a text, or a correction, which has references alone. Of the limits only
 these are held: every value has room in its field, a case has at most 64 units, 256 references,
@@ -108,8 +114,10 @@ comment:
     hour 0 withheld 50.1 MW price $40.00
 
 Units, references and events may stand in any order and are sorted; two equal ones are an error.
-With the line order as-written before the first record they stay as they are. All mistakes are
-told at once, at most 20 of them. A key that an event reads has to be there, also where it is 0:
+With the line order as-written before the first record they stay as they are. The line version 1
+or version 2 before the first record says the version of the file; without it the file is of
+version 2 where a unit number is above 65,535, and of version 1 otherwise. All mistakes are told
+at once, at most 20 of them. A key that an event reads has to be there, also where it is 0:
 what is left out is an error with its line. A text with no event is an error too, since a failed
 export looks like that.
 A day is the number of days since 1 January 2000, or a date such as 2021-11-26. Of the
@@ -119,21 +127,47 @@ docs/FORMAT.md has every key, and what else may be written for a value.
 
   -o, --output FILE  writes to a file instead of standard output
   --correction       the text is that of a correction
+  --version VERSION  the version of its case, 1 or 2, if the text has no line for it
   --allow-empty      a text with no event, or a correction with no reference, is written
   -h, --help         this help
 ";
 
 const SHOW: &str = "\
 casetool show [CASE] [-o TEXT]
-casetool show --correction [CORRECTION] [-o TEXT]
+casetool show --correction [CORRECTION] [--version 1|2] [-o TEXT]
 
-Shows a case file, or a correction, as text. casetool write makes the same file of it, byte for
-byte: where the records are out of order, or equal, the text begins with order as-written. A case
-that breaks limits of its fields is shown too; one whose header has no four sections of whole
-records (numbers 1 to 5) can't be.
+Shows a case file, or a correction, as text, with its version. casetool write makes the same file
+of it, byte for byte: where the records are out of order, or equal, the text begins with order
+as-written. A case that breaks limits of its fields is shown too; one whose header has no four
+sections of whole records (numbers 1 to 5) can't be.
+
+The bytes of a correction have no version: its records have 8 bytes in version 1, 12 in version 2.
+Where they may be either, as 24 bytes may, --version has to say it.
 
   -o, --output FILE  writes to a file instead of standard output
   --correction       the file is a correction
+  --version VERSION  the version of its case, 1 or 2
+  -h, --help         this help
+";
+
+const CONVERT: &str = "\
+casetool convert [CASE] --to 1|2 [-o COPY]
+casetool convert --correction [CORRECTION] --to 1|2 [--version 1|2] [-o COPY]
+
+Copies a case file, or a correction, into version 1 or version 2. The copy of a case settles to the
+same rows; its correction has to be of the same version, and is copied by a call of its own. A copy
+into its own version is the same file. A refused case is copied too, unless its header has no four
+sections of whole records (numbers 1 to 5).
+
+Nothing is lost: where a copy of version 2 would be over 65,000 bytes, or one of version 1 has no
+room for a unit number above 65,535 or for an old number that is not 0, there is no copy, and the
+records that stand in the way are named. A text needs no copy: its line version says the version
+that casetool write gives it.
+
+  --to VERSION       the version of the copy, 1 or 2
+  -o, --output FILE  writes to a file instead of standard output
+  --correction       the file is a correction
+  --version VERSION  the version that it has, 1 or 2, where its length may be that of either
   -h, --help         this help
 ";
 

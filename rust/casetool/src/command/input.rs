@@ -2,7 +2,7 @@
 
 use std::io::Read;
 
-use attachment_h::layout::{Section, Sections};
+use attachment_h::layout::{Section, Sections, Version, u16_at};
 use attachment_h::{ROWS_LENGTH, Refused, check};
 
 use super::Failure;
@@ -14,6 +14,7 @@ use crate::place::refusal::Refusal;
 use crate::text::bytes::is_text;
 use crate::text::mistakes::Mistakes;
 use crate::text::source::Positions;
+use crate::text::version::Told;
 use crate::text::write::{self, Written};
 
 /// A case or a correction.
@@ -41,15 +42,21 @@ impl Inputs {
     pub fn read(topic: Topic, given: &Given, input: &mut dyn Read) -> Result<Inputs, Failure> {
         let mut warnings = Vec::new();
         let bytes = files::read(&given.source, input)?;
-        let case = read_case(given, bytes, &mut warnings)?;
+        let correction = given.correction.as_ref();
+        let correction = correction.map(|source| (source, files::read(source, input)));
+        let beside = match &correction {
+            Some((_, Ok(bytes))) => bytes.as_slice(),
+            _ => &[],
+        };
+        let case = read_case(given, bytes, beside, &mut warnings)?;
         if case.positions.is_some() && is_empty_case(&case.bytes) && !given.allow_empty {
             let done = topic.allows_empty().then_some("taken");
             return Err(Failure::Message(has_no("event", &case.name, done)));
         }
-        let correction = match &given.correction {
-            Some(source) => {
-                let bytes = files::read(source, input)?;
-                Some(read_correction(source, bytes, &mut warnings)?)
+        let correction = match correction {
+            Some((source, bytes)) => {
+                let version = version_of(&case.bytes);
+                Some(read_correction(source, bytes?, version, &mut warnings)?)
             }
             None => None,
         };
@@ -58,6 +65,11 @@ impl Inputs {
             correction,
             warnings,
         })
+    }
+
+    /// The version of the case, and of its correction, if its first two bytes are one.
+    pub fn version(&self) -> Option<Version> {
+        version_of(&self.case.bytes)
     }
 
     /// The bytes of the correction, none where there is none.
@@ -91,7 +103,19 @@ impl Inputs {
     }
 }
 
-fn read_case(given: &Given, bytes: Vec<u8>, warnings: &mut Vec<String>) -> Result<Input, Failure> {
+/// The version that a case file begins with.
+fn version_of(file: &[u8]) -> Option<Version> {
+    let version = file.get(..2)?;
+    Version::of(u16_at(version, 0))
+}
+
+/// The case, beside the bytes of its correction: where both are texts the numbers of both say its version.
+fn read_case(
+    given: &Given,
+    bytes: Vec<u8>,
+    correction: &[u8],
+    warnings: &mut Vec<String>,
+) -> Result<Input, Failure> {
     let name = given.source.to_string();
     let is_text = match given.taken_as {
         Some(taken_as) => taken_as == As::Text,
@@ -100,18 +124,20 @@ fn read_case(given: &Given, bytes: Vec<u8>, warnings: &mut Vec<String>) -> Resul
     if !is_text {
         return Ok(file(name, bytes));
     }
-    text(name, write::case_file(&bytes), warnings)
+    text(name, write::case_file_beside(&bytes, correction), warnings)
 }
 
-/// A correction that was named: one that corrects nothing is a misuse.
+/// A correction that was named, in the version of its case: one that corrects nothing is a misuse.
 fn read_correction(
     source: &Source,
     bytes: Vec<u8>,
+    version: Option<Version>,
     warnings: &mut Vec<String>,
 ) -> Result<Input, Failure> {
     let name = source.to_string();
     let input = if is_text(&bytes) {
-        text(name, write::correction(&bytes), warnings)?
+        let written = write::correction_in(&bytes, version.map(Told::Case));
+        text(name, written, warnings)?
     } else {
         file(name, bytes)
     };

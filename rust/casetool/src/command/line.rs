@@ -1,6 +1,6 @@
 //! `line` of a case: the hours of its bids beside the lines that hold for them.
 
-use attachment_h::layout::{HOURS, Section, Sections, u16_at, u32_at};
+use attachment_h::layout::{HOURS, Sections, u16_at, u32_at};
 use attachment_h::{BidHour, Kind, Refused, line, working};
 
 use super::arguments::{Format, Given};
@@ -20,9 +20,8 @@ pub fn beside_lines(inputs: &Inputs, given: &Given) -> Result<Answer, Failure> {
     let events: Vec<(usize, Event<'_>)> = match given.event {
         Some(number) => vec![(number, event_of_bids(&sections, number)?)],
         None => {
-            let events = sections.records(Section::Events).map(Event::of);
-            let numbered = events.enumerate();
-            numbered
+            let events = Event::all(&sections).enumerate();
+            events
                 .filter(|(_, event)| event.kind == Kind::BIDS)
                 .collect()
         }

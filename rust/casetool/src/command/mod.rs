@@ -1,5 +1,6 @@
 //! The commands.
 
+mod alone;
 pub mod arguments;
 mod case;
 mod convert;
@@ -10,6 +11,7 @@ mod line;
 mod money;
 mod one_line;
 pub mod output;
+mod text;
 
 use std::io::{Read, Write};
 
@@ -102,8 +104,9 @@ pub fn run(
     }
     let answer = match topic {
         Topic::Casetool => Answer::done(topic.text()),
-        Topic::Write => convert::write(&files::read(&given.source, input)?, given)?,
-        Topic::Show => convert::show(&files::read(&given.source, input)?, given)?,
+        Topic::Write => text::write(&files::read(&given.source, input)?, given)?,
+        Topic::Show => text::show(&files::read(&given.source, input)?, given)?,
+        Topic::Convert => convert::copy(&files::read(&given.source, input)?, given)?,
         Topic::Line if !given.one_line.is_empty() => one_line::answer(given)?,
         Topic::Check | Topic::Settle | Topic::Working | Topic::Line => {
             case::answer(topic, given, input)?

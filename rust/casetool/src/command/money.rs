@@ -1,6 +1,6 @@
 //! The working of an event's money: `working` without an hour, and `settle --explain`.
 
-use attachment_h::layout::{Section, Sections};
+use attachment_h::layout::Sections;
 use attachment_h::{
     Kind, PenaltyWorking, Refused, Row, instances, make_up_working, penalty_working,
 };
@@ -48,7 +48,7 @@ pub fn of_every_event<'a>(
         rows,
         fuel: fuel_events(inputs, &sections).map_err(unexpected)?,
     };
-    let events = sections.records(Section::Events).map(Event::of).enumerate();
+    let events = Event::all(&sections).enumerate();
     let workings = events.map(|(number, event)| money.of(number, event));
     workings
         .collect::<Result<_, Refused>>()
@@ -66,7 +66,7 @@ fn fuel_events(
     inputs: &Inputs,
     sections: &Sections<'_>,
 ) -> Result<Vec<(usize, PenaltyWorking)>, Refused> {
-    let events = sections.records(Section::Events).map(Event::of).enumerate();
+    let events = Event::all(sections).enumerate();
     let fuel = events.filter(|(_, event)| event.kind == Kind::FUEL);
     let worked = fuel.map(|(number, _)| {
         let working = penalty_working(&inputs.case.bytes, inputs.correction_bytes(), number)?;

@@ -7,7 +7,7 @@ use super::{Answer, Failure, mistake};
 use crate::format::line::Line;
 use crate::record::field::{Field, Form};
 use crate::record::fields::{
-    AVERAGE_PRICE, COMPONENT_OF_REFERENCE, CONSTRAINED_HOURS, MARKET, reference,
+    AVERAGE_PRICE, COMPONENT_OF_REFERENCE, CONSTRAINED_HOURS, MARKET, value,
 };
 use crate::text::values;
 
@@ -46,10 +46,9 @@ pub fn answer(given: &Given) -> Result<Answer, Failure> {
 
 /// The reference of a component, by the option's name.
 fn reference_of(component: Component) -> Field {
-    let [_, _, _, value] = reference(component);
     Field {
         key: "reference",
-        ..value
+        ..value(component)
     }
 }
 

@@ -1,6 +1,6 @@
 //! What `check` answers, in words and as JSON: a case is accepted or refused, or its text has mistakes.
 
-use attachment_h::layout::Section;
+use attachment_h::layout::{Section, Version};
 
 use super::json::Json;
 use super::notes::Correction;
@@ -14,21 +14,27 @@ pub fn accepted(events: usize) -> String {
     format!("accepted, {}\n", words::count(Section::Events, events))
 }
 
-/// The same as JSON, with the correction that it was checked with.
-pub fn accepted_json(events: usize, correction: Option<&Correction>) -> String {
+/// The same as JSON, with the version of the case and the correction that it was checked with.
+pub fn accepted_json(
+    version: Option<Version>,
+    events: usize,
+    correction: Option<&Correction>,
+) -> String {
     let accepted = Json::Object(vec![
         ("answer", "accepted".into()),
+        ("version", version.map(Version::number).into()),
         ("correction", correction.map(Correction::json).into()),
         ("events", events.into()),
     ]);
     accepted.to_string()
 }
 
-/// A refusal as JSON.
-pub fn refused_json(refusal: &Refusal) -> String {
+/// A refusal as JSON, with the version of the case if it has one.
+pub fn refused_json(version: Option<Version>, refusal: &Refusal) -> String {
     let position = refusal.position.as_ref();
     let refused = Json::Object(vec![
         ("answer", "refused".into()),
+        ("version", version.map(Version::number).into()),
         ("number", refusal.refused.0.into()),
         ("meaning", refusal.refused.meaning().into()),
         ("place", refusal.place.as_ref().map(place_json).into()),

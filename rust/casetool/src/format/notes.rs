@@ -64,12 +64,10 @@ pub fn multiplier(sections: &Sections<'_>, rows: &[u8], event: &Event<'_>, row: 
 
 /// The event, with its unit, that bears the multiplier and the penalty of the fuel day of another: of
 /// the same day, market and group.
-fn bearer(sections: &Sections<'_>, rows: &[u8], of: &Event<'_>) -> Option<(usize, u16)> {
+fn bearer(sections: &Sections<'_>, rows: &[u8], of: &Event<'_>) -> Option<(usize, u32)> {
     let group = |event: &Event<'_>| sections.unit(event.unit).map(|unit| u16_at(unit, 2));
     let day = |event: &Event<'_>| (event.kind, event.day, event.market, group(event));
-    sections
-        .records(Section::Events)
-        .map(Event::of)
+    Event::all(sections)
         .enumerate()
         .find(|(place, event)| {
             day(event) == day(of) && Row::of(rows, *place).multiplier != Multiplier(0)

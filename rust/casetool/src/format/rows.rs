@@ -1,6 +1,6 @@
 //! The rows of a settlement for programs, as JSON and as CSV: every field of a row and of the totals.
 
-use attachment_h::layout::{EVENT_BYTES, Section, u16_at};
+use attachment_h::layout::{Section, Version, u16_at};
 use attachment_h::{Cents, Kind, Mask, Row, Settled};
 
 use super::csv;
@@ -50,8 +50,9 @@ impl Settlement<'_> {
         };
         let columns = |fields: &[(&'static str, Json)]| csv::columns(fields, &[BIDS, BIDS_DOLLARS]);
         // The names are those of any row.
-        let (event, row) = ([0; EVENT_BYTES], Row::default());
-        let any = fields_of(0, &Event::of(&event), None, (&row, Mask(0)));
+        let event = vec![0; Section::Events.width(Version::One)];
+        let (event, row) = (Event::of(Version::One, &event), Row::default());
+        let any = fields_of(0, &event, None, (&row, Mask(0)));
         let names: Vec<String> = columns(&any).into_iter().map(|(name, _)| name).collect();
         let line = |record: &str, rows: String, values: Vec<String>| {
             let first = [record.to_string(), source.clone(), references.clone(), rows];
@@ -69,10 +70,11 @@ impl Settlement<'_> {
 
     /// The fields of each row.
     fn rows(&self) -> impl Iterator<Item = Vec<(&'static str, Json)>> {
-        let events = self.sections.records(Section::Events).map(Event::of);
-        events.enumerate().map(|(place, event)| {
+        let events = Event::all(&self.sections).enumerate();
+        events.map(|(place, event)| {
             let row = Row::of(self.rows, place);
-            let group = self.sections.unit(event.unit).map(|unit| u16_at(unit, 2));
+            let unit = self.sections.unit(event.unit);
+            let group = unit.map(|unit| u16_at(unit, 2));
             let restored = self.restored(place, &event, &row);
             fields_of(place, &event, group, (&row, restored))
         })

@@ -51,11 +51,11 @@ impl Settlement<'_> {
 
     /// The block of a plant, with its events in file order.
     fn block(&self, unit: &[u8]) -> String {
-        let (number, group) = (u16_at(unit, 0), u16_at(unit, 2));
+        let number = Section::Units.unit_number(self.sections.version(), unit);
+        let group = u16_at(unit, 2);
         let mut text = format!("Unit {number}, group {group}\n");
         let mut none = true;
-        for (place, record) in self.sections.records(Section::Events).enumerate() {
-            let event = Event::of(record);
+        for (place, event) in Event::all(&self.sections).enumerate() {
             if event.unit == number {
                 text.push_str(&self.paragraph(place, &event));
                 none = false;

@@ -1,11 +1,11 @@
 //! Numbers 10 to 15: the events, and the rows that they need.
 
 use attachment_h::layout::{
-    CELL_BYTES, EVENT_HEAD_BYTES, HOURS, ROW_BYTES, Section, Sections, cell, u16_at, u32_at,
+    CELL_BYTES, EVENT_HEAD_BYTES, HOURS, ROW_BYTES, Section, Sections, cell, u32_at,
 };
 use attachment_h::{Component, Kind};
 
-use super::{Part, Place, broken_field, field_sentence, value_words};
+use super::{Part, Place, broken_field, field_sentence, names, value_words};
 use crate::record::event::Event;
 use crate::record::fields;
 use crate::text::amounts;
@@ -13,22 +13,24 @@ use crate::text::words;
 
 /// The events of a case with their numbers.
 fn events<'a>(sections: &Sections<'a>) -> impl Iterator<Item = (usize, Event<'a>)> {
-    sections.records(Section::Events).map(Event::of).enumerate()
+    Event::all(sections).enumerate()
 }
 
 fn place(record: usize, at: usize, event: &Event<'_>, rest: &str) -> Place {
+    let part = Part::Section(Section::Events);
+    let name = names::of(part, event.version, record, event.record);
     Place {
-        part: Part::Section(Section::Events),
+        part,
         record,
         at,
-        sentence: format!("event {record} ({event}){rest}"),
+        sentence: format!("{name}{rest}"),
     }
 }
 
 /// Number 10: the first event with a field out of its limits, before its hours or in one.
 pub fn fields(sections: &Sections<'_>) -> Option<Place> {
     events(sections).find_map(|(number, event)| {
-        let head = fields::event(event.shape());
+        let head = fields::event(event.version, event.shape());
         match broken_field(&head, event.record) {
             Some(field) => {
                 let broken = format!(": {}", field_sentence(&field, event.record));
@@ -75,10 +77,11 @@ pub fn order(sections: &Sections<'_>) -> Option<Place> {
 pub fn units(sections: &Sections<'_>) -> Option<Place> {
     events(sections).find_map(|(number, event)| {
         let unlisted = format!(": unit is {}; no unit of this number is listed", event.unit);
+        let at = fields::number_at(Section::Events, event.version);
         sections
             .unit(event.unit)
             .is_none()
-            .then(|| place(number, 2, &event, &unlisted))
+            .then(|| place(number, at, &event, &unlisted))
     })
 }
 
@@ -105,11 +108,13 @@ pub fn capability(sections: &Sections<'_>) -> Option<Place> {
 /// Number 14: the first event of kind 4 without r, or without c where it is read.
 pub fn references(sections: &Sections<'_>, correction: &[u8]) -> Option<Place> {
     let own = sections.bytes(Section::References);
+    let version = sections.version();
     let listed = |references: &[u8], event: &Event<'_>| {
         references
-            .chunks_exact(Section::References.record_bytes())
+            .chunks_exact(Section::References.width(version))
             .any(|record| {
-                (u16_at(record, 0), Component(record[2])) == (event.unit, event.component)
+                let unit = Section::References.unit_number(version, record);
+                (unit, Component(record[2])) == (event.unit, event.component)
             })
     };
     events(sections)

@@ -1,6 +1,6 @@
 //! Numbers 1 to 5: the length, the header and its pairs.
 
-use attachment_h::layout::{HEADER_BYTES, Section, pair, u16_at};
+use attachment_h::layout::{HEADER_BYTES, Section, Version, pair, u16_at};
 
 use super::{Part, Place};
 use crate::text::amounts::{bytes, number as number_of};
@@ -25,14 +25,18 @@ pub fn length(file: &[u8]) -> Place {
 
 /// Numbers 2 and 3: the version and the section count.
 pub fn fixed(file: &[u8], number: u8) -> Option<Place> {
-    let (name, at, right) = match number {
-        2 => ("version", 0, 1),
-        _ => ("section count", 2, 4),
+    let (name, at) = match number {
+        2 => ("version", 0),
+        _ => ("section count", 2),
     };
     let value = u16_at(file.get(..HEADER_BYTES)?, at);
+    let (right, expected) = match number {
+        2 => (Version::of(value).is_some(), "1 or 2"),
+        _ => (value == 4, "4"),
+    };
     let shown = number_of(u64::from(value));
-    let sentence = format!("the header: {name} is {shown}; expected {right}");
-    (value != right).then(|| place(at, sentence))
+    let sentence = format!("the header: {name} is {shown}; expected {expected}");
+    (!right).then(|| place(at, sentence))
 }
 
 /// Number 4: the first pair that doesn't follow on, or the end of the last.
@@ -63,15 +67,16 @@ pub fn pairs(file: &[u8]) -> Option<Place> {
 
 /// Number 5: the first section of no whole number of records, or of too many.
 pub fn sections(file: &[u8]) -> Option<Place> {
-    file.get(..HEADER_BYTES)?;
+    let version = Version::of(u16_at(file.get(..HEADER_BYTES)?, 0))?;
     for section in Section::ALL {
         let length = pair(file, section).1;
-        let (name, bytes) = (section.name(), section.record_bytes() as u64);
+        let (name, bytes) = (section.name(), section.width(version) as u64);
         let at = 8 + 8 * section as usize;
         let shown = number_of(length);
         if !length.is_multiple_of(bytes) {
+            let version = super::in_version(version);
             let sentence = format!(
-                "the header: the length of {name} is {shown}; expected a multiple of {bytes}"
+                "the header: the length of {name} is {shown}; expected a multiple of {bytes}{version}"
             );
             return Some(place(at, sentence));
         }

@@ -4,12 +4,15 @@
 
 mod events;
 mod header;
+pub mod names;
+mod numbers;
 mod records;
 pub mod refusal;
 
-use attachment_h::layout::{Section, Sections};
+use attachment_h::layout::{Section, Sections, Version};
 
 use crate::record::field::{Field, Form};
+use crate::record::fields::OLD_NUMBER;
 use crate::text::amounts::Measure;
 use crate::text::bytes::{is_like_text, is_text, text_of, utf_16};
 
@@ -91,6 +94,7 @@ pub fn find(number: u8, file: &[u8], correction: &[u8], rows_length: usize) -> O
                 13 => events::capability(&sections),
                 14 => events::references(&sections, correction),
                 15 => events::rows(&sections, rows_length),
+                17 => numbers::numbers(&sections),
                 _ => None,
             }
         }
@@ -109,12 +113,24 @@ fn broken_field(fields: &[Field], record: &[u8]) -> Option<Field> {
 /// A field with its value and its limit, in words.
 fn field_sentence(field: &Field, record: &[u8]) -> String {
     let value = field.value(record);
+    let why = match field.key {
+        OLD_NUMBER => ", since version 2 has the number at the record's end",
+        _ => "",
+    };
     format!(
-        "{} is {}; {}",
+        "{} is {}; {}{why}",
         field_name(field),
         value_words(field.form, value),
         field.limit.words(|value| value_words(field.form, value))
     )
+}
+
+/// That a width is that of a version; nothing of the first, whose widths are read without it.
+fn in_version(version: Version) -> String {
+    match version {
+        Version::One => String::new(),
+        version => format!(" in version {}", version.number()),
+    }
 }
 
 /// The name in docs/RULES.md, and the key of the text where it is another word.

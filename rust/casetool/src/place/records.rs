@@ -1,30 +1,32 @@
 //! Numbers 6 to 9: units, references, the correction and past entries.
 
-use attachment_h::layout::{Section, Sections, u16_at};
-use attachment_h::{Component, Kind, Market};
+use attachment_h::Component;
+use attachment_h::layout::{Section, Sections};
 
-use super::{Part, Place, broken_field, field_sentence};
+use super::{Part, Place, broken_field, field_sentence, names};
 use crate::record::fields;
 use crate::text::amounts;
 use crate::text::words;
 
 /// Number 6: the first unit with a field out of its limits, or out of order.
 pub fn units(sections: &Sections<'_>) -> Option<Place> {
-    let part = Part::Section(Section::Units);
-    let mut before: Option<u16> = None;
+    let (version, part) = (sections.version(), Part::Section(Section::Units));
+    let fields = fields::unit(version);
+    let mut before: Option<u32> = None;
     for (record, bytes) in sections.records(Section::Units).enumerate() {
-        let number = u16_at(bytes, 0);
-        let broken = broken_field(&fields::UNIT, bytes)
-            .map(|field| (field.at, field_sentence(&field, bytes)));
+        let number = Section::Units.unit_number(version, bytes);
+        let broken =
+            broken_field(&fields, bytes).map(|field| (field.at, field_sentence(&field, bytes)));
         let broken = broken.or_else(|| {
             let before = before.filter(|&before| before >= number)?;
             let order = format!(
                 "unit number is {number}, after {before}; unit numbers have to rise strictly"
             );
-            Some((0, order))
+            Some((fields::number_at(Section::Units, version), order))
         });
         if let Some((at, broken)) = broken {
-            let sentence = format!("units, record {record} (unit {number}): {broken}");
+            let name = names::of(part, version, record, bytes);
+            let sentence = format!("{name}: {broken}");
             return Some(Place {
                 part,
                 record,
@@ -40,18 +42,13 @@ pub fn units(sections: &Sections<'_>) -> Option<Place> {
 /// Number 7: the first reference that breaks something.
 pub fn references(sections: &Sections<'_>) -> Option<Place> {
     let part = Part::Section(Section::References);
-    in_references(
-        part,
-        "references",
-        sections.bytes(Section::References),
-        sections,
-    )
+    in_references(part, sections.bytes(Section::References), sections)
 }
 
 /// Number 8: the length of the correction, or the first of its records that breaks something.
 pub fn correction(sections: &Sections<'_>, correction: &[u8]) -> Option<Place> {
     let (bytes, most) = (
-        Section::References.record_bytes(),
+        Section::References.width(sections.version()),
         Section::References.most(),
     );
     let whole = |sentence| {
@@ -64,8 +61,9 @@ pub fn correction(sections: &Sections<'_>, correction: &[u8]) -> Option<Place> {
     };
     let length = amounts::bytes(correction.len());
     if !correction.len().is_multiple_of(bytes) {
+        let version = super::in_version(sections.version());
         return whole(format!(
-            "the correction: its length is {length}; expected a multiple of {bytes}"
+            "the correction: its length is {length}; expected a multiple of {bytes}{version}"
         ));
     }
     let count = correction.len() / bytes;
@@ -75,30 +73,25 @@ pub fn correction(sections: &Sections<'_>, correction: &[u8]) -> Option<Place> {
             amounts::number(count as u64)
         ));
     }
-    in_references(Part::Correction, "correction", correction, sections)
+    in_references(Part::Correction, correction, sections)
 }
 
 /// The first of some references that breaks a limit, has an unlisted unit or is out of order.
-fn in_references(
-    part: Part,
-    name: &str,
-    references: &[u8],
-    sections: &Sections<'_>,
-) -> Option<Place> {
-    let mut before: Option<(u16, u8)> = None;
+fn in_references(part: Part, references: &[u8], sections: &Sections<'_>) -> Option<Place> {
+    let version = sections.version();
+    let mut before: Option<(u32, u8)> = None;
     for (record, bytes) in references
-        .chunks_exact(Section::References.record_bytes())
+        .chunks_exact(Section::References.width(version))
         .enumerate()
     {
-        let key = (u16_at(bytes, 0), bytes[2]);
-        let broken = in_reference(bytes, sections)
-            .or_else(|| out_of_order(before.filter(|&before| before >= key)?, key));
+        let key = (Section::References.unit_number(version, bytes), bytes[2]);
+        let broken = in_reference(bytes, sections).or_else(|| {
+            let before = before.filter(|&before| before >= key)?;
+            Some(out_of_order(sections, before, key))
+        });
         if let Some((at, broken)) = broken {
-            let component = words::component(Component(key.1));
-            let sentence = format!(
-                "{name}, record {record} (unit {}, {component}): {broken}",
-                key.0
-            );
+            let name = names::of(part, version, record, bytes);
+            let sentence = format!("{name}: {broken}");
             return Some(Place {
                 part,
                 record,
@@ -111,47 +104,51 @@ fn in_references(
     None
 }
 
-/// The field of one reference that breaks something by itself.
+/// The first field of one reference, in the order of its bytes, that breaks something by itself.
 fn in_reference(bytes: &[u8], sections: &Sections<'_>) -> Option<(usize, String)> {
-    let number = u16_at(bytes, 0);
-    if sections.unit(number).is_none() {
-        let unlisted = format!("unit is {number}; no unit of this number is listed");
-        return Some((0, unlisted));
+    let version = sections.version();
+    let number = Section::References.unit_number(version, bytes);
+    let at = fields::number_at(Section::References, version);
+    let fields = fields::reference(version, Component(bytes[2]));
+    let broken =
+        broken_field(&fields, bytes).map(|field| (field.at, field_sentence(&field, bytes)));
+    match broken {
+        Some(broken) if broken.0 <= at => Some(broken),
+        _ if sections.unit(number).is_none() => {
+            let unlisted = format!("unit is {number}; no unit of this number is listed");
+            Some((at, unlisted))
+        }
+        broken => broken,
     }
-    let field = broken_field(&fields::reference(Component(bytes[2])), bytes)?;
-    Some((field.at, field_sentence(&field, bytes)))
 }
 
-fn out_of_order(before: (u16, u8), key: (u16, u8)) -> Option<(usize, String)> {
-    let at = if before.0 == key.0 { 2 } else { 0 };
-    let field = if at == 0 { "unit" } else { "component" };
+fn out_of_order(sections: &Sections<'_>, before: (u32, u8), key: (u32, u8)) -> (usize, String) {
+    let (field, at) = if before.0 == key.0 {
+        ("component", 2)
+    } else {
+        let version = sections.version();
+        ("unit", fields::number_at(Section::References, version))
+    };
     let order = format!(
         "{field} is out of order after unit {}, {}; references have to rise strictly by unit and component",
         before.0,
         words::component(Component(before.1))
     );
-    Some((at, order))
+    (at, order)
 }
 
 /// Number 9: the first past entry with a field out of its limits.
 pub fn past(sections: &Sections<'_>) -> Option<Place> {
-    sections
-        .records(Section::Past)
-        .enumerate()
-        .find_map(|(record, bytes)| {
-            let field = broken_field(&fields::PAST, bytes)?;
-            let sentence = format!(
-                "past, record {record} (group {}, {}, {}): {}",
-                u16_at(bytes, 0),
-                words::kind(Kind(bytes[2])),
-                words::market(Market(bytes[3])),
-                field_sentence(&field, bytes)
-            );
-            Some(Place {
-                part: Part::Section(Section::Past),
-                record,
-                at: field.at,
-                sentence,
-            })
+    let part = Part::Section(Section::Past);
+    let mut records = sections.records(Section::Past).enumerate();
+    records.find_map(|(record, bytes)| {
+        let field = broken_field(&fields::PAST, bytes)?;
+        let name = names::of(part, sections.version(), record, bytes);
+        Some(Place {
+            part,
+            record,
+            at: field.at,
+            sentence: format!("{name}: {}", field_sentence(&field, bytes)),
         })
+    })
 }

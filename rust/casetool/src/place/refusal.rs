@@ -2,7 +2,8 @@
 
 use std::fmt;
 
-use attachment_h::Refused;
+use attachment_h::layout::{Section, Sections, Version, converted};
+use attachment_h::{Refused, check};
 
 use super::{Given, Place, find, hint};
 use crate::text::source::Position;
@@ -29,7 +30,8 @@ impl Refusal {
             position: None,
             hint: match refused.0 {
                 1 | 2 => hint(Given::Case, file),
-                8 => hint(Given::Correction, correction),
+                8 => hint(Given::Correction, correction)
+                    .or_else(|| of_another_version(file, correction, rows_length)),
                 _ => None,
             },
         }
@@ -42,6 +44,21 @@ impl Refusal {
             |place| &place.sentence,
         )
     }
+}
+
+/// That a refused correction would be a good one in another version than its case's.
+fn of_another_version(file: &[u8], correction: &[u8], rows_length: usize) -> Option<String> {
+    let (section, to) = (Section::References, Sections::of(file)?.version());
+    let mut others = Version::ALL.into_iter().filter(|version| *version != to);
+    let from = others.find(|from| {
+        let whole = correction.len().is_multiple_of(section.width(*from));
+        let copy = converted(section, correction, *from, to).filter(|_| whole);
+        copy.is_some_and(|copy| check(file, &copy, rows_length) != Err(Refused(8)))
+    })?;
+    let (from, to) = (from.number(), to.number());
+    Some(format!(
+        "this is a correction of version {from}, and its case is of version {to}: casetool convert --correction --version {from} --to {to} makes its copy"
+    ))
 }
 
 /// Two lines, the number with its meaning and the place, and a third where there is a hint.

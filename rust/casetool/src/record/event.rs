@@ -2,9 +2,10 @@
 
 use std::fmt;
 
-use attachment_h::layout::{u16_at, u32_at};
+use attachment_h::layout::{Section, Sections, Version, u32_at};
 use attachment_h::{Component, Kind, Market};
 
+use crate::record::fields;
 use crate::record::needs::Shape;
 use crate::text::calendar;
 use crate::text::words;
@@ -12,7 +13,9 @@ use crate::text::words;
 /// An event record with the fields that events are sorted by.
 #[derive(Clone, Copy, Debug)]
 pub struct Event<'a> {
-    /// The 312 bytes.
+    /// The version of its file.
+    pub version: Version,
+    /// Its bytes.
     pub record: &'a [u8],
     /// The day number.
     pub day: u32,
@@ -21,22 +24,30 @@ pub struct Event<'a> {
     /// The market.
     pub market: Market,
     /// The unit number.
-    pub unit: u16,
+    pub unit: u32,
     /// The component.
     pub component: Component,
 }
 
 impl<'a> Event<'a> {
     /// The event of a record.
-    pub fn of(record: &'a [u8]) -> Event<'a> {
+    pub fn of(version: Version, record: &'a [u8]) -> Event<'a> {
         Event {
+            version,
             record,
             day: u32_at(record, 8),
             kind: Kind(record[0]),
             market: Market(record[1]),
-            unit: u16_at(record, 2),
+            unit: Section::Events.unit_number(version, record),
             component: Component(record[6]),
         }
+    }
+
+    /// The events of a case, in the order of the file.
+    pub fn all(sections: &Sections<'a>) -> impl Iterator<Item = Event<'a>> + use<'a> {
+        let version = sections.version();
+        let records = sections.records(Section::Events);
+        records.map(move |record| Event::of(version, record))
     }
 
     /// What says how its fields are read.
@@ -81,7 +92,7 @@ impl<'a> Event<'a> {
     }
 
     /// What events rise strictly by.
-    pub fn order(&self) -> (u32, Kind, Market, u16, Component) {
+    pub fn order(&self) -> (u32, Kind, Market, u32, Component) {
         (self.day, self.kind, self.market, self.unit, self.component)
     }
 
@@ -95,7 +106,7 @@ impl<'a> Event<'a> {
         } else if self.market != other.market {
             ("market", 1)
         } else if self.unit != other.unit {
-            ("unit", 2)
+            ("unit", fields::number_at(Section::Events, self.version))
         } else {
             ("component", 6)
         }

@@ -74,13 +74,15 @@ pub enum Limit {
     Mask,
     /// What its bytes can hold here; a limit of its own, L13, holds it to the unit's capability.
     Capability,
+    /// Whatever its bytes can hold, which is less than another version has room for: by these words.
+    Room(&'static str),
 }
 
 impl Limit {
     /// Whether a value is allowed.
     pub fn allows(self, value: i64) -> bool {
         match self {
-            Limit::Any | Limit::Capability => true,
+            Limit::Any | Limit::Capability | Limit::Room(_) => true,
             Limit::Between(low, high) => (low..=high).contains(&value),
             Limit::Either(one, other) => value == one || value == other,
             Limit::Mask => value >> 24 == 0,
@@ -97,6 +99,7 @@ impl Limit {
             Limit::Either(one, other) => format!("expected {} or {}", words(one), words(other)),
             Limit::Mask => "bits 24 to 31 of the mask have to be 0".to_string(),
             Limit::Capability => "expected at most the capability of its unit".to_string(),
+            Limit::Room(words) => words.to_string(),
         }
     }
 }

@@ -1,5 +1,6 @@
 //! The fields of every record. What shows, writes and checks a case goes by this one table.
 
+use attachment_h::layout::{HIGHEST_UNIT_NUMBER, Section, Version};
 use attachment_h::{Component, Kind, Market};
 
 use crate::record::field::{Field, Form, Limit};
@@ -17,9 +18,43 @@ const LARGEST_CHANGE: i64 = 1_000_000_000;
 const LARGEST_POWER: i64 = 50_000;
 const LAST_DAY: i64 = 1_000_000;
 
+/// The key of the number of a unit, in every record that has one.
+pub const NUMBER: &str = "unit";
+
+/// The key of the two bytes in which version 1 has that number.
+pub const OLD_NUMBER: &str = "old-number";
+
+/// The number of the unit that a record is of or names: in version 1 two bytes, in version 2 the last four, and then
+/// the two bytes of version 1, which are 0. A past entry names no unit.
+pub fn number(section: Section, version: Version) -> Vec<Field> {
+    let (name, old) = match section {
+        Section::Units => ("unit number", 0),
+        Section::References => ("unit", 0),
+        Section::Past => return Vec::new(),
+        Section::Events => ("unit", 2),
+    };
+    let number = |place| Field::new((name, NUMBER), place, PLAIN).needed();
+    match version {
+        Version::One => vec![number((old, 2))],
+        Version::Two => vec![
+            number((section.width(version) - 4, 4)).within(0, HIGHEST_UNIT_NUMBER.into()),
+            Field::new(("old number", OLD_NUMBER), (old, 2), PLAIN).within(0, 0),
+        ],
+    }
+}
+
+/// Where the number of a unit stands in a record that has one.
+pub fn number_at(section: Section, version: Version) -> usize {
+    number(section, version)[0].at
+}
+
 /// The fields of a unit.
-pub const UNIT: [Field; 12] = [
-    Field::new(("unit number", "unit"), (0, 2), PLAIN).needed(),
+pub fn unit(version: Version) -> Vec<Field> {
+    [&number(Section::Units, version), &OF_UNIT[..]].concat()
+}
+
+/// The fields of a unit beside its number.
+const OF_UNIT: [Field; 11] = [
     Field::new(("group", "group"), (2, 2), PLAIN).needed(),
     Field::new(("area", "area"), (4, 1), Form::Mark).within(0, 1),
     Field::spare("spare-5", 5),
@@ -80,21 +115,29 @@ pub fn measure_of(component: Component) -> Measure {
 }
 
 /// The fields of a reference of this component.
-pub fn reference(component: Component) -> [Field; 4] {
+pub fn reference(version: Version, component: Component) -> Vec<Field> {
+    let mut fields = reference_of_any_component(version);
+    fields.push(value(component));
+    fields
+}
+
+/// The fields of a reference whose component is not known, which says how its value is read.
+pub fn reference_of_any_component(version: Version) -> Vec<Field> {
+    let others = [COMPONENT_OF_REFERENCE, Field::spare("spare-3", 3)];
+    [&number(Section::References, version), &others[..]].concat()
+}
+
+/// The value of a reference of this component.
+pub fn value(component: Component) -> Field {
     let most = if component <= Component::RESERVE_OR_REGULATION {
         LARGEST_PRICE
     } else {
         LARGEST_CHANGE
     };
-    let value = Form::Amount(measure_of(component));
-    [
-        Field::new(("unit", "unit"), (0, 2), PLAIN).needed(),
-        COMPONENT_OF_REFERENCE,
-        Field::spare("spare-3", 3),
-        Field::new(("value", "value"), (4, 4), value)
-            .needed()
-            .within(0, most),
-    ]
+    let form = Form::Amount(measure_of(component));
+    Field::new(("value", "value"), (4, 4), form)
+        .needed()
+        .within(0, most)
 }
 
 /// The component of a reference, which says how its value is read.
@@ -117,18 +160,18 @@ pub const MARKET: Field = Field::new(("market", "market"), (1, 1), Form::Name(MA
     .needed()
     .within(0, 1);
 
-/// The unit of an event.
-const UNIT_OF_EVENT: Field = Field::new(("unit", "unit"), (2, 2), PLAIN).needed();
-
 /// The capability period of an event.
 const PERIOD: Field = Field::new(("period", "period"), (4, 2), PLAIN).needed();
 
 /// The fields that every event has under one key, whatever its kind.
-pub const OF_EVERY_EVENT: [Field; 5] = [DAY, KIND, MARKET, UNIT_OF_EVENT, PERIOD];
+pub fn of_every_event(version: Version) -> Vec<Field> {
+    let number = number(Section::Events, version);
+    [&[DAY, KIND, MARKET][..], &number, &[PERIOD]].concat()
+}
 
 /// The fields of an event before its hour cells, by its kind, market and component, in the order of
 /// the text. Needed are those that the kind reads; its unit's area may ask for more.
-pub fn event(shape: Shape) -> [Field; 10] {
+pub fn event(version: Version, shape: Shape) -> Vec<Field> {
     let kind = shape.kind;
     let markets = if kind == Kind::DISPATCH {
         (1, 1)
@@ -140,21 +183,16 @@ pub fn event(shape: Shape) -> [Field; 10] {
     } else {
         1
     };
-    let [p, q, r] = words_of_event(shape);
-    [
-        DAY,
-        KIND,
-        MARKET.within(markets.0, markets.1),
-        UNIT_OF_EVENT,
+    let before = [DAY, KIND, MARKET.within(markets.0, markets.1)];
+    let after = [
         PERIOD,
         component_of_event(kind),
         Field::new(("impact", "impact"), (7, 1), Form::Mark)
             .needed_where(matches!(kind, Kind::WITHHELD | Kind::DISPATCH))
             .within(0, most_impact),
-        p,
-        q,
-        r,
-    ]
+    ];
+    let number = number(Section::Events, version);
+    [&before[..], &number, &after, &words_of_event(shape)].concat()
 }
 
 /// The component of an event of this kind: "0 to 8 in kind 4, else 0".
@@ -172,7 +210,7 @@ pub fn is_p_q_or_r(field: &Field) -> bool {
 }
 
 /// P, Q and R. A kind that lacks one has it under its letter, as a plain number.
-fn words_of_event(shape: Shape) -> [Field; 3] {
+pub fn words_of_event(shape: Shape) -> [Field; 3] {
     let day_ahead = shape.market == Market::DAY_AHEAD;
     let p = |key| Field::new(("P", key), (12, 4), Form::Hours).limited(Limit::Mask);
     let q = |key, form| Field::new(("Q", key), (16, 4), form);

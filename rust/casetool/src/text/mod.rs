@@ -13,5 +13,6 @@ mod read;
 pub mod show;
 pub mod source;
 pub mod values;
+pub mod version;
 pub mod words;
 pub mod write;

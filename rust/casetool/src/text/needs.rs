@@ -11,7 +11,7 @@ use crate::record::needs::Shape;
 /// The line of a unit.
 pub struct UnitLine<'a> {
     /// The unit number.
-    pub number: u16,
+    pub number: u32,
     /// The area.
     pub area: u8,
     /// The keys that it has.
@@ -25,7 +25,7 @@ pub struct EventLine<'a> {
     /// What says how it is read.
     pub shape: Shape,
     /// The unit number.
-    pub unit: u16,
+    pub unit: u32,
     /// The keys that it has.
     pub keys: BTreeSet<&'a str>,
     /// Its last word.
@@ -52,7 +52,7 @@ pub fn units_and_events(units: &[UnitLine<'_>], events: &[EventLine<'_>], mistak
 }
 
 fn on_event(event: &EventLine<'_>, unit: &UnitLine<'_>, mistakes: &mut Mistakes) {
-    let asked = fields::event(event.shape)
+    let asked = fields::words_of_event(event.shape)
         .into_iter()
         .find(|field| event.shape.area_needs(unit.area, field) && !event.keys.contains(field.key));
     if let Some(field) = asked {

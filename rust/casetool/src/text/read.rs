@@ -1,21 +1,23 @@
 //! From the lines of a text to its records, with every mistake on the way.
 
-use attachment_h::layout::{HEADER_BYTES, HOURS, LARGEST_FILE, Section, u16_at, u32_at};
+mod before;
+
+use attachment_h::layout::{HEADER_BYTES, HOURS, LARGEST_FILE, Section, Version, u16_at, u32_at};
 use attachment_h::{Component, Kind, Market, Mask};
 
 use super::line::{Line, TextError, Word, words};
 use super::mistakes::Mistakes;
 use super::needs::{EventLine, UnitLine};
-use super::order::AS_WRITTEN;
 use super::source::Record;
 use super::values::{Unknown, early_value, values};
+use super::version::{ROOM_AS_SAID, Said, Told, VERSION};
 use super::{amounts, calendar, hours, near};
-use crate::record::field::Field;
+use crate::record::field::{Field, Limit};
 use crate::record::fields;
 use crate::record::needs::Shape;
 
 /// What a line may begin with.
-const FIRST_WORDS: [&str; 7] = [
+const FIRST_WORDS: [&str; 8] = [
     "unit",
     "reference",
     "past",
@@ -23,11 +25,13 @@ const FIRST_WORDS: [&str; 7] = [
     "hour",
     "hours",
     "order",
+    VERSION,
 ];
 
 /// What is read of a text: its records as they stand there, the lines that they came from, and what is wrong.
-#[derive(Default)]
 pub struct Reader<'a> {
+    /// The version that the records are laid out in.
+    pub version: Version,
     /// The records of each section.
     pub sections: [Vec<Record<'a>>; 4],
     /// The lines of units.
@@ -41,6 +45,11 @@ pub struct Reader<'a> {
     /// What looks wrong, and is written all the same.
     pub warnings: Vec<TextError>,
     references_only: bool,
+    /// What says the version of a correction, beside its text.
+    told: Option<Told>,
+    /// The numbers that a record of version 1 has room for, where something says that version.
+    room: Option<&'static str>,
+    says_version: bool,
     above: Above<'a>,
     lines: [usize; 4],
 }
@@ -73,18 +82,40 @@ struct OpenEvent<'a> {
 const EVERY_HOUR: u32 = (1 << HOURS) - 1;
 
 impl<'a> Reader<'a> {
-    /// Reads the lines of a case.
-    pub fn case(text: &'a str) -> Reader<'a> {
-        Reader::default().read(text)
+    /// Reads the lines of a case; its version is at least this one where its text does not say it.
+    pub fn case(text: &'a str, least: Version) -> Reader<'a> {
+        let said = Said::by(text);
+        let version = said.line.unwrap_or(said.needed.max(least));
+        Reader::new(version, said).read(text)
     }
 
-    /// Reads the lines of a correction, which has references alone.
-    pub fn correction(text: &'a str) -> Reader<'a> {
-        let reader = Reader {
-            references_only: true,
-            ..Reader::default()
-        };
+    /// Reads the lines of a correction, which has references alone, in the version that is told, if one is.
+    pub fn correction(text: &'a str, told: Option<Told>) -> Reader<'a> {
+        let said = Said::by(text);
+        let version = told.map_or(said.version(), Told::version);
+        let mut reader = Reader::new(version, said);
+        reader.references_only = true;
+        reader.told = told;
+        reader.room = told.map(Told::room).or(reader.room);
         reader.read(text)
+    }
+
+    fn new(version: Version, said: Said) -> Reader<'a> {
+        Reader {
+            version,
+            sections: Default::default(),
+            units: Vec::new(),
+            events: Vec::new(),
+            as_written: false,
+            mistakes: Mistakes::default(),
+            warnings: Vec::new(),
+            references_only: false,
+            told: None,
+            room: said.line.map(|_| ROOM_AS_SAID),
+            says_version: false,
+            above: Above::default(),
+            lines: [0; 4],
+        }
     }
 
     fn read(mut self, text: &'a str) -> Reader<'a> {
@@ -105,6 +136,7 @@ impl<'a> Reader<'a> {
         self.close_event();
         match first.text {
             "order" => self.order(first, rest),
+            VERSION => self.version(first, rest),
             "reference" => self.reference(first, rest),
             _ if self.references_only => {
                 let expected = "expected reference: a correction has nothing else";
@@ -126,31 +158,14 @@ impl<'a> Reader<'a> {
         self.above = Above::Unread;
     }
 
-    /// The line `order as-written`, before every record.
-    fn order(&mut self, first: Word<'a>, rest: &[Word<'a>]) {
-        if self.as_written || self.lines.iter().any(|&lines| lines > 0) {
-            let problem = "order stands once, before the first record";
-            self.mistakes.add(first.wrong(problem));
-        }
-        self.as_written = true;
-        let expected = format!("expected {AS_WRITTEN} after order, and nothing else");
-        let mut others = rest.iter().enumerate();
-        let other = others.find(|(place, word)| *place > 0 || word.text != AS_WRITTEN);
-        match other {
-            Some((_, word)) => self.mistakes.add(word.wrong(expected)),
-            None if rest.is_empty() => self.mistakes.add(first.missing(expected)),
-            None => {}
-        }
-    }
-
     fn unit(&mut self, first: Word<'a>, rest: &[Word<'a>]) {
         // The first word is a key too: that of the number.
         let words: Vec<Word<'a>> = [&[first], rest].concat();
         let line = Line::of(first, &words, &mut self.mistakes);
-        let found = self.record(Section::Units, &line, &fields::UNIT);
+        let found = self.record(Section::Units, &line, &fields::unit(self.version));
         if let Some(record) = found {
             self.units.push(UnitLine {
-                number: u16_at(&record.bytes, 0),
+                number: Section::Units.unit_number(self.version, &record.bytes),
                 area: record.bytes[4],
                 keys: line.keys,
                 last: line.last,
@@ -162,19 +177,15 @@ impl<'a> Reader<'a> {
     fn reference(&mut self, first: Word<'a>, rest: &[Word<'a>]) {
         let line = Line::of(first, rest, &mut self.mistakes);
         let component = early_value(&line, &fields::COMPONENT_OF_REFERENCE).map(Component);
-        let all = fields::reference(component.unwrap_or_default());
         // Without its component nothing is known of the value.
-        let [unit, of_component, spare, value] = all;
-        let known: &[_] = match component {
-            Some(_) => &[unit, of_component, spare, value],
-            None => &[unit, of_component, spare],
+        let (known, unknown) = match component {
+            Some(component) => (fields::reference(self.version, component), Unknown::Wrong),
+            None => (
+                fields::reference_of_any_component(self.version),
+                Unknown::Left,
+            ),
         };
-        let unknown = if component.is_some() {
-            Unknown::Wrong
-        } else {
-            Unknown::Left
-        };
-        let found = self.record_of(Section::References, &line, known, unknown);
+        let found = self.record_of(Section::References, &line, &known, unknown);
         self.sections[Section::References as usize].extend(found);
     }
 
@@ -192,23 +203,24 @@ impl<'a> Reader<'a> {
         let (shape, certain) = match shape_of(&line) {
             Some(found) => found,
             None => {
-                let fields = &fields::OF_EVERY_EVENT;
-                self.record_of(Section::Events, &line, fields, Unknown::Left);
+                let fields = fields::of_every_event(self.version);
+                self.record_of(Section::Events, &line, &fields, Unknown::Left);
                 self.above = Above::Unread;
                 return;
             }
         };
         // What a market or a component asks for is not known before they are.
-        let fields = fields::event(shape).map(|field| {
-            let known = certain.market && certain.component || !fields::is_p_q_or_r(&field);
-            field.needed_where(field.needed && known)
-        });
+        let mut fields = fields::event(self.version, shape);
+        for field in &mut fields {
+            let known = certain.market && certain.component || !fields::is_p_q_or_r(field);
+            field.needed = field.needed && known;
+        }
         let record = self.record(Section::Events, &line, &fields);
         if let Some(record) = &record {
             self.look_at_period(&line, &record.bytes);
             self.events.push(EventLine {
                 shape,
-                unit: u16_at(&record.bytes, 2),
+                unit: Section::Events.unit_number(self.version, &record.bytes),
                 keys: line.keys,
                 last: line.last,
             });
@@ -287,9 +299,10 @@ impl<'a> Reader<'a> {
                     .wrong(format!("with this record the file is over {most}")),
             );
         }
-        let found = values(line, fields, unknown, &mut self.mistakes)?;
+        let fields = self.with_room(section, fields);
+        let found = values(line, &fields, unknown, &mut self.mistakes)?;
         let mut bytes = found.bytes;
-        bytes.resize(section.record_bytes(), 0);
+        bytes.resize(section.width(self.version), 0);
         Some(Record {
             first: line.first,
             bytes,
@@ -297,12 +310,24 @@ impl<'a> Reader<'a> {
         })
     }
 
+    /// The fields of a record, its number of a unit held to version 1 where something says that version.
+    fn with_room(&self, section: Section, fields: &[Field]) -> Vec<Field> {
+        let mut fields = fields.to_vec();
+        if let (Version::One, Some(room)) = (self.version, self.room) {
+            let numbers = fields::number(section, self.version);
+            for field in fields.iter_mut().filter(|field| numbers.contains(field)) {
+                field.limit = Limit::Room(room);
+            }
+        }
+        fields
+    }
+
     /// The bytes of a file with a record for each line so far.
     fn length(&self) -> usize {
         let sections = Section::ALL.into_iter().zip(self.lines);
         HEADER_BYTES
             + sections
-                .map(|(section, lines)| lines * section.record_bytes())
+                .map(|(section, lines)| lines * section.width(self.version))
                 .sum::<usize>()
     }
 

@@ -3,20 +3,23 @@
 use std::fmt::Write;
 
 use attachment_h::Component;
-use attachment_h::layout::{HOURS, Section, Sections, cell, u16_at, u32_at};
+use attachment_h::layout::{HOURS, Section, Sections, Version, cell, u32_at};
 
 use crate::record::event::Event;
 use crate::record::field::Field;
 use crate::record::fields;
+use crate::text::version::VERSION;
 use crate::text::{calendar, order, words};
 
 /// The text of a case.
 pub fn case_text(sections: &Sections<'_>) -> String {
+    let version = sections.version();
     let counts = Section::ALL.map(|section| words::count(section, sections.count(section)));
-    let mut text = order_line(
+    let mut text = before_records(
+        version,
         Section::ALL
             .into_iter()
-            .all(|section| order::rises(section, sections.records(section))),
+            .all(|section| order::rises(version, section, sections.records(section))),
     );
     put(&mut text, format_args!("# case: {}\n", counts.join(", ")));
     for section in Section::ALL {
@@ -26,7 +29,7 @@ pub fn case_text(sections: &Sections<'_>) -> String {
         for (place, record) in sections.records(section).enumerate() {
             match section {
                 Section::Units => unit(&mut text, sections, record),
-                Section::References => reference(&mut text, record),
+                Section::References => reference(&mut text, version, record),
                 Section::Past => past(&mut text, record),
                 Section::Events => event(&mut text, sections, place, record),
             }
@@ -36,26 +39,28 @@ pub fn case_text(sections: &Sections<'_>) -> String {
 }
 
 /// The text of a correction of whole records.
-pub fn correction_text(correction: &[u8]) -> String {
-    let records = correction.chunks_exact(Section::References.record_bytes());
-    let count = words::count(Section::References, records.len());
-    let mut text = order_line(order::rises(Section::References, records.clone()));
+pub fn correction_text(version: Version, correction: &[u8]) -> String {
+    let section = Section::References;
+    let records = correction.chunks_exact(section.width(version));
+    let count = words::count(section, records.len());
+    let mut text = before_records(version, order::rises(version, section, records.clone()));
     put(&mut text, format_args!("# correction: {count}\n"));
     if !correction.is_empty() {
         text.push('\n');
     }
     for record in records {
-        reference(&mut text, record);
+        reference(&mut text, version, record);
     }
     text
 }
 
-/// The line without which `write` would sort the records, where they do not rise.
-fn order_line(rises: bool) -> String {
-    match rises {
+/// The line without which `write` would sort the records, where they do not rise, and the line of the version.
+fn before_records(version: Version, rises: bool) -> String {
+    let order = match rises {
         true => String::new(),
         false => format!("order {}\n", order::AS_WRITTEN),
-    }
+    };
+    format!("{order}{VERSION} {}\n", version.number())
 }
 
 /// A line with the fields of a record or of an hour cell.
@@ -85,26 +90,23 @@ fn put(text: &mut String, words: std::fmt::Arguments<'_>) {
 
 /// A unit, with the keys that its events read.
 fn unit(text: &mut String, sections: &Sections<'_>, record: &[u8]) {
-    let (number, area) = (u16_at(record, 0), record[4]);
-    let read: Vec<&str> = sections
-        .records(Section::Events)
-        .map(Event::of)
+    let version = sections.version();
+    let (number, area) = (Section::Units.unit_number(version, record), record[4]);
+    let read: Vec<&str> = Event::all(sections)
         .filter(|event| event.unit == number)
         .flat_map(|event| event.shape().keys_of_unit(area))
         .copied()
         .collect();
-    let fields =
-        fields::UNIT.map(|field| field.needed_where(field.needed || read.contains(&field.key)));
+    let mut fields = fields::unit(version);
+    for field in &mut fields {
+        field.needed = field.needed || read.contains(&field.key);
+    }
     line(text, "", &fields, record);
 }
 
-fn reference(text: &mut String, record: &[u8]) {
-    line(
-        text,
-        "reference",
-        &fields::reference(Component(record[2])),
-        record,
-    );
+fn reference(text: &mut String, version: Version, record: &[u8]) {
+    let fields = fields::reference(version, Component(record[2]));
+    line(text, "reference", &fields, record);
 }
 
 fn past(text: &mut String, record: &[u8]) {
@@ -117,16 +119,18 @@ fn past(text: &mut String, record: &[u8]) {
 
 /// An event with its number and date in a comment, then its hours.
 fn event(text: &mut String, sections: &Sections<'_>, place: usize, record: &[u8]) {
-    let event = Event::of(record);
+    let version = sections.version();
+    let event = Event::of(version, record);
     let units = sections.records(Section::Units);
     let areas: Vec<u8> = units
-        .filter(|unit| u16_at(unit, 0) == event.unit)
+        .filter(|unit| Section::Units.unit_number(version, unit) == event.unit)
         .map(|unit| unit[4])
         .collect();
-    let fields = fields::event(event.shape()).map(|field| {
-        let asked = |&area: &u8| event.shape().area_needs(area, &field);
-        field.needed_where(field.needed || areas.iter().any(asked))
-    });
+    let mut fields = fields::event(version, event.shape());
+    for field in &mut fields {
+        let asked = |&area: &u8| event.shape().area_needs(area, field);
+        field.needed = field.needed || areas.iter().any(asked);
+    }
     put_words(text, "event", &fields, record);
     let date = calendar::date(event.day);
     put(text, format_args!("  # event {place}, {date}\n"));

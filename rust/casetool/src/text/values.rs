@@ -5,6 +5,7 @@ use super::line::{Line, Pair, TextError, Word};
 use super::mistakes::Mistakes;
 use super::near;
 use crate::record::field::{Field, Form};
+use crate::record::fields::{NUMBER, OLD_NUMBER};
 
 /// The fields of a record, or of the cells of some hours, with the words that they came from.
 pub struct Values<'a> {
@@ -85,6 +86,10 @@ pub fn early_value(line: &Line<'_>, field: &Field) -> Option<u8> {
 /// The keys of a line that are looked at for a near miss: more than any record has.
 const MOST_KEYS: usize = 20;
 
+/// That a record of version 1 has the key of a field that version 2 alone has.
+const NO_OLD_NUMBER: &str =
+    "version 1 has no such field; a text of version 2 begins with the line version 2";
+
 /// Adds that a line has a key which the fields do not have; the key that it is asked about, if it is near to one.
 fn unknown_key(
     line: &Line<'_>,
@@ -108,6 +113,9 @@ fn unknown_key(
         .collect();
     let meant = near::meant(key.text, &lacking);
     match (meant, unknown) {
+        _ if key.text == OLD_NUMBER && known.contains(&NUMBER) => {
+            mistakes.add(key.wrong(NO_OLD_NUMBER));
+        }
         (Some(meant), _) => mistakes.add(key.wrong(near::question(meant))),
         (None, Unknown::Wrong) => {
             let expected = format!("unknown key; expected {}", known.join(", "));
@@ -186,11 +194,11 @@ fn with_measure(value: Word<'_>) -> (&str, Option<Word<'_>>) {
     )
 }
 
-/// The keys of fields, without the spare bytes.
+/// The keys of fields, without the bytes that are 0 in a good case.
 fn keys(fields: &[Field]) -> Vec<&'static str> {
     fields
         .iter()
         .map(|field| field.key)
-        .filter(|key| !key.starts_with("spare-"))
+        .filter(|key| !key.starts_with("spare-") && *key != OLD_NUMBER)
         .collect()
 }

@@ -1,6 +1,6 @@
 //! From text to the bytes of a case file or of a correction.
 
-use attachment_h::layout::{Section, file_of};
+use attachment_h::layout::{Section, Version, file_in};
 
 use super::bytes::text_of;
 use super::line::TextError;
@@ -9,6 +9,7 @@ use super::needs::units_and_events;
 use super::order;
 use super::read::Reader;
 use super::source::Positions;
+use super::version::{Said, Told};
 
 /// What a text gives.
 #[derive(Clone, Debug, PartialEq, Eq)]
@@ -21,14 +22,25 @@ pub struct Written {
     pub warnings: Vec<TextError>,
 }
 
-/// The case file of a text.
+/// The case file of a text, of the version that it says, or of version 2 where one of its unit numbers is above 65,535.
 pub fn case_file(text: &[u8]) -> Result<Written, Mistakes> {
-    written(Reader::case(text_of(text)?), file_of)
+    case_file_beside(text, &[])
+}
+
+/// The same beside the text of its correction, whose numbers count too; bytes that are no text have none.
+pub fn case_file_beside(text: &[u8], correction: &[u8]) -> Result<Written, Mistakes> {
+    let least = text_of(correction).map_or(Version::One, |correction| Said::by(correction).needed);
+    written(Reader::case(text_of(text)?, least), file_in)
 }
 
 /// The correction of a text: its references.
 pub fn correction(text: &[u8]) -> Result<Written, Mistakes> {
-    written(Reader::correction(text_of(text)?), |sections| {
+    correction_in(text, None)
+}
+
+/// The same in the version that is told, if one is.
+pub fn correction_in(text: &[u8], told: Option<Told>) -> Result<Written, Mistakes> {
+    written(Reader::correction(text_of(text)?, told), |_, sections| {
         sections[Section::References as usize].clone()
     })
 }
@@ -36,11 +48,12 @@ pub fn correction(text: &[u8]) -> Result<Written, Mistakes> {
 /// The bytes of what was read, sorted where the text does not say otherwise, unless there is a mistake.
 fn written(
     mut reader: Reader<'_>,
-    bytes: impl Fn(&[Vec<u8>; 4]) -> Vec<u8>,
+    bytes: impl Fn(Version, &[Vec<u8>; 4]) -> Vec<u8>,
 ) -> Result<Written, Mistakes> {
+    let version = reader.version;
     units_and_events(&reader.units, &reader.events, &mut reader.mistakes);
     if !reader.as_written {
-        order::sort(&mut reader.sections, &mut reader.mistakes);
+        order::sort(version, &mut reader.sections, &mut reader.mistakes);
     }
     if reader.mistakes.count() > 0 {
         return Err(reader.mistakes);
@@ -53,7 +66,7 @@ fn written(
             .collect()
     });
     Ok(Written {
-        bytes: bytes(&sections),
+        bytes: bytes(version, &sections),
         positions: Positions::of(&reader.sections),
         warnings: reader.warnings,
     })

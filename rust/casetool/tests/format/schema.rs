@@ -1,26 +1,32 @@
 //! Checks and workings as JSON, what the schema of docs/ would notice, and what python3 reads.
 
+use std::collections::BTreeSet;
 use std::io::Write;
 use std::process::{Command, Stdio};
 
+use attachment_h::layout::Version;
 use attachment_h::{ROWS_LENGTH, Row, Working, settle, working};
 use cases::Random;
-use cases::faults::FAULTS;
-use cases::generator::{Size, Wanted, any_case, case};
+use cases::faults::{CHECKED, faults_in};
+use cases::generator::{Size, Wanted, any_case_in, case};
 
 use crate::support::json::{Value, answer, broken, parse, schema};
-use crate::support::{casetool, casetool_with, repository};
+use crate::support::{casetool, casetool_with, in_turn, repository};
 
 #[test]
 fn refusals_as_json() {
     let schema = schema();
     let mut random = Random::new(753);
-    let mut numbers = Vec::new();
-    for fault in FAULTS.iter().filter(|fault| fault.number != 15) {
+    let mut numbers = BTreeSet::new();
+    let faults = Version::ALL.into_iter().flat_map(|version| {
+        let faults = faults_in(version).map(move |fault| (version, fault));
+        faults.filter(|(_, fault)| fault.number != 15)
+    });
+    for (version, fault) in faults {
         for _ in 0..4 {
             let wanted = Wanted {
                 every_kind: true,
-                ..Wanted::of(Size::Small)
+                ..Wanted::of(Size::Small).in_version(version)
             };
             let mut input = case(&mut random, wanted).input();
             if (fault.apply)(&mut input, &mut random).is_none() {
@@ -35,11 +41,16 @@ fn refusals_as_json() {
             let words = casetool_with("schema.check", &arguments[..3], &input);
             let sentence = value.at("place").at("sentence").text();
             assert_eq!(words.text().lines().nth(1), Some(sentence));
-            numbers.push(fault.number);
+            let version = match input.file.get(..2) {
+                Some([number @ (1 | 2), 0]) => Value::Integer(i128::from(*number)),
+                _ => Value::Null,
+            };
+            assert_eq!(*value.at("version"), version, "{}", fault.name);
+            numbers.insert(fault.number);
         }
     }
-    numbers.dedup();
-    assert_eq!(numbers, (1..=14).collect::<Vec<u8>>());
+    let every = CHECKED.into_iter().filter(|number| *number != 15);
+    assert_eq!(numbers, every.collect::<BTreeSet<u8>>());
 }
 
 #[test]
@@ -55,6 +66,9 @@ fn checks_of_a_text_as_json() {
     let value = checked(&example, 0);
     assert_eq!(value.at("answer").text(), "accepted");
     assert_eq!(value.at("events").integer(), 6);
+    assert_eq!(value.at("version").integer(), 1);
+    let value = checked(&format!("version 2\n{example}"), 0);
+    assert_eq!(value.at("version").integer(), 2);
     let value = checked(&example.replace("area 1", "area 2"), 1);
     assert_eq!(value.at("line").integer(), 4);
     assert_eq!(value.at("column").integer(), 22);
@@ -122,8 +136,8 @@ fn workings_as_json() {
     let schema = schema();
     let mut random = Random::new(754);
     let (mut hours, mut flagged, mut negative) = (0, 0, 0);
-    for _ in 0..60 {
-        let generated = any_case(&mut random);
+    for place in 0..60 {
+        let generated = any_case_in(in_turn(place), &mut random);
         let input = generated.input();
         for event in (0..generated.case.events.len()).step_by(7) {
             let hour = random.below(24);
@@ -137,6 +151,8 @@ fn workings_as_json() {
             same_working(&value, &expected);
             assert_eq!(value.at("event").integer(), event as i128);
             assert_eq!(value.at("hour").integer(), hour as i128);
+            let unit = generated.case.events[event].unit;
+            assert_eq!(value.at("unit").integer(), i128::from(unit));
             hours += 1;
             flagged += usize::from(expected.flagged);
             negative += usize::from(increase(&expected) < 0);
@@ -225,7 +241,8 @@ fn python(program: &str, input: &[u8]) -> Option<String> {
 #[test]
 fn python_reads_the_same() {
     let mut random = Random::new(755);
-    let input = case(&mut random, Wanted::of(Size::Full)).input();
+    let wanted = Wanted::of(Size::Full).in_version(Version::Two);
+    let input = case(&mut random, wanted).input();
     let mut rows = vec![0; ROWS_LENGTH];
     let settled = settle(&input.file, &input.correction, &mut rows).expect("an accepted case");
     let rows = Row::first(&rows, settled.rows);

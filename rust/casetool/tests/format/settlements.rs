@@ -2,13 +2,13 @@
 
 use attachment_h::{ROWS_LENGTH, Row, Settled, settle};
 use cases::case::Input;
-use cases::generator::{Generated, any_case};
+use cases::generator::{Generated, any_case_in};
 use cases::{Event, Kind, Random};
 use casetool::format::json::Json;
 use casetool::text::calendar::day_of;
 
 use crate::support::json::{Value, answer, parse, schema};
-use crate::support::{casetool, casetool_with, file_with, repository};
+use crate::support::{casetool, casetool_with, file_with, in_turn, repository};
 
 fn settled_by_the_library(input: &Input) -> (Settled, Vec<Row>) {
     let mut rows = vec![0; ROWS_LENGTH];
@@ -128,8 +128,8 @@ fn settlements_as_json() {
     let schema = schema();
     let mut random = Random::new(751);
     let (mut rows, mut corrected, mut restored) = (0, 0, 0);
-    for _ in 0..120 {
-        let generated = any_case(&mut random);
+    for place in 0..120 {
+        let generated = any_case_in(in_turn(place), &mut random);
         let input = generated.input();
         let ran = casetool_with("formats.json", &["settle", "--format", "json"], &input);
         assert_eq!((ran.status, ran.errors.as_str()), (0, ""));
@@ -218,8 +218,8 @@ fn columns_of(row: &Value) -> Vec<(String, String)> {
 fn csv_has_what_json_has() {
     let schema = schema();
     let mut random = Random::new(752);
-    for _ in 0..60 {
-        let input = any_case(&mut random).input();
+    for place in 0..60 {
+        let input = any_case_in(in_turn(place), &mut random).input();
         let ran = casetool_with("formats.csv", &["settle", "--format", "json"], &input);
         let value = answer(&ran, &schema);
         let ran = casetool_with("formats.csv", &["settle", "--format", "csv"], &input);

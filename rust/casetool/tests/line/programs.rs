@@ -4,13 +4,13 @@
 use attachment_h::layout::{Section, Sections, u16_at, u32_at};
 use attachment_h::{BidHour, Component, Kind, Market, line, working};
 use cases::case::Input;
-use cases::generator::any_case;
+use cases::generator::any_case_in;
 use cases::{Random, Row};
 use casetool::text::hours;
 
 use crate::asked;
 use crate::support::json::{Value, answer, broken, parse, schema};
-use crate::support::{casetool, casetool_with, repository};
+use crate::support::{casetool, casetool_with, in_turn, repository};
 
 #[test]
 fn one_event_whole() {
@@ -188,7 +188,8 @@ fn by_the_library(input: &Input) -> Vec<Expected> {
     let events = sections.records(Section::Events).enumerate();
     let mut found = Vec::new();
     for (event, record) in events.filter(|(_, record)| Kind(record[0]) == Kind::BIDS) {
-        let unit = sections.unit(u16_at(record, 2)).expect("its unit");
+        let number = Section::Events.unit_number(sections.version(), record);
+        let unit = sections.unit(number).expect("its unit");
         let component = Component(record[6]);
         let mut reference = 0;
         let hours = (0..24).map(|hour| {
@@ -321,8 +322,8 @@ fn generated_cases() {
     let schema = schema();
     let mut random = Random::new(761);
     let (mut events, mut flagged, mut tight, mut by_sum) = (0, 0, 0, 0);
-    for _ in 0..40 {
-        let input = any_case(&mut random).input();
+    for place in 0..40 {
+        let input = any_case_in(in_turn(place), &mut random).input();
         let expected = by_the_library(&input);
         let ran = casetool_with("line.generated", &["line", "--format", "json"], &input);
         let value = answer(&ran, &schema);

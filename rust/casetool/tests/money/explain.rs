@@ -1,10 +1,10 @@
 //! `settle --explain`: the settlement as it is, with the working of each event under its row.
 
 use cases::Random;
-use cases::generator::any_case;
+use cases::generator::any_case_in;
 
 use crate::example;
-use crate::support::{casetool, casetool_with, file_with, written};
+use crate::support::{casetool, casetool_with, file_with, in_turn, written};
 
 #[test]
 fn the_example() {
@@ -72,8 +72,8 @@ pub fn parted(text: &str) -> (Vec<(usize, String)>, String) {
 fn generated_cases_have_the_workings_of_their_events() {
     let mut random = Random::new(772);
     let (mut cases, mut events) = (0, 0);
-    for _ in 0..40 {
-        let generated = any_case(&mut random);
+    for place in 0..40 {
+        let generated = any_case_in(in_turn(place), &mut random);
         let input = generated.input();
         let ran = casetool_with("money.settled", &["settle", "--explain"], &input);
         assert_eq!((ran.status, ran.errors.as_str()), (0, ""));

@@ -2,13 +2,13 @@
 //! beside its figures.
 
 use cases::case::Input;
-use cases::generator::any_case;
+use cases::generator::any_case_in;
 use cases::{Kind, Random, Row};
 
 use crate::explain::parted;
 use crate::pencil::{self, Sheet};
-use crate::support::casetool_with;
 use crate::support::json::{Value, answer, schema};
+use crate::support::{casetool_with, in_turn};
 
 /// Ten-thousandths of dollars, of cents.
 fn money(cents: u64) -> i128 {
@@ -40,8 +40,8 @@ fn follow(kind: Kind, steps: &str, row: &Row) -> bool {
 fn followed_with_a_pencil() {
     let mut random = Random::new(773);
     let (mut events, mut penalised, mut made_up, mut not_borne) = ([0; 5], 0, 0, 0);
-    for _ in 0..400 {
-        let generated = any_case(&mut random);
+    for place in 0..400 {
+        let generated = any_case_in(in_turn(place), &mut random);
         let input = generated.input();
         let ran = casetool_with("money.pencil", &["settle", "--explain"], &input);
         assert_eq!((ran.status, ran.errors.as_str()), (0, ""));
@@ -260,8 +260,8 @@ fn as_json_beside_the_second_implementation() {
     let schema = schema();
     let mut random = Random::new(774);
     let mut compared = Compared::default();
-    for _ in 0..300 {
-        let generated = any_case(&mut random);
+    for place in 0..300 {
+        let generated = any_case_in(in_turn(place), &mut random);
         let input = generated.input();
         let arguments = ["settle", "--explain", "--format", "json"];
         let ran = casetool_with("money.json", &arguments, &input);

@@ -10,6 +10,7 @@ pub mod refused;
 use std::ffi::OsString;
 use std::path::{Path, PathBuf};
 
+use attachment_h::layout::Version;
 use cases::case::Input;
 
 /// What a run of casetool gave.
@@ -47,6 +48,11 @@ pub fn written(text: &str) -> Vec<u8> {
     let ran = casetool(&["write", "--allow-empty"], text.as_bytes());
     assert_eq!((ran.status, ran.errors.as_str()), (0, ""));
     ran.output
+}
+
+/// The versions in turn.
+pub fn in_turn(place: usize) -> Version {
+    Version::ALL[place % Version::ALL.len()]
 }
 
 /// A file of the repository.

@@ -4,19 +4,19 @@
 use attachment_h::layout::{Section, Sections};
 use attachment_h::{ROWS_LENGTH, check};
 use cases::Random;
-use cases::case::file_of;
-use cases::generator::any_case;
+use cases::case::file_in;
+use cases::generator::any_case_in;
 use casetool::text::show::case_text;
 use casetool::text::write::{case_file, correction};
 
-use crate::support::{casetool, repository, written};
+use crate::support::{casetool, in_turn, repository, written};
 
-/// The records of a text, each with its hours, and all else in front.
+/// The records of a text, each with its hours.
 fn blocks(text: &str) -> Vec<String> {
     let mut found: Vec<String> = Vec::new();
     for line in text
         .lines()
-        .filter(|line| !line.is_empty() && !line.starts_with('#'))
+        .filter(|line| !line.is_empty() && !line.starts_with(['#', 'v']))
     {
         match found.last_mut() {
             Some(last) if line.starts_with("  ") => *last += line,
@@ -31,8 +31,9 @@ fn blocks(text: &str) -> Vec<String> {
 fn generated_cases_in_another_order() {
     let mut random = Random::new(741);
     let mut moved = 0;
-    for _ in 0..200 {
-        let file = any_case(&mut random).input().file;
+    for place in 0..200 {
+        let version = in_turn(place);
+        let file = any_case_in(version, &mut random).input().file;
         let text = case_text(&Sections::of(&file).expect("an accepted case"));
         let mut records = blocks(&text);
         // Past entries stay in their order: it is theirs.
@@ -43,7 +44,7 @@ fn generated_cases_in_another_order() {
                 records.swap(place, other);
             }
         }
-        let shuffled = records.concat();
+        let shuffled = format!("version {}\n{}", version.number(), records.concat());
         moved += usize::from(blocks(&text) != records);
         let again = case_file(shuffled.as_bytes()).unwrap_or_else(|error| panic!("{error}"));
         assert!(again.bytes == file, "another file of\n{shuffled}");
@@ -117,12 +118,13 @@ const AS_WRITTEN: &str = "order as-written\n";
 fn a_file_out_of_order_begins_with_order_as_written() {
     let mut random = Random::new(742);
     let (mut kept, mut plain) = (0, 0);
-    for _ in 0..300 {
-        let file = any_case(&mut random).input().file;
+    for place in 0..300 {
+        let version = in_turn(place);
+        let file = any_case_in(version, &mut random).input().file;
         let sections = Sections::of(&file).expect("an accepted case");
         let mut parts = Section::ALL.map(|section| sections.bytes(section).to_vec());
         let section = random.pick(&[Section::Units, Section::References, Section::Events]);
-        let (part, bytes) = (&mut parts[section as usize], section.record_bytes());
+        let (part, bytes) = (&mut parts[section as usize], section.width(version));
         if part.len() >= 2 * bytes {
             // The last record before the others, or the first one again at the end.
             let again = random.chance(1, 2) && part.len() < bytes * section.most();
@@ -132,7 +134,7 @@ fn a_file_out_of_order_begins_with_order_as_written() {
                 part.rotate_right(bytes);
             }
         }
-        let changed = file_of(&parts);
+        let changed = file_in(version, &parts);
         let Some(sections) = Sections::of(&changed) else {
             continue;
         };
@@ -166,12 +168,13 @@ fn a_correction_out_of_order() {
     assert_eq!(
         shown.text(),
         format!(
-            "{AS_WRITTEN}# correction: 2 references\n\n{}",
+            "{AS_WRITTEN}version 1\n# correction: 2 references\n\n{}",
             lines.concat()
         )
     );
     let shown = casetool(&["show", "--correction"], &sorted.output);
-    assert!(shown.text().starts_with("# correction: 2 references\n"));
+    let start = "version 1\n# correction: 2 references\n";
+    assert!(shown.text().starts_with(start));
 }
 
 #[test]

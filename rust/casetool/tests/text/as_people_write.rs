@@ -138,7 +138,7 @@ fn it_is_shown_in_one_form() {
     let shown = casetool(&["show"], &written(text));
     assert_eq!(
         shown.text(),
-        "# case: 1 unit, 0 references, 0 past entries, 1 event\n\n\
+        "version 1\n# case: 1 unit, 0 references, 0 past entries, 1 event\n\n\
          unit 12 group 7 area 0 capability 1500.0 MW\n\n\
          event day 8000 kind withheld market day-ahead unit 12 period 44 impact 1  # event 0, 26 November 2021\n  \
          hours 5-7 withheld 1200.5 MW price -$1234.50\n"

@@ -103,9 +103,9 @@ const DAY: &str = "expected a day number, from 0 on 1 January 2000, or a date su
 const VALUES: [((&str, &str), &str, &str, &str); 38] = [
     (
         UNIT_NUMBER,
-        "65536",
-        "65536",
-        "too large: expected 0 to 65,535",
+        "4294967296",
+        "4294967296",
+        "too large: expected 0 to 999,999",
     ),
     (UNIT_NUMBER, "-1", "-1", "too small: expected 0 to 65,535"),
     (UNIT_NUMBER, "1.0", "1.0", "expected a whole number"),
@@ -114,7 +114,7 @@ const VALUES: [((&str, &str), &str, &str, &str); 38] = [
         UNIT_NUMBER,
         "99999999999999999999",
         "99999999999999999999",
-        "too large: expected 0 to 65,535",
+        "too large: expected 0 to 999,999",
     ),
     (UNIT_NUMBER, "1 MW", "MW", "unit has no such word after it"),
     (UNIT_NUMBER, "1MW", "MW", "unit has no such word after it"),

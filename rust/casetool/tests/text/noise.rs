@@ -4,13 +4,13 @@ use std::collections::BTreeMap;
 
 use attachment_h::layout::Sections;
 use cases::Random;
-use cases::generator::{Size, Wanted, case, random_bytes};
+use cases::generator::{Size, Wanted, case, random_bytes_in};
 use casetool::text::bytes::text_of;
 use casetool::text::show::case_text;
 use casetool::text::write::{Written, case_file};
 
-use crate::support::casetool;
 use crate::support::json::{answer, schema};
+use crate::support::{casetool, in_turn};
 
 /// A good text with bytes, words or lines changed.
 fn changed(random: &mut Random, text: &str) -> Vec<u8> {
@@ -63,11 +63,13 @@ fn noise_never_panics() {
             bad += 1;
         }
     };
-    for _ in 0..3_000 {
-        let file = case(&mut random, Wanted::of(Size::Small)).input().file;
+    for place in 0..3_000 {
+        let version = in_turn(place);
+        let wanted = Wanted::of(Size::Small).in_version(version);
+        let file = case(&mut random, wanted).input().file;
         let text = case_text(&Sections::of(&file).expect("an accepted case"));
         seen(&changed(&mut random, &text));
-        seen(&random_bytes(&mut random).file);
+        seen(&random_bytes_in(version, &mut random).file);
         let noise: Vec<u8> = (0..random.below(200))
             .map(|_| random.bits() as u8)
             .collect();
@@ -79,16 +81,19 @@ fn noise_never_panics() {
 #[test]
 fn noise_as_a_case_never_panics() {
     let mut random = Random::new(722);
-    for _ in 0..1_000 {
-        let input = random_bytes(&mut random);
+    for place in 0..1_000 {
+        let input = random_bytes_in(in_turn(place), &mut random);
         let refused = attachment_h::check(&input.file, &[], attachment_h::ROWS_LENGTH).is_err();
         for name in ["show", "check", "settle"] {
             let ran = casetool(&[name], &input.file);
             assert!(ran.status <= 1);
             assert!(name == "show" || (ran.status == 1) == refused);
         }
-        let ran = casetool(&["show", "--correction"], &input.correction);
-        assert!(ran.status <= 1);
+        for version in ["1", "2"] {
+            let arguments = ["show", "--correction", "--version", version];
+            let ran = casetool(&arguments, &input.correction);
+            assert!(ran.status <= 1);
+        }
     }
 }
 
@@ -98,7 +103,8 @@ fn changed_texts_are_always_answered() {
     let mut random = Random::new(723);
     let mut answers: BTreeMap<String, usize> = BTreeMap::new();
     for place in 0..600 {
-        let file = case(&mut random, Wanted::of(Size::Small)).input().file;
+        let wanted = Wanted::of(Size::Small).in_version(in_turn(place));
+        let file = case(&mut random, wanted).input().file;
         let text = case_text(&Sections::of(&file).expect("an accepted case"));
         let bytes = match place % 3 {
             0 => changed(&mut random, &text),
@@ -111,7 +117,7 @@ fn changed_texts_are_always_answered() {
         assert_eq!(ran.status, u8::from(kind != "accepted"));
         // Every refusal of a text has its place there.
         if kind == "refused" {
-            assert!((6..=14).contains(&value.at("number").integer()));
+            assert!(matches!(value.at("number").integer(), 6..=14 | 17));
             let lines = text_of(&bytes).expect("a text").lines().count();
             assert!((1..=lines as i128).contains(&value.at("line").integer()));
             assert!(value.at("column").integer() >= 1);

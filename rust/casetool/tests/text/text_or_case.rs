@@ -2,9 +2,9 @@
 //! of a refusal. A text gives what the case file gives that `write` makes of it.
 
 use cases::Random;
-use cases::generator::any_case;
+use cases::generator::any_case_in;
 
-use crate::support::{Ran, casetool, file_with, repository, written};
+use crate::support::{Ran, casetool, file_with, in_turn, repository, written};
 
 const WORKING: [&str; 5] = ["working", "--event", "0", "--hour", "0"];
 const MONEY: [&str; 3] = ["working", "--event", "0"];
@@ -45,8 +45,8 @@ fn a_text_and_the_file_of_it_give_the_same() {
 fn generated_cases_as_text() {
     let mut random = Random::new(731);
     let mut settled = 0;
-    for _ in 0..150 {
-        let input = any_case(&mut random).input();
+    for place in 0..150 {
+        let input = any_case_in(in_turn(place), &mut random).input();
         let shown = casetool(&["show"], &input.file);
         let case = casetool(&["settle"], &input.file);
         let text = casetool(&["settle", "--allow-empty"], &shown.output);
@@ -121,7 +121,7 @@ fn a_text_given_as_a_case_file() {
         (
             1,
             format!(
-                "casetool: standard input: no correction: it has 47 bytes; expected a multiple of 8, at most 2,048\n{CORRECTION_HINT}"
+                "casetool: standard input: no correction: it has 47 bytes; expected a multiple of 8, at most 2,048, or a multiple of 12, at most 3,072, in version 2\n{CORRECTION_HINT}"
             )
         )
     );

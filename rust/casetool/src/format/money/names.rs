@@ -13,8 +13,7 @@ pub const NO_INSTANCE: &str = "it is no instance";
 
 /// The event of a number.
 pub fn event<'a>(sections: &Sections<'a>, number: usize) -> Option<Event<'a>> {
-    let record = sections.records(Section::Events).nth(number)?;
-    Some(Event::of(record))
+    Event::all(sections).nth(number)
 }
 
 /// An event by its number and its unit.
