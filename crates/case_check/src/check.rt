@@ -4,56 +4,61 @@ ghost use mathlib.Core.Path.{_≡_};
 ghost use Prim.Native.Nat.{_≤_};
 ghost use Rattle.casefile.specs.Layout.{mostEvents};
 ghost use Rattle.casefile.specs.Decode.{eventsIn};
+ghost use Rattle.casefile.specs.Lookup.{correctReferences};
 ghost use Rattle.limits.specs.StageLookup.{UnitsInOrder, InOrder};
 ghost use Rattle.limits.specs.Refusal.{eventNumbersFine, refusal};
 ghost use Rattle.limits.specs.StageRefusal.{eventsRefusal};
 ghost use Rattle.limits.specs.StageChecked.{HandedOn};
 ghost use Rattle.case_check.specs.StageFound.{Found};
-use crate::event_limits::amounts_fine;
-use crate::event_limits::events_listed;
 use crate::event_limits::order_refusal;
 use crate::event_limits::references_found;
+use crate::event_limits::unit_refusal;
 use casefile::events::event_count;
 use casefile::header::format_of;
 use casefile::header::section;
 use casefile::layout;
 use casefile::layout::Format;
-use casefile::references::correct_references;
 use limits::header_limits::header_refusal;
 use limits::record_limits::records_refusal;
 use limits::refusal::unless;
 
 // The number of the first limit that the events break, or 0: then the tables hold what was found of each event.
-fn events_refusal(
+fn events_refusal<'a>(
     format: Format,
     units: &[u8],
-    references: &[u8],
-    correct: &[u8],
+    references: &'a [u8],
+    correction: &'a [u8],
     events: &[u8],
     rows_length: usize,
     places: &mut [usize; layout::MOST_EVENTS],
     levels: &mut [u32; layout::MOST_EVENTS],
     corrects: &mut [u32; layout::MOST_EVENTS],
 ) -> u8
-    requires { ⌜ UnitsInOrder format (now units) × InOrder format (now references) × InOrder format (now correct)
+    requires { ⌜ UnitsInOrder format (now units) × InOrder format (now references) × InOrder format (correctReferences (now correction) (now references))
         × (eventsIn format (now events) .count ≤ mostEvents) × (eventNumbersFine format (now events) ≡ true) ⌝ }
-    ensures { λ r. ⌜ r ≡ eventsRefusal format (now (units .entry)) (now (references .entry)) (now (correct .entry)) (now (events .entry)) «rows_length» ⌝ }
-    ensures { λ r. ⌜ (r ≡ 0 → Found format (now (units .entry)) (now (references .entry)) (now (correct .entry)) (now (events .entry))
+    ensures { λ r. ⌜ r ≡ eventsRefusal format (now (units .entry)) (now (references .entry)) (correctReferences (now (correction .entry)) (now (references .entry))) (now (events .entry)) «rows_length» ⌝ }
+    ensures { λ r. ⌜ (r ≡ 0 → Found format (now (units .entry)) (now (references .entry)) (correctReferences (now (correction .entry)) (now (references .entry))) (now (events .entry))
         (now (places .exit)) (now (levels .exit)) (now (corrects .exit))) ⌝ }
 {
     let order = order_refusal(format, events);
     if order != 0 {
         return order;
     }
-    if !events_listed(format, units, events, places) {
-        return 12;
+    let unit = unit_refusal(format, units, events, places);
+    if unit != 0 {
+        return unit;
     }
-    let amounts_good = amounts_fine(format, units, events, places);
-    let references_good = references_found(format, references, correct, events, levels, corrects);
+    let references_good = references_found(
+        format,
+        references,
+        correction,
+        events,
+        levels,
+        corrects,
+    );
     let rows = layout::ROW_WIDTH * event_count(format, events);
     let from_15 = unless(rows <= rows_length, 15, 0);
-    let from_14 = unless(references_good, 14, from_15);
-    unless(amounts_good, 13, from_14)
+    unless(references_good, 14, from_15)
 }
 
 // The number of the first limit that the case breaks, or 0 where it is accepted: then the tables hold what was found of each event.
@@ -81,12 +86,11 @@ pub fn check_into<'a>(
     if records != 0 {
         return records;
     }
-    let correct = correct_references(correction, references);
     events_refusal(
         format,
         units,
         references,
-        correct,
+        correction,
         events,
         rows_length,
         places,

@@ -1,12 +1,12 @@
 // Events: the reader, and limits 10 to 14.
-ghost use mathlib.Core.Bool.{true};
+ghost use mathlib.Core.Bool.{true, false};
 ghost use mathlib.Core.Path.{_≡_};
 ghost use Prim.Native.Nat.{_<_, _≤_};
 ghost use Rattle.binary.specs.Lists.{Holds};
 ghost use Rattle.tariff.specs.Ranges.{highestDay};
 ghost use Rattle.casefile.specs.Layout.{mostHours, mostEvents, numberLimit};
 ghost use Rattle.casefile.specs.Decode.{unitsIn, referencesIn, eventsIn, amountsIn};
-ghost use Rattle.casefile.specs.Lookup.{readsCorrect, bidLevel};
+ghost use Rattle.casefile.specs.Lookup.{hasReference, levelOf, correctReferences, readsCorrect, bidLevel};
 ghost use Rattle.limits.specs.StageLookup.{UnitsInOrder, InOrder, correctLevel};
 ghost use Rattle.limits.specs.Refusal.{eventNumbersFine, quantitiesFine, fieldsFine, eventFine, eventsFine, orderFine, eventsListed, amountFine, amountsFine, referencesFound, unless as unlessOf};
 ghost use Rattle.case_check.specs.StageReading.{keyOf, numberOf, readEvent};
@@ -20,7 +20,9 @@ use casefile::events::event_cells;
 use casefile::events::event_count;
 use casefile::layout;
 use casefile::layout::Format;
+use casefile::references::correct_references;
 use casefile::units::unit_at;
+use limits::lookup::Level;
 use limits::lookup::level_of;
 use limits::lookup::next_place;
 use limits::lookup::unit_place;
@@ -128,38 +130,6 @@ pub fn order_refusal(format: Format, events: &[u8]) -> u8
     order
 }
 
-// Whether each event's unit is listed; the table holds its place.
-pub fn events_listed(
-    format: Format,
-    units: &[u8],
-    events: &[u8],
-    places: &mut [usize; layout::MOST_EVENTS],
-) -> bool
-    requires { ⌜ UnitsInOrder format (now units) × (eventsIn format (now events) .count ≤ mostEvents) ⌝ }
-    ensures { λ r. ⌜ r ≡ eventsListed (unitsIn format (now (units .entry))) (eventsIn format (now (events .entry))) ⌝ }
-    ensures { λ r. ⌜ Holds (eventsIn format (now (events .entry)) .count) (now (places .exit)) (eventPlace (unitsIn format (now (units .entry))) (eventsIn format (now (events .entry)))) ⌝ }
-{
-    // As a slice the table has a length that is known.
-    let table: &mut [usize] = places;
-    let n = event_count(format, events);
-    let mut fine = true;
-    let mut last: u32 = 0;
-    let mut place = unit_place(format, units, 0);
-    let mut i = 0;
-    while i < n {
-        let event = event_at(format, events, i);
-        let unit = event.unit;
-        place = next_place(format, units, unit, last, place);
-        last = unit;
-        let at = place.at;
-        let listed = place.listed;
-        table[i] = at;
-        fine = fine & listed;
-        i += 1;
-    }
-    fine
-}
-
 // Whether a is within the capability in each hour of event i, where its kind asks that; its unit is at this place.
 fn amount_fine(format: Format, units: &[u8], events: &[u8], i: usize, place: usize) -> bool
     requires { ⌜ (i < eventsIn format (now events) .count) × (place < unitsIn format (now units) .count) ⌝ }
@@ -174,24 +144,44 @@ fn amount_fine(format: Format, units: &[u8], events: &[u8], i: usize, place: usi
     amounts_within(unit.capability, event_cells(format, events, i))
 }
 
-pub fn amounts_fine(
+// 12 where an event's unit is not listed, else 13 where an amount is above its capability, else 0: then the table holds the place of each event's unit.
+pub fn unit_refusal(
     format: Format,
     units: &[u8],
     events: &[u8],
-    places: &[usize; layout::MOST_EVENTS],
-) -> bool
-    requires { ⌜ (eventsIn format (now events) .count ≤ mostEvents) × (eventsListed (unitsIn format (now units)) (eventsIn format (now events)) ≡ true) ⌝ }
-    requires { ⌜ Holds (eventsIn format (now events) .count) (now places) (eventPlace (unitsIn format (now units)) (eventsIn format (now events))) ⌝ }
-    ensures { λ r. ⌜ r ≡ amountsFine format (unitsIn format (now (units .entry))) (now (events .entry)) ⌝ }
+    places: &mut [usize; layout::MOST_EVENTS],
+) -> u8
+    requires { ⌜ UnitsInOrder format (now units) × (eventsIn format (now events) .count ≤ mostEvents) ⌝ }
+    ensures { λ r. ⌜ r ≡ unlessOf (eventsListed (unitsIn format (now (units .entry))) (eventsIn format (now (events .entry)))) 12
+        (unlessOf (amountsFine format (unitsIn format (now (units .entry))) (now (events .entry))) 13 0) ⌝ }
+    ensures { λ r. ⌜ (r ≡ 0 → Holds (eventsIn format (now (events .entry)) .count) (now (places .exit)) (eventPlace (unitsIn format (now (units .entry))) (eventsIn format (now (events .entry))))) ⌝ }
 {
+    // As a slice the table has a length that is known.
+    let table: &mut [usize] = places;
     let n = event_count(format, events);
+    if n == 0 {
+        return 0;
+    }
+    let first = event_at(format, events, 0);
+    let mut last = first.unit;
+    let mut place = unit_place(format, units, last);
     let mut fine = true;
     let mut i = 0;
     while i < n {
-        fine = fine & amount_fine(format, units, events, i, places[i]);
+        let event = event_at(format, events, i);
+        let unit = event.unit;
+        place = next_place(format, units, unit, last, place);
+        last = unit;
+        let listed = place.listed;
+        if !listed {
+            return 12;
+        }
+        let at = place.at;
+        table[i] = at;
+        fine = fine & amount_fine(format, units, events, i, at);
         i += 1;
     }
-    fine
+    unless(fine, 13, 0)
 }
 
 // Whether a component reads the correct reference.
@@ -208,14 +198,36 @@ pub struct Levels {
     pub correct: u32,
 }
 
+// c where it is read; without a correction it is r, which is at hand.
+fn correct_level(
+    format: Format,
+    correct: &[u8],
+    corrected: bool,
+    own: Level,
+    unit: u32,
+    component: u8,
+) -> Level
+    requires { ⌜ InOrder format (now correct) ⌝ }
+    requires { ⌜ (corrected ≡ false → (own .there ≡ hasReference (referencesIn format (now correct)) unit component)
+        × (own .there ≡ true → own .level ≡ levelOf (referencesIn format (now correct)) unit component)) ⌝ }
+    ensures { λ r. ⌜ r .there ≡ hasReference (referencesIn format (now (correct .entry))) unit component ⌝ }
+    ensures { λ r. ⌜ (r .there ≡ true → r .level ≡ levelOf (referencesIn format (now (correct .entry))) unit component) ⌝ }
+{
+    if corrected {
+        return level_of(format, correct, unit, component);
+    }
+    own
+}
+
 fn event_levels(
     format: Format,
     references: &[u8],
     correct: &[u8],
+    corrected: bool,
     events: &[u8],
     i: usize,
 ) -> Levels
-    requires { ⌜ (i < eventsIn format (now events) .count) × InOrder format (now references) × InOrder format (now correct) ⌝ }
+    requires { ⌜ (i < eventsIn format (now events) .count) × InOrder format (now references) × InOrder format (now correct) × (corrected ≡ false → now correct ≡ now references) ⌝ }
     ensures { λ r. ⌜ EventLevels (referencesIn format (now (references .entry))) (referencesIn format (now (correct .entry))) (eventsIn format (now (events .entry))) i r ⌝ }
 {
     let event = event_at(format, events, i);
@@ -232,10 +244,9 @@ fn event_levels(
     let there = own.there;
     let level = own.level;
     if reads_correct(component) {
-        let other = level_of(format, correct, unit, component);
-        let found = there & other.there;
+        let other = correct_level(format, correct, corrected, own, unit, component);
         return Levels {
-            found,
+            found: there & other.there,
             level,
             correct: other.level,
         };
@@ -248,28 +259,30 @@ fn event_levels(
 }
 
 // Whether each event of kind 4 has its reference, and the correct one where it is read; the tables hold their levels.
-pub fn references_found(
+pub fn references_found<'a>(
     format: Format,
-    references: &[u8],
-    correct: &[u8],
+    references: &'a [u8],
+    correction: &'a [u8],
     events: &[u8],
     levels: &mut [u32; layout::MOST_EVENTS],
     corrects: &mut [u32; layout::MOST_EVENTS],
 ) -> bool
-    requires { ⌜ InOrder format (now references) × InOrder format (now correct) × (eventsIn format (now events) .count ≤ mostEvents) ⌝ }
-    ensures { λ r. ⌜ r ≡ referencesFound (referencesIn format (now (references .entry))) (referencesIn format (now (correct .entry))) (eventsIn format (now (events .entry))) ⌝ }
+    requires { ⌜ InOrder format (now references) × InOrder format (correctReferences (now correction) (now references)) × (eventsIn format (now events) .count ≤ mostEvents) ⌝ }
+    ensures { λ r. ⌜ r ≡ referencesFound (referencesIn format (now (references .entry))) (referencesIn format (correctReferences (now (correction .entry)) (now (references .entry)))) (eventsIn format (now (events .entry))) ⌝ }
     ensures { λ r. ⌜ (r ≡ true → Holds (eventsIn format (now (events .entry)) .count) (now (levels .exit))
         (bidLevel (referencesIn format (now (references .entry))) (eventsIn format (now (events .entry))))) ⌝ }
     ensures { λ r. ⌜ (r ≡ true → Holds (eventsIn format (now (events .entry)) .count) (now (corrects .exit))
-        (correctLevel (referencesIn format (now (correct .entry))) (eventsIn format (now (events .entry))))) ⌝ }
+        (correctLevel (referencesIn format (correctReferences (now (correction .entry)) (now (references .entry)))) (eventsIn format (now (events .entry))))) ⌝ }
 {
+    let correct = correct_references(correction, references);
+    let corrected = correction.len() != 0;
     let own: &mut [u32] = levels;
     let other: &mut [u32] = corrects;
     let n = event_count(format, events);
     let mut fine = true;
     let mut i = 0;
     while i < n {
-        let event = event_levels(format, references, correct, events, i);
+        let event = event_levels(format, references, correct, corrected, events, i);
         let found = event.found;
         own[i] = event.level;
         other[i] = event.correct;

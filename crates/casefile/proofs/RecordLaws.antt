@@ -1,20 +1,20 @@
 -- Parts of a section's bytes, and what the sections of a file say of its case.
 use Prim.Native.Nat.{ℕ, zero, suc, _+_, _-_, _*_, _/_, _^_, _≤_, _<_}
-use mathlib.Core.Bool.{Bool, true, false, cond}
+use mathlib.Core.Bool.{Bool, true, false, cond, true≢false}
 use mathlib.Core.List.{List}
-use mathlib.Core.Logic.{inl, inr}
-use mathlib.Core.Path.{_≡_, refl, ap, _∙_}
+use mathlib.Core.Logic.{inl, inr, ⊎-elim}
+use mathlib.Core.Path.{_≡_, refl, sym, ap, _∙_}
 use native.Mathlib.Nat.{pow-suc, mul-le-mul-left, mul-div-le, mul-suc}
 use native.Mathlib.Omega.{arith}
 use lib.Dec.{ltb, eqb}
 use lib.ListN.{length, getD, take, drop, length-take, length-drop, List·getD-eq-default}
 use lib.Seq.{take-all, getD-take, getD-drop}
-use borrow.Author.Tests.{ltb-true, ltb-false, ne-eqb}
+use borrow.Author.Tests.{ltb-true, ltb-false, eq-eqb, ne-eqb}
 use Rattle.binary.specs.Bytes.{valueAt}
 use Rattle.binary.specs.Lists.{Bytes}
 use Rattle.casefile.specs.declared.layout.Format.{Format}
 use Rattle.casefile.specs.declared.layout.Widths.{Widths}
-use Rattle.casefile.specs.Layout.{unitWidth, referenceWidth, eventWidth, eventUnit, numberWidth, cellWidth, cells, cellsOffset, numberLimit, firstVersion, secondVersion, byVersion, firstWidths, secondWidths, widthsOf, Fits}
+use Rattle.casefile.specs.Layout.{referenceWidth, eventWidth, eventUnit, numberWidth, cellWidth, cells, cellsOffset, numberLimit, firstVersion, secondVersion, firstWidths, secondWidths, widthsOf, oldNumbers, Fits}
 use Rattle.casefile.specs.Decode.{formatIn, offsetOf, lengthOf, sectionOf, recordAt, cellsFrom, cellsIn, referencesIn, eventsIn, caseIn, decode}
 use Rattle.casefile.specs.StageRead.{eventAt}
 use Rattle.casefile.specs.declared.events.Event.{Event}
@@ -57,9 +57,7 @@ first-fits =
       reference-unit = omega arith;
       event-unit = omega arith;
       event-apart = inl (omega arith);
-      narrow = omega arith;
-      wide = omega arith;
-      even = refl;
+      number = inl refl;
     }
 
 pub second-fits : Fits secondWidths
@@ -73,9 +71,7 @@ second-fits =
       reference-unit = omega arith;
       event-unit = omega arith;
       event-apart = inr (omega arith);
-      narrow = omega arith;
-      wide = omega arith;
-      even = refl;
+      number = inr refl;
     }
 
 pub fits : (format : Format) → Fits (widthsOf format)
@@ -86,25 +82,9 @@ fits format = go (eqb (format .version) secondVersion)
     go true = second-fits
     go false = first-fits
 
--- each width by the version
-field : (format : Format) (f : Widths → ℕ) → f (byVersion format firstWidths secondWidths) ≡ byVersion format (f firstWidths) (f secondWidths)
-field format f = go (eqb (format .version) secondVersion)
-  where
-    go : (b : Bool) → f (cond b secondWidths firstWidths) ≡ cond b (f secondWidths) (f firstWidths)
-    go true = refl
-    go false = refl
-
-pub unit-width : (format : Format) → unitWidth format ≡ byVersion format 24 28
-unfolding widthsOf firstWidths secondWidths
-unit-width format = field format (λ w. w .«unit_width»)
-
-pub reference-width : (format : Format) → referenceWidth format ≡ byVersion format 8 12
-unfolding widthsOf firstWidths secondWidths
-reference-width format = field format (λ w. w .«reference_width»)
-
-pub event-width : (format : Format) → eventWidth format ≡ byVersion format 312 316
-unfolding widthsOf firstWidths secondWidths
-event-width format = field format (λ w. w .«event_width»)
+-- a number that does not stand where version 1 has it has four bytes
+pub long-number : (format : Format) → oldNumbers format ≡ false → numberWidth format ≡ 4
+long-number format h = ⊎-elim (λ two. absurd (true≢false (sym (eq-eqb _ _ two) ∙ h))) (λ four. four) (fits format .number)
 
 -- any version but the second has the widths of the first
 pub first-widths : (format : Format) → (format .version ≡ secondVersion → ⊥) → widthsOf (record { version = firstVersion }) ≡ widthsOf format

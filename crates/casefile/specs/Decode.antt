@@ -129,16 +129,10 @@ caseIn format u r p e =
 unfoldable pub decode : List ℕ → Case
 decode f = caseIn (formatIn f) (sectionOf f 0) (sectionOf f 1) (sectionOf f 2) (sectionOf f 3)
 
--- ---- the two bytes where version 1 has a unit's number
+-- ---- the two bytes of a record where version 1 has a unit's number
 
-unfoldable pub unitOldField : List ℕ → ℕ
-unitOldField r = u16At r 0
-
-unfoldable pub referenceOldField : List ℕ → ℕ
-referenceOldField r = u16At r 0
-
-unfoldable pub eventOldField : List ℕ → ℕ
-eventOldField r = u16At r 2
+unfoldable pub oldNumber : (width at : ℕ) → List ℕ → ℕ → ℕ
+oldNumber width at s i = u16At (recordAt width s i) at
 
 -- ---- spare bytes
 

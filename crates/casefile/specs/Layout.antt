@@ -1,5 +1,5 @@
 -- The numbers of the layout (docs/RULES.md, B): what the versions of the file share, and then what a version decides.
-use Prim.Native.Nat.{ℕ, _+_, _*_, _%_, _^_, _≤_}
+use Prim.Native.Nat.{ℕ, _+_, _*_, _^_, _≤_}
 use mathlib.Core.Bool.{Bool, cond}
 use mathlib.Core.Logic.{_⊎_}
 use mathlib.Core.Path.{_≡_}
@@ -98,13 +98,9 @@ secondWidths =
       «number_width» = 4;
     }
 
--- what has one value in version 2 and another in any other
-abbrev pub byVersion : Format → {A : Type 0} → (first second : A) → A
-byVersion format first second = cond (eqb (format .version) secondVersion) second first
-
 -- the widths of a format: an unknown version, which limit 2 refuses, is read as the first
 unfoldable pub widthsOf : Format → Widths
-widthsOf format = byVersion format firstWidths secondWidths
+widthsOf format = cond (eqb (format .version) secondVersion) secondWidths firstWidths
 
 abbrev pub unitWidth : Format → ℕ
 unitWidth format = widthsOf format .«unit_width»
@@ -149,6 +145,4 @@ pub record Fits (w : Widths) : Type 0 where
   pub event-unit : w .«event_unit» + w .«number_width» ≤ w .«event_width»
   pub event-apart :
       (w .«event_unit» + w .«number_width» ≤ cellsOffset) ⊎ (cellsOffset + cellWidth * mostHours ≤ w .«event_unit»)
-  pub narrow : 2 ≤ w .«number_width»
-  pub wide : w .«number_width» ≤ 4
-  pub even : w .«number_width» % 2 ≡ 0
+  pub number : (w .«number_width» ≡ 2) ⊎ (w .«number_width» ≡ 4)

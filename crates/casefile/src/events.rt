@@ -3,12 +3,12 @@ ghost use mathlib.Core.Path.{_≡_};
 ghost use Prim.Native.Nat.{_+_, _*_, _<_, _≤_};
 ghost use lib.ListN.{length};
 ghost use Rattle.casefile.specs.Layout.{eventWidth, cellsOffset, cellWidth, mostHours};
-ghost use Rattle.casefile.specs.Decode.{recordAt, cellsFrom, eventsIn, eventOldField};
+ghost use Rattle.casefile.specs.Decode.{recordAt, cellsFrom, eventsIn};
 ghost use Rattle.casefile.specs.StageRead.{eventAt};
 use crate::layout;
 use crate::layout::Format;
 use crate::layout::widths_of;
-use crate::records::count_in;
+use crate::records::count_of;
 use crate::records::number_at;
 use crate::records::record_at;
 use binary::bytes::load_u8;
@@ -32,12 +32,8 @@ pub struct Event {
 pub fn event_count(format: Format, events: &[u8]) -> usize
     ensures { λ r. ⌜ r ≡ eventsIn format (now (events .entry)) .count ⌝ }
 {
-    count_in(
-        format,
-        events,
-        layout::EVENT_WIDTH,
-        layout::SECOND_EVENT_WIDTH,
-    )
+    let w = widths_of(format);
+    count_of(events, w.event_width)
 }
 
 // The record of event i.
@@ -69,15 +65,6 @@ pub fn event_at(format: Format, events: &[u8], i: usize) -> Event
         q: load_u32(event, 16),
         r: load_u32(event, 20),
     }
-}
-
-// The two bytes where version 1 has the number, of event i.
-pub fn event_old_field(format: Format, events: &[u8], i: usize) -> u16
-    requires { ⌜ i < eventsIn format (now events) .count ⌝ }
-    ensures { λ r. ⌜ r ≡ eventOldField (recordAt (eventWidth format) (now (events .entry)) i) ⌝ }
-{
-    let event = event_record(format, events, i);
-    load_u16(event, 2)
 }
 
 // The part of event i where its cells begin, to the record's end.

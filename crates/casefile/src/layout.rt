@@ -40,7 +40,10 @@ pub const ROW_WIDTH: usize = BIDS_OFFSET + 4 * HOURS;
 pub const MOST_ROWS: usize = ROW_WIDTH * MOST_EVENTS;
 
 // The highest number of a unit in version 2, of six digits.
-pub const HIGHEST_NUMBER: u32 = 999_999;
+pub const HIGHEST_NUMBER: u64 = 999_999;
+
+// Above every number of a unit.
+pub const NUMBER_LIMIT: u64 = 1_048_576;
 
 // The widths of a unit, a reference and an event in version 1.
 pub const UNIT_WIDTH: usize = 24;
@@ -48,6 +51,15 @@ pub const UNIT_WIDTH: usize = 24;
 pub const REFERENCE_WIDTH: usize = 8;
 
 pub const EVENT_WIDTH: usize = 312;
+
+// Where version 1 has a unit's number in each, and its width.
+pub const UNIT_NUMBER: usize = 0;
+
+pub const REFERENCE_UNIT: usize = 0;
+
+pub const EVENT_UNIT: usize = 2;
+
+pub const OLD_NUMBER_WIDTH: usize = 2;
 
 // In version 2 the unit's number follows.
 pub const NUMBER_WIDTH: usize = 4;
@@ -91,12 +103,12 @@ pub fn widths_of(format: Format) -> Widths
     }
     Widths {
         unit_width: UNIT_WIDTH,
-        unit_number: 0,
+        unit_number: UNIT_NUMBER,
         reference_width: REFERENCE_WIDTH,
-        reference_unit: 0,
+        reference_unit: REFERENCE_UNIT,
         event_width: EVENT_WIDTH,
-        event_unit: 2,
-        number_width: 2,
+        event_unit: EVENT_UNIT,
+        number_width: OLD_NUMBER_WIDTH,
     }
 }
 
@@ -105,5 +117,5 @@ pub fn old_numbers(format: Format) -> bool
     ensures { λ r. ⌜ r ≡ oldNumbers format ⌝ }
 {
     let w = widths_of(format);
-    w.number_width == 2
+    w.number_width == OLD_NUMBER_WIDTH
 }

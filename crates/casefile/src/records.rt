@@ -1,12 +1,11 @@
 // Records of a section.
+ghost use mathlib.Core.Logic.{_⊎_};
 ghost use mathlib.Core.Path.{_≡_};
-ghost use Prim.Native.Nat.{_+_, _-_, _/_, _%_, _≤_, _<_};
+ghost use Prim.Native.Nat.{_+_, _-_, _/_, _≤_, _<_};
 ghost use lib.ListN.{length};
 ghost use Rattle.binary.specs.Bytes.{valueAt};
-ghost use Rattle.casefile.specs.Layout.{byVersion};
 ghost use Rattle.casefile.specs.Decode.{recordAt};
 use crate::layout;
-use crate::layout::Format;
 use binary::bytes::load_u16;
 use binary::bytes::load_u32;
 
@@ -16,17 +15,6 @@ pub fn count_of(records: &[u8], width: usize) -> usize
     ensures { λ r. ⌜ r ≡ length (now (records .entry)) / width ⌝ }
 {
     records.len() / width
-}
-
-// How many there are, of the first width in version 1 and of the second in version 2: each divides by a number that is known.
-pub fn count_in(format: Format, records: &[u8], first: usize, second: usize) -> usize
-    requires { ⌜ (0 < first) × (0 < second) ⌝ }
-    ensures { λ r. ⌜ r ≡ length (now (records .entry)) / byVersion format first second ⌝ }
-{
-    if format.version == layout::SECOND_VERSION {
-        return count_of(records, second);
-    }
-    count_of(records, first)
 }
 
 // Record i: that stretch of the section itself.
@@ -41,10 +29,10 @@ pub fn record_at(records: &[u8], i: usize, width: usize) -> &[u8]
 
 // A unit's number, at that place of a record: of two bytes or four.
 pub fn number_at(source: &[u8], at: usize, width: usize) -> u32
-    requires { ⌜ (at + width ≤ length (now source)) × (2 ≤ width) × (width ≤ 4) × (width % 2 ≡ 0) ⌝ }
+    requires { ⌜ (at + width ≤ length (now source)) × ((width ≡ 2) ⊎ (width ≡ 4)) ⌝ }
     ensures { λ r. ⌜ r ≡ valueAt width (now (source .entry)) at ⌝ }
 {
-    if width == 2 {
+    if width == layout::OLD_NUMBER_WIDTH {
         return load_u16(source, at) as u32;
     }
     load_u32(source, at)

@@ -3,17 +3,15 @@ ghost use mathlib.Core.Path.{_≡_};
 ghost use Prim.Native.Nat.{_≤_, _<_};
 ghost use lib.ListN.{length};
 ghost use Rattle.casefile.specs.Layout.{referenceWidth, referenceFields};
-ghost use Rattle.casefile.specs.Decode.{recordAt, referencesIn, referenceOldField, referenceSpareFine};
+ghost use Rattle.casefile.specs.Decode.{recordAt, referencesIn, referenceSpareFine};
 ghost use Rattle.casefile.specs.Lookup.{correctReferences};
 ghost use Rattle.casefile.specs.StageRead.{referenceAt};
-use crate::layout;
 use crate::layout::Format;
 use crate::layout::widths_of;
-use crate::records::count_in;
+use crate::records::count_of;
 use crate::records::number_at;
 use crate::records::record_at;
 use binary::bytes::load_u8;
-use binary::bytes::load_u16;
 use binary::bytes::load_u32;
 
 // The correction slice where it isn't empty, otherwise the case's own reference section.
@@ -37,12 +35,8 @@ pub struct Reference {
 pub fn reference_count(format: Format, references: &[u8]) -> usize
     ensures { λ r. ⌜ r ≡ referencesIn format (now (references .entry)) .count ⌝ }
 {
-    count_in(
-        format,
-        references,
-        layout::REFERENCE_WIDTH,
-        layout::SECOND_REFERENCE_WIDTH,
-    )
+    let w = widths_of(format);
+    count_of(references, w.reference_width)
 }
 
 // The record of reference i.
@@ -66,15 +60,6 @@ pub fn reference_at(format: Format, references: &[u8], i: usize) -> Reference
         component: load_u8(reference, 2),
         value: load_u32(reference, 4),
     }
-}
-
-// The two bytes where version 1 has the number, of reference i.
-pub fn reference_old_field(format: Format, references: &[u8], i: usize) -> u16
-    requires { ⌜ i < referencesIn format (now references) .count ⌝ }
-    ensures { λ r. ⌜ r ≡ referenceOldField (recordAt (referenceWidth format) (now (references .entry)) i) ⌝ }
-{
-    let reference = reference_record(format, references, i);
-    load_u16(reference, 0)
 }
 
 // Whether the spare byte of reference i is 0.

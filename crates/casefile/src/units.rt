@@ -3,12 +3,11 @@ ghost use mathlib.Core.Path.{_≡_};
 ghost use Prim.Native.Nat.{_≤_, _<_};
 ghost use lib.ListN.{length};
 ghost use Rattle.casefile.specs.Layout.{unitWidth, unitFields};
-ghost use Rattle.casefile.specs.Decode.{recordAt, unitsIn, unitOldField, unitSpareFine};
+ghost use Rattle.casefile.specs.Decode.{recordAt, unitsIn, unitSpareFine};
 ghost use Rattle.casefile.specs.StageRead.{unitAt};
-use crate::layout;
 use crate::layout::Format;
 use crate::layout::widths_of;
-use crate::records::count_in;
+use crate::records::count_of;
 use crate::records::number_at;
 use crate::records::record_at;
 use binary::bytes::load_u8;
@@ -28,7 +27,8 @@ pub struct Unit {
 pub fn unit_count(format: Format, units: &[u8]) -> usize
     ensures { λ r. ⌜ (r ≡ unitsIn format (now (units .entry)) .count) × (r ≤ length (now (units .entry))) ⌝ }
 {
-    count_in(format, units, layout::UNIT_WIDTH, layout::SECOND_UNIT_WIDTH)
+    let w = widths_of(format);
+    count_of(units, w.unit_width)
 }
 
 // The record of unit i.
@@ -65,15 +65,6 @@ pub fn unit_number(format: Format, units: &[u8], i: usize) -> u32
 {
     let unit = unit_at(format, units, i);
     unit.number
-}
-
-// The two bytes where version 1 has the number, of unit i.
-pub fn unit_old_field(format: Format, units: &[u8], i: usize) -> u16
-    requires { ⌜ i < unitsIn format (now units) .count ⌝ }
-    ensures { λ r. ⌜ r ≡ unitOldField (recordAt (unitWidth format) (now (units .entry)) i) ⌝ }
-{
-    let unit = unit_record(format, units, i);
-    load_u16(unit, 0)
 }
 
 // Whether the spare bytes of unit i are 0.

@@ -10,7 +10,7 @@ use Rattle.casefile.specs.declared.layout.Widths.{Widths}
 use Rattle.casefile.specs.Layout.{firstVersion, firstWidths, widthsOf, oldNumbers}
 use Rattle.casefile.specs.Decode.{formatIn, sectionOf}
 use Rattle.casefile.proofs.RecordLaws.{first-widths}
-use Rattle.limits.specs.Refusal.{unitNumbersFine, referenceNumbersFine, eventNumbersFine, numbersFine, Limit, limits, unless, firstBroken, refusal, MeetsAll, DecidedBy}
+use Rattle.limits.specs.Refusal.{recordNumbersFine, unitNumbersFine, referenceNumbersFine, eventNumbersFine, numbersFine, Limit, limits, unless, firstBroken, refusal, MeetsAll, DecidedBy}
 
 -- ---- any list of limits
 
@@ -144,7 +144,7 @@ module _ (f k : List ℕ) (n : ℕ) where
   old-numbers v = ap (λ (w : Widths). eqb (w .«number_width») 2) (sym (first-widths (formatIn f) (λ e. omega arith)))
 
   numbers-met : formatIn f .version ≡ firstVersion → numbersFine (formatIn f) (sectionOf f 0) (sectionOf f 1) (sectionOf f 3) ≡ true
-  unfolding numbersFine unitNumbersFine referenceNumbersFine eventNumbersFine
+  unfolding numbersFine recordNumbersFine unitNumbersFine referenceNumbersFine eventNumbersFine
   numbers-met v = rw (old-numbers v)
 
   pub first-never-17 : formatIn f .version ≡ firstVersion → refusal f k n ≡ 17 → ⊥

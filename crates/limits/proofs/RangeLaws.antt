@@ -17,12 +17,12 @@ use Rattle.binary.proofs.BoundedLaws.{all-at}
 use Rattle.tariff.specs.Ranges.{highestCapability, highestComponent, highestMarket, highestDay, highestKind, highestPrice, highestRevenue, highestFuelMoney, highestEnergy, highestPriceChange, highestMegawatts, bidInRange}
 use Rattle.casefile.specs.declared.layout.Format.{Format}
 use Rattle.casefile.specs.Case.{Units, Events}
-use Rattle.casefile.specs.Layout.{referenceWidth, eventWidth, numberWidth, oldNumbers, highestNumber, numberLimit}
-use Rattle.casefile.specs.Decode.{recordAt, unitsIn, referencesIn, eventsIn, eventOldField}
+use Rattle.casefile.specs.Layout.{referenceWidth, eventWidth, numberWidth, firstWidths, oldNumbers, highestNumber, numberLimit}
+use Rattle.casefile.specs.Decode.{unitsIn, referencesIn, eventsIn, oldNumber}
 use Rattle.casefile.specs.Lookup.{referenceKey, correctReferences}
 use Rattle.casefile.proofs.RecordLaws.{event-unit-lt}
 use Rattle.limits.specs.StageLookup.{Rising, UnitsInOrder, InOrder}
-use Rattle.limits.specs.Refusal.{sizeFine, numberFine, referenceNumbersFine, eventNumberFine, eventNumbersFine, numbersFine, unitsFine, referencesFine, correctionFine, rises, unitFieldsFine, unitFine, referenceFine, quantitiesFine, fieldsFine, cellFine, eventFine}
+use Rattle.limits.specs.Refusal.{sizeFine, numberFine, recordNumbersFine, referenceNumbersFine, eventNumbersFine, numbersFine, unitsFine, referencesFine, correctionFine, rises, unitFieldsFine, unitFine, referenceFine, quantitiesFine, fieldsFine, cellFine, eventFine}
 
 -- ---- tests
 
@@ -101,17 +101,18 @@ event-numbers format u r e h = search (and-l, and-r)
 -- a number leaves room in a key: in two bytes it is below 65,536, and of four bytes 17 asks that it is at most 999,999
 pub number-lt : (format : Format) (s : List ℕ) → Bytes s → eventNumbersFine format s ≡ true → (i : ℕ) → i < eventsIn format s .count
     → eventsIn format s .unit i < numberLimit
-unfolding eventNumbersFine eventNumberFine numberFine
+unfolding eventNumbersFine recordNumbersFine numberFine
 number-lt format s b h i l = go (oldNumbers format) refl h
   where
-    go : (t : Bool) → oldNumbers format ≡ t → (t || allTo (eventsIn format s .count) (eventNumberFine format s)) ≡ true
+    old : ℕ → ℕ
+    old = oldNumber (eventWidth format) (firstWidths .«event_unit») s
+
+    go : (t : Bool) → oldNumbers format ≡ t → (t || allTo (eventsIn format s .count) (numberFine old (eventsIn format s .unit))) ≡ true
         → eventsIn format s .unit i < numberLimit
     go true e f = event-unit-lt format s i b (eqb-true (numberWidth format) 2 e)
     go false e f =
-        let t = all-at (eventsIn format s .count) i (eventNumberFine format s) l f in
-        let m =
-        leb-true (eventsIn format s .unit i) highestNumber
-        (and-r (eqb (eventOldField (recordAt (eventWidth format) s i)) 0) (leb (eventsIn format s .unit i) highestNumber) t) in
+        let t = all-at (eventsIn format s .count) i (numberFine old (eventsIn format s .unit)) l f in
+        let m = leb-true (eventsIn format s .unit i) highestNumber (and-r (eqb (old i) 0) (leb (eventsIn format s .unit i) highestNumber) t) in
         omega arith
 
 -- ---- strict orders
@@ -155,7 +156,7 @@ correct-in-order format u correction own h k = go (eqb (length correction) 0)
 
 -- no correction breaks nothing
 pub none-fine : (format : Format) (u : Units) (s : List ℕ) → length s ≡ 0 → true ≡ correctionFine format u s
-unfolding correctionFine sizeFine referenceNumbersFine referencesFine referencesIn allTo
+unfolding correctionFine sizeFine recordNumbersFine referenceNumbersFine referencesFine referencesIn allTo
 none-fine format u s e = rw (e, zero-mod (referenceWidth format), zero-div (referenceWidth format)) (go (oldNumbers format))
   where
     go : (b : Bool) → true ≡ ((b || true) && true)

@@ -1,6 +1,6 @@
 -- The stages of the refusal: a stage that breaks no limit leaves what follows, and one that does is the answer.
 use Prim.Native.Nat.{ℕ, zero, suc, _+_, _≤_, _<_}
-use mathlib.Core.Bool.{Bool, true, false, cond, _&&_}
+use mathlib.Core.Bool.{Bool, true, false, cond}
 use mathlib.Core.List.{List}
 use mathlib.Core.Path.{_≡_, refl}
 use native.Mathlib.Nat.{suc-ne-zero}
@@ -22,22 +22,11 @@ pub passed : (t : Bool) (k m : ℕ) → unless t (suc k) m ≡ 0 → (t ≡ true
 passed true k m h = (refl, h)
 passed false k m h = absurd (suc-ne-zero k h)
 
--- 17 or 6, whatever follows
-numbers-broken : (a b : Bool) (next : ℕ) → (a && b) ≡ false → unless a 17 6 ≡ unless a 17 (unless b 6 next)
-numbers-broken true true next h = cc
-numbers-broken true false next h = refl
-numbers-broken false b next h = refl
-
-pub numbers-refused : (format : Format) (u r k p e : List ℕ) (a b : Bool) → a ≡ numbersFine format u r e → b ≡ unitsFine format u → (a && b) ≡ false
-    → unless a 17 6 ≡ recordsRefusal format u r k p e 0
-unfolding recordsRefusal
-numbers-refused format u r k p e a b n m h = rw (← n, ← m) (numbers-broken a b _ h)
-
--- 10 or 11, whatever follows
-pub order-broken : (a b : Bool) (next : ℕ) → (unless a 10 (unless b 11 0) ≡ 0 → ⊥) → unless a 10 (unless b 11 0) ≡ unless a 10 (unless b 11 next)
-order-broken true true next h = absurd (h refl)
-order-broken true false next h = refl
-order-broken false b next h = refl
+-- one of two numbers, 10 or 11, 12 or 13, whatever follows
+pub either-broken : (j k : ℕ) (a b : Bool) (next : ℕ) → (unless a j (unless b k 0) ≡ 0 → ⊥) → unless a j (unless b k 0) ≡ unless a j (unless b k next)
+either-broken j k true true next h = absurd (h refl)
+either-broken j k true false next h = refl
+either-broken j k false b next h = refl
 
 -- ---- the stages
 

@@ -9,9 +9,9 @@ use Rattle.binary.specs.Bounded.{allTo}
 use Rattle.binary.specs.Word.{within}
 use Rattle.tariff.specs.Ranges.{highestArea, lowestCapability, highestCapability, highestRate, highestAveragePrice, mostConstrainedHours, highestComponent, referenceInRange, highestMarket, highestDay, lowestKind, highestKind, highestImpact, highestPrice, highestRevenue, highestFuelMoney, highestEnergy, highestPriceChange, mostRunHours, highestMegawatts, bidInRange}
 use Rattle.casefile.specs.declared.layout.Format.{Format}
-use Rattle.casefile.specs.Layout.{firstVersion, secondVersion, sectionCount, headerWidth, longestFile, unitWidth, referenceWidth, pastWidth, eventWidth, mostUnits, mostReferences, mostPast, mostEvents, highestNumber, oldNumbers, rowWidth}
+use Rattle.casefile.specs.Layout.{firstVersion, secondVersion, sectionCount, headerWidth, longestFile, unitWidth, referenceWidth, pastWidth, eventWidth, mostUnits, mostReferences, mostPast, mostEvents, highestNumber, firstWidths, oldNumbers, rowWidth}
 use Rattle.casefile.specs.Case.{Units, References, Violation, Events}
-use Rattle.casefile.specs.Decode.{formatIn, sectionsIn, offsetOf, lengthOf, sectionOf, recordAt, unitsIn, referencesIn, pastIn, eventsIn, amountsIn, unitOldField, referenceOldField, eventOldField, unitSpareFine, referenceSpareFine, entrySpareFine}
+use Rattle.casefile.specs.Decode.{formatIn, sectionsIn, offsetOf, lengthOf, sectionOf, recordAt, unitsIn, referencesIn, pastIn, eventsIn, amountsIn, oldNumber, unitSpareFine, referenceSpareFine, entrySpareFine}
 use Rattle.casefile.specs.Lookup.{isListed, placeOf, referenceKey, hasReference, readsCorrect, correctReferences}
 
 -- 1: the length
@@ -43,27 +43,22 @@ sizesFine f =
     sizeFine (lengthOf f 0) (unitWidth (formatIn f)) mostUnits && sizeFine (lengthOf f 1) (referenceWidth (formatIn f)) mostReferences
     && sizeFine (lengthOf f 2) pastWidth mostPast && sizeFine (lengthOf f 3) (eventWidth (formatIn f)) mostEvents
 
--- 17, in version 2 alone: a number's old field, the two bytes where version 1 has it, is 0, and the number is at most 999,999
-unfoldable pub numberFine : (old number : ℕ) → Bool
-numberFine old number = eqb old 0 && leb number highestNumber
+-- 17, in version 2 alone: in each record a number's old field, the two bytes where version 1 has it, is 0, and the number is at most 999,999
+unfoldable pub numberFine : (old number : ℕ → ℕ) → ℕ → Bool
+numberFine old number i = eqb (old i) 0 && leb (number i) highestNumber
 
-unfoldable pub unitNumberFine : Format → List ℕ → ℕ → Bool
-unitNumberFine format s i = numberFine (unitOldField (recordAt (unitWidth format) s i)) (unitsIn format s .number i)
+unfoldable pub recordNumbersFine : Format → (count : ℕ) (old number : ℕ → ℕ) → Bool
+recordNumbersFine format count old number = oldNumbers format || allTo count (numberFine old number)
 
 unfoldable pub unitNumbersFine : Format → List ℕ → Bool
-unitNumbersFine format s = oldNumbers format || allTo (unitsIn format s .count) (unitNumberFine format s)
-
-unfoldable pub referenceNumberFine : Format → List ℕ → ℕ → Bool
-referenceNumberFine format s i = numberFine (referenceOldField (recordAt (referenceWidth format) s i)) (referencesIn format s .unit i)
+unitNumbersFine format s = recordNumbersFine format (unitsIn format s .count) (oldNumber (unitWidth format) (firstWidths .«unit_number») s) (unitsIn format s .number)
 
 unfoldable pub referenceNumbersFine : Format → List ℕ → Bool
-referenceNumbersFine format s = oldNumbers format || allTo (referencesIn format s .count) (referenceNumberFine format s)
-
-unfoldable pub eventNumberFine : Format → List ℕ → ℕ → Bool
-eventNumberFine format s i = numberFine (eventOldField (recordAt (eventWidth format) s i)) (eventsIn format s .unit i)
+referenceNumbersFine format s =
+    recordNumbersFine format (referencesIn format s .count) (oldNumber (referenceWidth format) (firstWidths .«reference_unit») s) (referencesIn format s .unit)
 
 unfoldable pub eventNumbersFine : Format → List ℕ → Bool
-eventNumbersFine format s = oldNumbers format || allTo (eventsIn format s .count) (eventNumberFine format s)
+eventNumbersFine format s = recordNumbersFine format (eventsIn format s .count) (oldNumber (eventWidth format) (firstWidths .«event_unit») s) (eventsIn format s .unit)
 
 unfoldable pub numbersFine : Format → (units references events : List ℕ) → Bool
 numbersFine format u r e = unitNumbersFine format u && referenceNumbersFine format r && eventNumbersFine format e

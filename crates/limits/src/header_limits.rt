@@ -2,7 +2,7 @@
 ghost use mathlib.Core.Path.{_≡_};
 ghost use Prim.Native.Nat.{_≤_, _<_};
 ghost use lib.ListN.{length};
-ghost use Rattle.casefile.specs.Layout.{headerWidth, mostReferences, referenceWidth, byVersion};
+ghost use Rattle.casefile.specs.Layout.{headerWidth};
 ghost use Rattle.limits.specs.Refusal.{pairsFine, sizesFine, sizeFine};
 ghost use Rattle.limits.specs.StageRefusal.{headerRefusal};
 use crate::refusal::unless;
@@ -11,7 +11,7 @@ use casefile::header::length_of;
 use casefile::header::offset_of;
 use casefile::header::sections_of;
 use casefile::layout;
-use casefile::layout::Format;
+use casefile::layout::widths_of;
 
 // Whether the pairs follow on. The sums are of 64 bits, so that none wraps.
 fn pairs_fine(file: &[u8]) -> bool
@@ -34,35 +34,11 @@ fn pairs_fine(file: &[u8]) -> bool
 }
 
 // Whether n bytes are records of that width, and not too many.
-fn size_fine(n: usize, width: usize, most: usize) -> bool
+pub fn size_fine(n: usize, width: usize, most: usize) -> bool
     requires { ⌜ 0 < width ⌝ }
     ensures { λ r. ⌜ r ≡ sizeFine n width most ⌝ }
 {
     (n % width == 0) & (n / width <= most)
-}
-
-// The same by version, of the first width in version 1 and of the second in version 2.
-fn size_in(format: Format, n: usize, first: usize, second: usize, most: usize) -> bool
-    requires { ⌜ (0 < first) × (0 < second) ⌝ }
-    ensures { λ r. ⌜ r ≡ sizeFine n (byVersion format first second) most ⌝ }
-{
-    if format.version == layout::SECOND_VERSION {
-        return size_fine(n, second, most);
-    }
-    size_fine(n, first, most)
-}
-
-// Whether n bytes are references, of a case or of its correction, and not too many.
-pub fn references_size(format: Format, n: usize) -> bool
-    ensures { λ r. ⌜ r ≡ sizeFine n (referenceWidth format) mostReferences ⌝ }
-{
-    size_in(
-        format,
-        n,
-        layout::REFERENCE_WIDTH,
-        layout::SECOND_REFERENCE_WIDTH,
-        layout::MOST_REFERENCES,
-    )
 }
 
 fn sizes_fine(file: &[u8]) -> bool
@@ -73,25 +49,11 @@ fn sizes_fine(file: &[u8]) -> bool
     let references = length_of(file, 1) as usize;
     let past = length_of(file, 2) as usize;
     let events = length_of(file, 3) as usize;
-    let format = format_of(file);
-    let units_good = size_in(
-        format,
-        units,
-        layout::UNIT_WIDTH,
-        layout::SECOND_UNIT_WIDTH,
-        layout::MOST_UNITS,
-    );
-    let events_good = size_in(
-        format,
-        events,
-        layout::EVENT_WIDTH,
-        layout::SECOND_EVENT_WIDTH,
-        layout::MOST_EVENTS,
-    );
-    units_good
-        & references_size(format, references)
+    let w = widths_of(format_of(file));
+    size_fine(units, w.unit_width, layout::MOST_UNITS)
+        & size_fine(references, w.reference_width, layout::MOST_REFERENCES)
         & size_fine(past, layout::PAST_WIDTH, layout::MOST_PAST)
-        & events_good
+        & size_fine(events, w.event_width, layout::MOST_EVENTS)
 }
 
 // The number of the first limit of the header that is broken, or 0.

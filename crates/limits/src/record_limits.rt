@@ -22,9 +22,13 @@ pub fn records_refusal(
 {
     let numbers_good = numbers_fine(format, units, references, events);
     let units_good = units_fine(format, units);
+    // The order of the two tests is that of the limits.
+    if !numbers_good {
+        return 17;
+    }
     // Units are looked up by their order, which 6 is about.
-    if !(numbers_good & units_good) {
-        return unless(numbers_good, 17, 6);
+    if !units_good {
+        return 6;
     }
     let references_good = references_fine(format, units, references);
     let correction_good = correction_fine(format, units, correction);

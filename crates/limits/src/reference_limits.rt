@@ -1,16 +1,17 @@
 // References and the correction: limits 7 and 8.
-ghost use mathlib.Core.Bool.{true};
 ghost use mathlib.Core.Path.{_≡_};
 ghost use Prim.Native.Nat.{_<_};
 ghost use Rattle.casefile.specs.Decode.{unitsIn, referencesIn};
 ghost use Rattle.limits.specs.StageLookup.{UnitsInOrder, referenceFineWhere};
 ghost use Rattle.limits.specs.Refusal.{referenceFieldsFine, referencesFine, correctionFine};
-use crate::header_limits::references_size;
+use crate::header_limits::size_fine;
 use crate::lookup::next_place;
 use crate::lookup::reference_key;
 use crate::lookup::unit_place;
 use crate::number_limits::reference_numbers_fine;
+use casefile::layout;
 use casefile::layout::Format;
+use casefile::layout::widths_of;
 use casefile::records::place_before;
 use casefile::references::reference_at;
 use casefile::references::reference_count;
@@ -44,9 +45,10 @@ pub fn references_fine(format: Format, units: &[u8], references: &[u8]) -> bool
     if n == 0 {
         return true;
     }
+    let first = reference_at(format, references, 0);
+    let mut last = first.unit;
+    let mut place = unit_place(format, units, last);
     let mut fine = true;
-    let mut last: u32 = 0;
-    let mut place = unit_place(format, units, 0);
     let mut i = 0;
     while i < n {
         let reference = reference_at(format, references, i);
@@ -68,7 +70,8 @@ pub fn correction_fine(format: Format, units: &[u8], correction: &[u8]) -> bool
     if correction.len() == 0 {
         return true;
     }
-    if references_size(format, correction.len()) {
+    let w = widths_of(format);
+    if size_fine(correction.len(), w.reference_width, layout::MOST_REFERENCES) {
         let numbers = reference_numbers_fine(format, correction);
         return numbers & references_fine(format, units, correction);
     }

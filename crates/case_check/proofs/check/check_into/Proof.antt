@@ -41,33 +41,30 @@ check-into-spec =
     (λ c κs. has-section _ (fine (c .before .before .before .before)) 3 (omega arith))
     (λ c κs. tt)
     (λ c. (refusal-records _ _ _ _ (header (c .before .before .before .before .before .before .before)) (records (c .before)) (c .if2 .taken), λ z. absurd (c .if2 .taken z)))
-    (λ c κs. tt)
     (λ c κs.
-    let r = c .before .before .before .before .before in
+    let r = c .before .before .before .before in
     let o = r .before .before in
-    let z = c .before .before .before .before .if2 .left in
+    let z = c .before .before .before .if2 .left in
     let f = fine-records r z in
     let t = o .before .before .before .format-of .ensures in (
       rw (t, o .before .before .section .ensures) (numbers-in-order _ _ (f .units-fine)),
       rw (t, o .before .section2 .ensures) (references-in-order _ _ _ (f .references-fine)),
-      rw (t, c .before .before .before .correct-references .ensures, o .before .section2 .ensures) (correct-in-order _ _ _ _ (f .references-fine) (f .correction-fine)),
+      rw (t, o .before .section2 .ensures) (correct-in-order _ _ _ _ (f .references-fine) (f .correction-fine)),
       rw (t, r .before .section4 .ensures) (events-fit _ (fine (o .before .before .before .before))),
       rw (t, r .before .section4 .ensures) (event-numbers _ _ _ _ (f .numbers-fine)),
     ))
     (λ c.
-    let r = c .before .before .before .before .before .before in
-    let o = r .before .before in
-    let k = c .before .before .before .before in (
+    let r = c .before .before .before .before .before in
+    let o = r .before .before in (
       rw (
-        ← refusal-events _ _ _ (header (o .before .before .before .before)) (sym (records r) ∙ c .before .before .before .before .before .if2 .left),
+        ← refusal-events _ _ _ (header (o .before .before .before .before)) (sym (records r) ∙ c .before .before .before .before .if2 .left),
         c .events-refusal .ensures .0,
-        k .correct-references .ensures,
         r .before .section4 .ensures,
         o .before .section2 .ensures,
         o .before .before .section .ensures,
         o .before .before .before .format-of .ensures,
       ),
       λ z. handed-on _ _ _ _ _
-          (rw (k .correct-references .ensures, r .before .section4 .ensures, o .before .section2 .ensures, o .before .before .section .ensures, o .before .before .before .format-of .ensures) at
+          (rw (r .before .section4 .ensures, o .before .section2 .ensures, o .before .before .section .ensures, o .before .before .before .format-of .ensures) at
           (c .events-refusal .ensures .1 z)),
     )))

@@ -1,6 +1,4 @@
 use borrow.Author.Needs.{needs}
-use Rattle.casefile.specs.Decode.{formatIn}
-use Rattle.casefile.proofs.RecordLaws.{unit-width, event-width}
 use Rattle.limits.specs.Refusal.{sizesFine}
 use Rattle.limits.proofs.header_limits.sizes_fine.Statement.{statement}
 use Rattle.limits.proofs.header_limits.sizes_fine.Tie as tie
@@ -19,23 +17,22 @@ sizes-fine-spec =
     (λ c κs. search needs)
     (λ c. search needs)
     (λ c κs. search needs)
+    (λ c κs. tt)
     (λ c κs. search needs)
     (λ c κs. search needs)
     (λ c κs. search needs)
     (λ c κs. search needs)
     (λ c.
-    let z = c .before .before .before .before in
-    let f = z .before .before .before .before .before .before .args .file .now in
+    let z = c .before .before .before .before .before in
     rw (
-      c .size-fine .ensures,
-      c .before .references-size .ensures,
-      c .before .before .size-in2 .ensures,
-      c .before .before .before .size-in .ensures,
+      c .size-fine4 .ensures,
+      c .before .size-fine3 .ensures,
+      c .before .before .size-fine2 .ensures,
+      c .before .before .before .size-fine .ensures,
+      c .before .before .before .before .widths-of .ensures .0,
       z .format-of .ensures,
       z .before .length-of4 .ensures,
       z .before .before .length-of3 .ensures,
       z .before .before .before .length-of2 .ensures,
       z .before .before .before .before .length-of .ensures,
-      unit-width (formatIn f),
-      event-width (formatIn f),
     )))

@@ -1,37 +1,16 @@
-use Prim.Native.Nat.{_≤_, _-_}
-use mathlib.Core.Path.{_≡_, sym, _∙_}
 use borrow.Author.Needs.{needs}
-use native.Mathlib.Omega.{arith}
-use Rattle.binary.specs.Bounded.{allTo}
-use Rattle.binary.proofs.BoundedLaws.{all-none, all-more}
+use Rattle.casefile.specs.Layout.{firstWidths}
 use Rattle.casefile.specs.Decode.{referencesIn}
-use Rattle.limits.specs.Refusal.{referenceNumberFine, referenceNumbersFine}
+use Rattle.casefile.proofs.RecordLaws.{fits}
+use Rattle.limits.specs.Refusal.{referenceNumbersFine}
 use Rattle.limits.proofs.number_limits.reference_numbers_fine.Statement.{statement}
 use Rattle.limits.proofs.number_limits.reference_numbers_fine.Tie as tie
 
-abbrev Inv-loop : tie.InvT-loop
-Inv-loop format references n fine₀ i₀ fine i = (i ≤ referencesIn format references .count) × (fine ≡ allTo i (referenceNumberFine format references))
-
-abbrev μ-loop : tie.MeasureT-loop
-μ-loop format references n fine₀ i₀ fine i = referencesIn format references .count - i
-
 pub reference-numbers-fine-spec : {M : Type 1} → statement M
-unfolding referenceNumbersFine
+unfolding referenceNumbersFine referencesIn firstWidths
 reference-numbers-fine-spec =
     tie.close
     (tie.spec
-    Inv-loop
-    μ-loop
     (λ c κs. tt)
-    (λ c. rw (sym (c .before .old-numbers .ensures) ∙ c .if1 .taken))
-    (λ c κs. search needs)
-    (λ c. (omega arith, all-none _))
-    (λ c κs. search needs)
-    (λ c. omega arith)
-    (λ c. omega arith)
-    (λ c. (omega arith, rw (c .before .before .loop .inv .1, c .reference-number-fine .ensures, all-more)))
-    (λ c.
-    let s = c .before .before .before .before .before .before .args in
-    let e : c .before .loop .i ≡ referencesIn (s .format) (s .references .now) .count = omega arith in
-    let own = sym (c .before .before .before .before .old-numbers .ensures) ∙ c .before .before .before .if1 .left in
-    rw (own, c .before .loop .inv .1, e)))
+    (λ c κs. rw (c .widths-of .ensures .0) (let f = fits (c .before .before .args .format) in search needs))
+    (λ c. rw (c .record-numbers-fine .ensures, c .before .widths-of .ensures .0)))

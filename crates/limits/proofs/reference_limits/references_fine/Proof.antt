@@ -12,11 +12,11 @@ use Rattle.limits.proofs.reference_limits.references_fine.Statement.{st
 use Rattle.limits.proofs.reference_limits.references_fine.Tie as tie
 
 abbrev Inv-loop : tie.InvT-loop
-Inv-loop format units references n fine₀ last₀ place₀ i₀ fine last place i =
+Inv-loop format units references n last₀ place₀ fine₀ i₀ last place fine i =
     (i ≤ referencesIn format references .count) × (fine ≡ allTo i (referenceFine format (unitsIn format units) references)) × IsPlace (unitsIn format units) last place
 
 abbrev μ-loop : tie.MeasureT-loop
-μ-loop format units references n fine₀ last₀ place₀ i₀ fine last place i = referencesIn format references .count - i
+μ-loop format units references n last₀ place₀ fine₀ i₀ last place fine i = referencesIn format references .count - i
 
 pub references-fine-spec : {M : Type 1} → statement M
 unfolding referencesFine referenceFine referenceFineWhere referenceAt
@@ -31,9 +31,10 @@ references-fine-spec =
     let e : referencesIn (s .format) (s .references .now) .count ≡ 0 = omega arith in
     rw e (all-none _))
     (λ c κs. search needs)
+    (λ c κs. search needs)
     (λ c. (omega arith, all-none _, c .unit-place .ensures))
     (λ c κs. search needs)
-    (λ c κs. (c .before .before .before .before .before .before .before .before .pre, c .before .before .loop .inv .2))
+    (λ c κs. (c .before .before .before .before .before .before .before .before .before .pre, c .before .before .loop .inv .2))
     (λ c κs. search needs)
     (λ c. omega arith)
     (λ c. omega arith)
@@ -43,12 +44,12 @@ references-fine-spec =
         c .before .before .before .before .loop .inv .1,
         c .reference-fine .ensures,
         c .before .next-place .ensures .0,
-        c .before .before .reference-at .ensures,
+        c .before .before .reference-at2 .ensures,
         all-more,
       ),
       c .before .next-place .ensures,
     ))
     (λ c.
-    let s = c .before .before .before .before .before .before .before .args in
+    let s = c .before .before .before .before .before .before .before .before .args in
     let e : c .before .loop .i ≡ referencesIn (s .format) (s .references .now) .count = omega arith in
     rw (c .before .loop .inv .1, e)))
