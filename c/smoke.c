@@ -55,24 +55,32 @@ static uint8_t check(const uint8_t *file, size_t length, size_t rows_length) {
     return number;
 }
 
+/* The check of a case of two units and one event, and of its version 2 copy, which has the same number. */
+static void check_both(const char *what, const uint8_t *file, size_t rows_length, uint8_t number) {
+    uint8_t *copied = version_2(file, CASE, 3);
+    expect(what, check(file, CASE, rows_length), number);
+    expect(what, check(copied, CASE + 4 * 3, rows_length), number);
+    free(copied);
+}
+
 static void check_cases(const uint8_t *shipped) {
     uint8_t *file = copy(shipped, CASE);
     uint8_t *event = file + HEADER + 2 * UNIT;
-    expect("the shipped case", check(file, CASE, 128), 0);
-    expect("127 bytes, one event", check(file, CASE, 127), 15);
+    check_both("the shipped case", file, 128, 0);
+    check_both("127 bytes, one event", file, 127, 15);
     expect("35 bytes", check(file, 35, 128), 1);
     expect("no bytes", attachment_h_check(NULL, 0, NULL, 0, 128), 1);
     uint8_t *correction = filled(7, 0);
     expect("a correction of 7 bytes", attachment_h_check(file, CASE, correction, 7, 128), 8);
     free(correction);
     put32(event + 24, 5001);
-    expect("5,001 of 5,000", check(file, CASE, 128), 13);
+    check_both("5,001 of 5,000", file, 128, 13);
     put16(event + 2, 99);
-    expect("unit 99", check(file, CASE, 128), 12);
+    check_both("unit 99", file, 128, 12);
     event[1] = 2;
-    expect("market 2", check(file, CASE, 128), 10);
+    check_both("market 2", file, 128, 10);
     file[HEADER + 4] = 2;
-    expect("area 2", check(file, CASE, 128), 6);
+    check_both("area 2", file, 128, 6);
     file[4] = 40;
     expect("first offset 40", check(file, CASE, 128), 4);
     file[0] = 9;

@@ -89,23 +89,24 @@ def expect(what, got, expected):
 
 
 expect("the shipped case has 501 at 4,000 of unit 12", case() == SHIPPED, True)
-expect("the shipped case", refusal(attachment_h.check, SHIPPED), 0)
 expect("35 bytes", refusal(attachment_h.check, bytes(35)), 1)
-expect("unit 99", refusal(attachment_h.check, case(unit=99)), 12)
-expect("5,001 of 5,000", refusal(attachment_h.check, case(withheld=5_001)), 13)
-expect("a price of 1,000,001", refusal(attachment_h.check, case(price=1_000_001)), 10)
-expect("a correction of 7 bytes", refusal(attachment_h.check, case(), bytes(7)), 8)
-expect("127 bytes, one event", refusal(attachment_h.check, case(), b"", 127), 15)
+for name, of in [("version 1", bytes), ("a version 2 copy", version_2)]:
+    expect(f"{name}: the shipped case", refusal(attachment_h.check, of(SHIPPED)), 0)
+    expect(f"{name}: unit 99", refusal(attachment_h.check, of(case(unit=99))), 12)
+    expect(f"{name}: 5,001 of 5,000", refusal(attachment_h.check, of(case(withheld=5_001))), 13)
+    expect(f"{name}: a price of 1,000,001", refusal(attachment_h.check, of(case(price=1_000_001))), 10)
+    expect(f"{name}: a correction of 7 bytes", refusal(attachment_h.check, of(case()), bytes(7)), 8)
+    expect(f"{name}: 127 bytes, one event", refusal(attachment_h.check, of(case()), b"", 127), 15)
+    expect(f"{name}: settled into 127 bytes", refusal(attachment_h.settle, of(case()), b"", 127), 15)
+    expect(f"{name}: no hour 24", refusal(attachment_h.working, of(case()), 0, 24), 10)
 settled = attachment_h.settle(SHIPPED)
 row = Row(flags=1, mitigated=0, penalty=200_400, make_up=0, multiplier=2, n3=1, n2=1, bids=24 * (0,))
 expect("rows", settled.rows, [row])
 expect("total", (settled.penalties, settled.make_ups), (200_400, 0))
 numbered = struct.pack("<128x2I2Q2B3H24i", 1, 2, 3, 4, 5, 0, 6, 7, 0, *range(-12, 12))
 expect("every field of a second row", Row.of(numbered, 1), Row(1, 2, 3, 4, 5, 6, 7, tuple(range(-12, 12))))
-expect("settled into 127 bytes", refusal(attachment_h.settle, case(), b"", 127), 15)
 hour = attachment_h.working(SHIPPED, 0, 0)
 expect("hour 0 fails comparison 1", (hour["failed"], hour["left"][0], hour["right"][0]), (1, 5_010, 5_000))
-expect("no hour 24", refusal(attachment_h.working, case(), 0, 24), 10)
 # 501 at 4,000 are 2,004,000 tenths of a cent. The past entry is of the same period, so that N3 and N2 are 2 and the multiplier is 2
 # halves: 2 x 2,004,000 / 20 cents
 penalty = attachment_h.penalty_working(larger(), 0)
@@ -121,12 +122,14 @@ expect("r, c and the mitigated hours", (made_up["reference"], made_up["correct"]
 expect("what is made up", (made_up["hours"], made_up["tenths"]), ([1_000_000] + 23 * [0], 1_000_000))
 expect("the make-up payment", (made_up["make_up"], made_up["restored"]), (100_000, 0))
 for call in [attachment_h.penalty_working, attachment_h.instances, attachment_h.make_up_working]:
-    expect("no event 2", sentence(call, larger(), 2), "refused 10: the case has no such event")
+    for file in [larger(), version_2(larger())]:
+        expect("no event 2", sentence(call, file, 2), "refused 10: the case has no such event")
     expect("a case of 35 bytes", refusal(call, bytes(35), 0), 1)
 # a version 2 copy has the same figures, also where unit 12 is 65,548, which is 65,536 + 12, and unit 13 is 999,999
 for copied in [version_2(SHIPPED), version_2(SHIPPED, {12: 65_548, 13: 999_999})]:
     expect("rows of a copy", attachment_h.settle(copied), settled)
     expect("the working of a copy", attachment_h.working(copied, 0, 0), hour)
+    expect("what a copy's N3 and N2 counted", attachment_h.instances(copied, 0), Instances(Counted([], []), Counted([], [])))
 correction = struct.pack("<HBxI", 12, 0, 6_000)
 wide_correction = widened(correction, 8, 0, {})
 expect("the larger case copied", attachment_h.settle(version_2(larger()), wide_correction), attachment_h.settle(larger(), correction))

@@ -5,7 +5,7 @@ use attachment_h::{
     BidHour, Component, Market, Refused, Row, Working, bid_fails, line, settle, working,
 };
 use cases::generator::{bid_limits, case, reference_limit};
-use cases::{Conduct, Generated, Random, Size, Unit, Version, Wanted};
+use cases::{Case, Conduct, Input, Random, Size, Unit, Version, Wanted};
 use second::calls;
 
 /// The arguments of a line.
@@ -303,7 +303,7 @@ fn refused_with_16_alone() {
 }
 
 /// Hours of bids: by component, then times that their sum alone flags and lines that are brought down.
-#[derive(Debug, Default)]
+#[derive(Clone, Copy, Debug, Default, PartialEq)]
 struct Hours {
     unflagged: [usize; 9],
     flagged: [usize; 9],
@@ -330,12 +330,11 @@ impl Hours {
     }
 }
 
-/// Every hour of a case's bids beside its line.
-fn compare(generated: &Generated, seen: &mut Hours) {
-    let input = generated.input();
+/// Every hour of a case's bids beside its line, as an input has them.
+fn compare(case: &Case, input: &Input, seen: &mut Hours) {
     let mut rows = vec![0; input.rows_len];
     settle(&input.file, &input.correction, &mut rows).expect("accepted");
-    for (place, event) in generated.case.events.iter().enumerate() {
+    for (place, event) in case.events.iter().enumerate() {
         let Conduct::Bids {
             component, hours, ..
         } = event.conduct
@@ -344,7 +343,7 @@ fn compare(generated: &Generated, seen: &mut Hours) {
         };
         let row = Row::of(&rows, place);
         let listed = |unit: &&Unit| unit.unit == event.unit;
-        let unit = generated.case.units.iter().find(listed).expect("listed");
+        let unit = case.units.iter().find(listed).expect("listed");
         for (hour, cell) in hours.iter().enumerate() {
             let worked = working(&input.file, &input.correction, place, hour).expect("accepted");
             let arguments = Arguments {
@@ -366,16 +365,25 @@ fn compare(generated: &Generated, seen: &mut Hours) {
 fn whole_cases() {
     for version in Version::ALL {
         let mut random = Random::new(803);
-        let mut seen = Hours::default();
+        let (mut seen, mut copies) = (Hours::default(), 0);
         for (size, count) in [(Size::Small, 500), (Size::Medium, 100), (Size::Full, 2)] {
-            for _ in 0..count {
-                let wanted = Wanted::of(size).in_version(version);
-                compare(&case(&mut random, wanted), &mut seen);
+            for place in 0..count {
+                let generated = case(&mut random, Wanted::of(size).in_version(version));
+                let (input, before) = (generated.input(), seen);
+                compare(&generated.case, &input, &mut seen);
+                if let Some(copy) = input.version_2_copy() {
+                    let mut of_the_copy = before;
+                    compare(&generated.case, &copy, &mut of_the_copy);
+                    assert_eq!(of_the_copy, seen, "{size:?} {place}, copied");
+                    copies += 1;
+                }
             }
         }
-        println!("{version:?}: {seen:?}");
+        println!("{version:?}: {seen:?}, {copies} copies");
         let mut of_each = seen.unflagged.iter().chain(&seen.flagged);
         assert!(of_each.all(|&hours| hours > 300));
         assert!(seen.by_sum > 300 && seen.brought_down > 300);
+        // Every case but the full ones has a copy.
+        assert_eq!(copies, if version == Version::One { 600 } else { 0 });
     }
 }

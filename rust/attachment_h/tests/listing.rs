@@ -112,23 +112,33 @@ fn made(generated: Generated) -> (Option<Generated>, Input) {
 #[test]
 fn buffers() {
     let mut random = Random::new(502);
+    let mut copies = 0;
     for place in 0..400 {
-        let file = any_case_in(Version::ALL[place % 2], &mut random)
-            .input()
-            .file;
-        let text = second::listing(&file);
-        // Too short for the longest listing: nothing is written.
-        let (mut rows, mut out) = (vec![0xA5; ROWS_LENGTH], vec![0x5A; LISTING_LENGTH - 1]);
-        assert_eq!(list_into(&file, &mut rows, &mut out), Err(TooShort));
-        assert!(rows.iter().all(|&byte| byte == 0xA5));
-        assert!(out.iter().all(|&byte| byte == 0x5A));
-        // The text, and after it what was there; the rows as settling leaves them.
-        out.extend([0x5A; 9]);
-        let length = list_into(&file, &mut rows, &mut out).expect("a buffer that is long enough");
-        assert_eq!(&out[..length], text.as_bytes());
-        assert!(out[length..].iter().all(|&byte| byte == 0x5A));
-        let mut settled = vec![0xA5; ROWS_LENGTH];
-        second::settle(&file, &[], &mut settled);
-        assert_eq!(rows, settled);
+        let input = any_case_in(Version::ALL[place % 2], &mut random).input();
+        let text = second::listing(&input.file);
+        let both = input.with_copy();
+        copies += both.len() - 1;
+        for input in both {
+            buffers_of(&input.file, &text);
+        }
     }
+    println!("buffers of 400 cases and {copies} copies");
+    assert!(copies > 150);
+}
+
+/// What the listing of a file leaves in its buffers.
+fn buffers_of(file: &[u8], text: &str) {
+    // Too short for the longest listing: nothing is written.
+    let (mut rows, mut out) = (vec![0xA5; ROWS_LENGTH], vec![0x5A; LISTING_LENGTH - 1]);
+    assert_eq!(list_into(file, &mut rows, &mut out), Err(TooShort));
+    assert!(rows.iter().all(|&byte| byte == 0xA5));
+    assert!(out.iter().all(|&byte| byte == 0x5A));
+    // The text, and after it what was there; the rows as settling leaves them.
+    out.extend([0x5A; 9]);
+    let length = list_into(file, &mut rows, &mut out).expect("a buffer that is long enough");
+    assert_eq!(&out[..length], text.as_bytes());
+    assert!(out[length..].iter().all(|&byte| byte == 0x5A));
+    let mut settled = vec![0xA5; ROWS_LENGTH];
+    second::settle(file, &[], &mut settled);
+    assert_eq!(rows, settled);
 }

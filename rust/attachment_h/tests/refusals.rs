@@ -6,7 +6,7 @@ use std::collections::BTreeMap;
 
 use attachment_h::{Refused, check};
 use cases::case::put_u16;
-use cases::faults::{Fault, faults_in, faults_of, pairs_in};
+use cases::faults::{faults_in, faults_of, pairs_in};
 use cases::generator::{any_case_in, case, random_bytes_in};
 use cases::{Case, Input, Random, Size, Version, Wanted};
 use second::refusal;
@@ -47,18 +47,7 @@ impl Count {
 
 /// A good case with records in every section and events of every kind.
 fn every_kind(version: Version, random: &mut Random) -> Input {
-    let wanted = Wanted {
-        version,
-        every_kind: true,
-        ..Wanted::of(Size::Small)
-    };
-    case(random, wanted).input()
-}
-
-/// Puts a fault into a case that has a place for it.
-fn with_fault(random: &mut Random, input: &Input, fault: &Fault) -> Option<Input> {
-    let mut faulty = input.clone();
-    (fault.apply)(&mut faulty, random).map(|()| faulty)
+    case(random, Wanted::every_kind().in_version(version)).input()
 }
 
 #[test]
@@ -106,7 +95,7 @@ fn single_faults() {
                 _ => every_kind(version, &mut random),
             };
             for fault in faults_in(version) {
-                if let Some(faulty) = with_fault(&mut random, &input, fault) {
+                if let Some(faulty) = fault.put_into(&input, &mut random) {
                     let number = count.number(&faulty, fault.name);
                     assert_eq!(number, fault.number, "{}", fault.name);
                     *by_number.entry(number).or_default() += 1;
@@ -157,11 +146,11 @@ fn two_faults(
     count: &mut Count,
 ) {
     for later in faults_of(version, second) {
-        let Some(one) = with_fault(random, input, &later) else {
+        let Some(one) = later.put_into(input, random) else {
             continue;
         };
         for sooner in faults_of(version, first) {
-            if let Some(both) = with_fault(random, &one, &sooner) {
+            if let Some(both) = sooner.put_into(&one, random) {
                 let what = format!("{} and {}", sooner.name, later.name);
                 assert_eq!(count.number(&both, &what), first, "{what}");
             }
@@ -226,20 +215,22 @@ fn whole_in_both(version: Version, random: &mut Random) -> Input {
 fn the_number_of_the_other_version() {
     let mut random = Random::new(105);
     for (version, other) in [(Version::One, Version::Two), (Version::Two, Version::One)] {
+        let mut count = Count::default();
         let mut by_number = [0; 18];
         for place in 0..1_000 {
             let what = format!("{version:?} as {other:?}, case {place}");
             let mut input = any_case_in(version, &mut random).input();
             put_u16(&mut input.file, 0, other.number());
-            assert_eq!(number_of(&input, &what), 5, "{what}");
+            assert_eq!(count.number(&input, &what), 5, "{what}");
             // Here the lengths fit, and the numbers of units stand elsewhere.
             let mut input = whole_in_both(version, &mut random);
             put_u16(&mut input.file, 0, other.number());
-            by_number[usize::from(number_of(&input, &what))] += 1;
+            by_number[usize::from(count.number(&input, &what))] += 1;
         }
-        println!("{version:?} as {other:?}: {by_number:?}");
+        println!("{version:?} as {other:?}: {count:?}, {by_number:?}");
         assert_eq!(by_number[5], 0);
         assert_eq!(by_number[17] > 500, other == Version::Two);
+        assert_eq!(count.copies > 500, other == Version::One);
     }
 }
 

@@ -164,8 +164,7 @@ fn cases_of_every_growth_step() {
 /// A case with a fault, where it has a place for one.
 fn with_fault(random: &mut Random, version: Version, input: &Input, number: u8) -> Option<Input> {
     let fault = random.pick(&faults_of(version, number));
-    let mut faulty = input.clone();
-    (fault.apply)(&mut faulty, random).map(|()| faulty)
+    fault.put_into(input, random)
 }
 
 /// A case with faults of two numbers, the one that is checked first put in last, since it may break the layout.
@@ -187,8 +186,7 @@ fn refused_cases() {
         for _ in 0..20 {
             let input = any_case_in(version, &mut random).input();
             for fault in faults_in(version) {
-                let mut faulty = input.clone();
-                if (fault.apply)(&mut faulty, &mut random).is_some() {
+                if let Some(faulty) = fault.put_into(&input, &mut random) {
                     let outcome = count.settle(&mut random, &faulty, fault.name);
                     assert_eq!(outcome, Err(Refused(fault.number)), "{}", fault.name);
                     refused += 1;
@@ -293,18 +291,31 @@ fn a_million_cases() {
 fn a_case_is_settled_the_same_again() {
     // Nothing is kept between calls, also of the other version, and a settled buffer is as good as any other.
     let mut random = Random::new(303);
+    let mut count = Count::default();
     for place in 0..100 {
         let [version, other] = [Version::ALL[place % 2], Version::ALL[place / 2 % 2]];
         let input = any_case_in(version, &mut random).input();
-        let mut rows = vec![0; input.rows_len];
-        let first = settle(&input.file, &input.correction, &mut rows);
-        let once = rows.clone();
         let between = any_case_in(other, &mut random);
-        let count = &mut Count::default();
-        count
-            .settle_case(&mut random, &between, "another")
-            .expect("accepted");
-        assert_eq!(settle(&input.file, &input.correction, &mut rows), first);
-        assert_eq!(rows, once);
+        let after = again(&mut random, &input, &between);
+        count.inputs += 1;
+        if let Some(copy) = input.version_2_copy() {
+            let of_the_copy = again(&mut random, &copy, &between);
+            assert!(of_the_copy == after, "case {place}, copied");
+            count.copies += 1;
+        }
     }
+    println!("{count:?} settled again");
+    assert!(count.copies > 30);
+}
+
+/// Settles an input, another case and the input again, into the same buffer: its outcome and its buffer both times.
+fn again(random: &mut Random, input: &Input, between: &Generated) -> After {
+    let mut rows = vec![0; input.rows_len];
+    let first = settle(&input.file, &input.correction, &mut rows);
+    let once = rows.clone();
+    let another = Count::default().settle_case(random, between, "another");
+    another.expect("accepted");
+    assert_eq!(settle(&input.file, &input.correction, &mut rows), first);
+    assert_eq!(rows, once);
+    (first, once)
 }

@@ -4,7 +4,7 @@
 use attachment_h::layout::Sections;
 use attachment_h::{Refused, Working, settle, working};
 use cases::case::{Section, u16_at, u32_at};
-use cases::faults::faults_in;
+use cases::faults::faulty_cases;
 use cases::generator::case;
 use cases::{Input, Random, Row, Size, Version, Wanted};
 
@@ -25,17 +25,18 @@ struct Hours {
 }
 
 /// Every hour of a case.
-fn work(input: &Input, hours: &mut Hours) {
+fn work(input: Input, hours: &mut Hours) {
+    let both = input.with_copy();
+    let (input, copy) = (&both[0], both.get(1));
     let mut rows = vec![0; 25_600];
     let settled = settle(&input.file, &input.correction, &mut rows).expect("accepted");
     let sections = Sections::of(&input.file).expect("an accepted case has its sections");
-    let copy = input.version_2_copy();
     for (place, event) in sections.records(Section::Events).enumerate() {
         let row = Row::of(&rows, place);
         for hour in 0..24 {
             let what = format!("event {place}, hour {hour}");
             let worked = working(&input.file, &input.correction, place, hour).expect(&what);
-            if let Some(copy) = &copy {
+            if let Some(copy) = copy {
                 let copied = working(&copy.file, &copy.correction, place, hour);
                 assert_eq!(copied, Ok(worked), "{what}, copied");
                 hours.copied += 1;
@@ -57,8 +58,10 @@ fn work(input: &Input, hours: &mut Hours) {
         }
     }
     for (event, hour) in [(settled.rows, 0), (0, 24), (usize::MAX, usize::MAX)] {
-        let worked = working(&input.file, &input.correction, event, hour);
-        assert_eq!(worked, Err(Refused(10)));
+        for input in &both {
+            let worked = working(&input.file, &input.correction, event, hour);
+            assert_eq!(worked, Err(Refused(10)));
+        }
     }
 }
 
@@ -70,7 +73,7 @@ fn every_hour() {
         for (size, count) in [(Size::Small, 400), (Size::Medium, 40), (Size::Full, 2)] {
             for _ in 0..count {
                 let wanted = Wanted::of(size).in_version(version);
-                work(&case(&mut random, wanted).input(), &mut hours);
+                work(case(&mut random, wanted).input(), &mut hours);
             }
         }
         println!("{version:?}, hours by the comparison that fails: {hours:?}");
@@ -102,17 +105,21 @@ fn six_digit_numbers() {
     assert!(hours > 20_000);
 }
 
-/// S of every withheld and dispatch hour and G of the withheld ones, summed again over the file.
+/// S of every withheld and dispatch hour and G of the withheld ones, summed again over the file and over its copy.
 #[test]
 fn sums() {
     for version in Version::ALL {
         let mut random = Random::new(702);
-        let mut checked = 0;
+        let (mut checked, mut copied) = (0, 0);
         for _ in 0..200 {
             let wanted = Wanted::of(Size::Small).in_version(version);
-            checked += sums_of(&case(&mut random, wanted).input());
+            let input = case(&mut random, wanted).input();
+            checked += sums_of(&input);
+            copied += input.version_2_copy().map_or(0, |copy| sums_of(&copy));
         }
+        println!("{version:?}: sums of {checked} hours, of {copied} in a copy too");
         assert!(checked > 1_000);
+        assert_eq!(copied, if version == Version::One { checked } else { 0 });
     }
 }
 
@@ -154,31 +161,17 @@ fn sums_of(input: &Input) -> usize {
 fn refused_cases() {
     for version in Version::ALL {
         let mut random = Random::new(703);
-        let wanted = Wanted {
-            version,
-            every_kind: true,
-            ..Wanted::of(Size::Small)
-        };
-        let inputs: Vec<Input> = (0..20).map(|_| case(&mut random, wanted).input()).collect();
-        let (mut faults, mut refused, mut copies) = (0, 0, 0);
-        for fault in faults_in(version).filter(|fault| fault.number != 15) {
-            let before = refused;
-            for input in &inputs {
-                let mut faulty = input.clone();
-                if (fault.apply)(&mut faulty, &mut random).is_none() {
-                    continue;
-                }
-                let copy = faulty.version_2_copy();
-                copies += usize::from(copy.is_some());
-                for input in [Some(faulty), copy].into_iter().flatten() {
-                    let worked = working(&input.file, &input.correction, 0, 0);
-                    assert_eq!(worked, Err(Refused(fault.number)), "{}", fault.name);
-                }
-                refused += 1;
+        let (mut refused, mut copies) = (0, 0);
+        for (fault, faulty) in faulty_cases(version, &mut random) {
+            let both = faulty.with_copy();
+            copies += both.len() - 1;
+            for input in both {
+                let worked = working(&input.file, &input.correction, 0, 0);
+                assert_eq!(worked, Err(Refused(fault.number)), "{}", fault.name);
             }
-            assert!(refused > before, "no case for {}", fault.name);
-            faults += 1;
+            refused += 1;
         }
-        println!("{version:?}: {faults} faults, {refused} refused, {copies} of them copied");
+        println!("{version:?}: {refused} refused, {copies} of them copied");
+        assert_eq!(copies > 1_000, version == Version::One);
     }
 }

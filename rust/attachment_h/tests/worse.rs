@@ -6,7 +6,7 @@
 use attachment_h::{Cents, Refused, settle};
 use cases::case::ROW_BYTES;
 use cases::generator::case;
-use cases::worse::{Change, apply, random_changes};
+use cases::worse::{Change, apply_all, random_changes};
 use cases::{Input, Random, Row, Size, Version, Wanted};
 use second::fuel_party_days;
 
@@ -19,13 +19,15 @@ fn settled(file: &[u8], correction: &[u8], held: u8) -> Result<After, Refused> {
     Ok((Row::first(&buffer, settled.rows), settled.penalties))
 }
 
-/// Lists that were compared, their changes, those with a higher total, and those made in a copy too.
+/// Lists that were compared, their changes, those with a higher total, those made in a copy too, and of the lists that
+/// make a refused case those made in a copy.
 #[derive(Debug, Default)]
 struct Lists {
     compared: usize,
     changes: usize,
     risen: usize,
     copied: usize,
+    refused_copies: usize,
 }
 
 impl Lists {
@@ -42,18 +44,26 @@ impl Lists {
         self.risen += usize::from(before.1 < after.1);
     }
 
-    /// The list on the version 2 copy, which has the same rows before it, and after it those of the changed file.
-    fn copy(&mut self, input: &Input, changed: &Input, list: &[Change], after: &After, what: &str) {
-        let (Some(copy), Some(changed_copy)) = (input.version_2_copy(), changed.version_2_copy())
-        else {
+    /// The list on the version 2 copy: what comes out is the copy of the changed file, with its rows or its number.
+    fn copy(
+        &mut self,
+        copy: &Input,
+        changed: &Input,
+        list: &[Change],
+        after: &Result<After, Refused>,
+        what: &str,
+    ) {
+        let Some(changed_copy) = changed.version_2_copy() else {
             return;
         };
-        let make = |file: Vec<u8>, change| apply(&file, change).expect("a worsening change");
-        let file = list.iter().fold(copy.file, make);
+        let file = apply_all(&copy.file, list).expect("worsening changes");
         assert!(file == changed_copy.file, "{what}: {list:?}");
         let of_the_copy = settled(&file, &copy.correction, 0x5A);
-        assert_eq!(of_the_copy.as_ref(), Ok(after), "{what}: {list:?}");
-        self.copied += 1;
+        assert_eq!(of_the_copy, *after, "{what}: {list:?}");
+        match after {
+            Ok(_) => self.copied += 1,
+            Err(_) => self.refused_copies += 1,
+        }
     }
 }
 
@@ -79,7 +89,8 @@ fn lists_of_changes() {
         }
         println!("{version:?}: {lists:?}");
         assert!(lists.compared > 3_000 && lists.risen > 500);
-        assert_eq!(lists.copied > 3_000, version == Version::One);
+        let of_copies = [lists.copied > 3_000, lists.refused_copies > 100];
+        assert_eq!(of_copies, [version == Version::One; 2]);
     }
 }
 
@@ -88,17 +99,24 @@ fn lists_of_a_case(input: &Input, random: &mut Random, lists: &mut Lists, what: 
     let days = fuel_party_days(&input.file, &input.correction).expect("accepted");
     assert!(days.iter().all(|day| day.e >= 0), "{what}");
     let before = settled(&input.file, &input.correction, 0x00).expect("accepted");
+    let copy = input.version_2_copy();
+    if let Some(copy) = &copy {
+        let of_the_copy = settled(&copy.file, &copy.correction, 0xA5);
+        assert_eq!(of_the_copy.as_ref(), Ok(&before), "{what}, copied");
+    }
     for most in [1, 4, 40] {
         let (list, file) = random_changes(&input.file, most, random);
         let changed = Input {
             file,
             ..input.clone()
         };
-        // A change may make a case that is refused: nothing is said of it.
-        let Ok(after) = settled(&changed.file, &changed.correction, 0xFF) else {
-            continue;
-        };
-        lists.compare(&before, &after, &list, what);
-        lists.copy(input, &changed, &list, &after, what);
+        let after = settled(&changed.file, &changed.correction, 0xFF);
+        if let Some(copy) = &copy {
+            lists.copy(copy, &changed, &list, &after, what);
+        }
+        // A change may make a case that is refused: nothing more is said of it.
+        if let Ok(after) = after {
+            lists.compare(&before, &after, &list, what);
+        }
     }
 }

@@ -3,17 +3,21 @@
 //! Two faults are put into one case from the one that is checked last to the one that is checked first: the first ones
 //! break the layout that the others need to find their place. The case is then refused with the first.
 
-mod list;
+mod events;
+mod layout;
 mod places;
+mod records;
 mod version_2;
 
 use attachment_h::layout::Version;
 
-pub use list::FAULTS;
-pub use version_2::FAULTS_OF_VERSION_2;
-
 use crate::case::Input;
+use crate::generator::{Wanted, case};
 use crate::random::Random;
+use events::FAULTS_OF_EVENTS;
+use layout::FAULTS_OF_THE_LAYOUT;
+use records::FAULTS_OF_RECORDS;
+use version_2::FAULTS_OF_VERSION_2;
 
 /// A fault: what it breaks and how it is put into a case.
 #[derive(Clone, Copy)]
@@ -25,6 +29,14 @@ pub struct Fault {
     /// Puts the fault into a case whose sections follow on; None if the case has no place for it, and is then of no
     /// use any more.
     pub apply: fn(&mut Input, &mut Random) -> Option<()>,
+}
+
+impl Fault {
+    /// A case with the fault, where it has a place for it.
+    pub fn put_into(&self, input: &Input, random: &mut Random) -> Option<Input> {
+        let mut faulty = input.clone();
+        (self.apply)(&mut faulty, random).map(|()| faulty)
+    }
 }
 
 const fn fault(
@@ -64,11 +76,12 @@ pub fn pairs_in(version: Version) -> Vec<(u8, u8)> {
 
 /// The faults that a case of this version can have.
 pub fn faults_in(version: Version) -> impl Iterator<Item = &'static Fault> {
+    let of_either = [FAULTS_OF_THE_LAYOUT, FAULTS_OF_RECORDS, FAULTS_OF_EVENTS];
     let more = match version {
         Version::One => &[],
         Version::Two => FAULTS_OF_VERSION_2,
     };
-    FAULTS.iter().chain(more)
+    of_either.into_iter().flatten().chain(more)
 }
 
 /// Those of them with this number.
@@ -77,4 +90,19 @@ pub fn faults_of(version: Version, number: u8) -> Vec<Fault> {
         .filter(|fault| fault.number == number)
         .copied()
         .collect()
+}
+
+/// Every fault but that of the rows, 15, in those of 20 small cases that have a place for it.
+pub fn faulty_cases(version: Version, random: &mut Random) -> Vec<(&'static Fault, Input)> {
+    let wanted = Wanted::every_kind().in_version(version);
+    let inputs: Vec<Input> = (0..20).map(|_| case(random, wanted).input()).collect();
+    let mut faulty = Vec::new();
+    for fault in faults_in(version).filter(|fault| fault.number != 15) {
+        let before = faulty.len();
+        for input in &inputs {
+            faulty.extend(fault.put_into(input, random).map(|input| (fault, input)));
+        }
+        assert!(faulty.len() > before, "no case for {}", fault.name);
+    }
+    faulty
 }

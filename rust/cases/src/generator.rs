@@ -46,6 +46,14 @@ impl Wanted {
         }
     }
 
+    /// A small case with records in every section and events of every kind.
+    pub fn every_kind() -> Wanted {
+        Wanted {
+            every_kind: true,
+            ..Wanted::of(Size::Small)
+        }
+    }
+
     /// The same in that version.
     pub fn in_version(self, version: Version) -> Wanted {
         Wanted { version, ..self }

@@ -51,6 +51,12 @@ pub fn apply(file: &[u8], change: &Change) -> Option<Vec<u8>> {
     }
 }
 
+/// The file after a list of changes, each against what the ones before it left; None if one isn't of demand 3.
+pub fn apply_all(file: &[u8], list: &[Change]) -> Option<Vec<u8>> {
+    let made = |file: Vec<u8>, change| apply(&file, change);
+    list.iter().try_fold(file.to_vec(), made)
+}
+
 /// The file with a worse a in one hour cell.
 pub fn write_worse_hour(file: &[u8], event: usize, hour: usize, a: u32) -> Option<Vec<u8>> {
     let record = event_offset(file, event)?;

@@ -2,7 +2,7 @@
 
 use cases::case::{LARGEST_FILE, ROW_BYTES};
 use cases::generator::{any_case_in, case, random_bytes_in};
-use cases::{Component, Kind, Market, Random, Row, Size, Version, Wanted};
+use cases::{Component, Input, Kind, Market, Random, Row, Size, Version, Wanted};
 use second::{Outcome, listing, refusal, settle};
 
 #[test]
@@ -11,10 +11,9 @@ fn generated_cases_are_accepted() {
         let mut random = Random::new(1);
         let mut copies = 0;
         for place in 0..4_000 {
-            let input = any_case_in(version, &mut random).input();
-            let copy = input.version_2_copy();
-            copies += usize::from(copy.is_some());
-            for input in [Some(input), copy].into_iter().flatten() {
+            let both = any_case_in(version, &mut random).input().with_copy();
+            copies += both.len() - 1;
+            for input in both {
                 let number = refusal(&input.file, &input.correction, input.rows_len);
                 assert_eq!(number, 0, "{version:?}, case {place}");
             }
@@ -46,27 +45,39 @@ fn random_bytes_are_refused_or_settled() {
 /// Random bytes of a version, which have all these numbers.
 fn random_bytes_of(version: Version, reached: &[usize]) {
     let mut random = Random::new(3);
-    let mut numbers = [0; 18];
+    let (mut numbers, mut copies) = ([0; 18], 0);
     for _ in 0..6_000 {
         let input = random_bytes_in(version, &mut random);
-        let number = refusal(&input.file, &input.correction, input.rows_len);
+        let number = refused_or_settled(&input);
         numbers[usize::from(number)] += 1;
-        let mut rows = vec![0x5A; input.rows_len];
-        match settle(&input.file, &input.correction, &mut rows) {
-            Outcome::Refused(again) => {
-                assert_eq!(again, number);
-                assert!(rows.iter().all(|&byte| byte == 0x5A));
-            }
-            Outcome::Settled { rows: count, .. } => {
-                assert_eq!(number, 0);
-                assert!(rows[ROW_BYTES * count..].iter().all(|&byte| byte == 0x5A));
-            }
+        if let Some(copy) = input.version_2_copy() {
+            assert_eq!(refused_or_settled(&copy), number);
+            copies += 1;
         }
     }
-    println!("{version:?}, refusals by number: {numbers:?}");
+    println!("{version:?}, refusals by number: {numbers:?}, {copies} copies");
     for &number in reached {
         assert!(numbers[number] > 0, "{number}");
     }
+    assert_eq!(copies > 1_000, version == Version::One);
+}
+
+/// The number of an input, which leaves its rows as they were, or 0, and then the bytes beyond the rows.
+fn refused_or_settled(input: &Input) -> u8 {
+    let number = refusal(&input.file, &input.correction, input.rows_len);
+    let mut rows = vec![0x5A; input.rows_len];
+    let written = match settle(&input.file, &input.correction, &mut rows) {
+        Outcome::Refused(again) => {
+            assert_eq!(again, number);
+            0
+        }
+        Outcome::Settled { rows, .. } => {
+            assert_eq!(number, 0);
+            ROW_BYTES * rows
+        }
+    };
+    assert!(rows[written..].iter().all(|&byte| byte == 0x5A));
+    number
 }
 
 #[test]
@@ -74,16 +85,29 @@ fn rows_do_not_depend_on_what_the_buffer_held() {
     let mut random = Random::new(11);
     for place in 0..400 {
         let input = any_case_in(Version::ALL[place % 2], &mut random).input();
-        let mut first = vec![0x00; input.rows_len + 40];
-        let mut second = vec![0xFF; input.rows_len + 40];
-        assert_eq!(
-            settle(&input.file, &input.correction, &mut first),
-            settle(&input.file, &input.correction, &mut second)
-        );
-        assert_eq!(first[..input.rows_len], second[..input.rows_len]);
-        assert!(first[input.rows_len..].iter().all(|&byte| byte == 0x00));
-        assert!(second[input.rows_len..].iter().all(|&byte| byte == 0xFF));
+        let rows = rows_over_zeros_and_ones(&input);
+        if let Some(copy) = input.version_2_copy() {
+            assert_eq!(
+                rows_over_zeros_and_ones(&copy),
+                rows,
+                "case {place}, copied"
+            );
+        }
     }
+}
+
+/// The rows of an input, the same in a buffer of zeros and in one of ones, which both end as they did.
+fn rows_over_zeros_and_ones(input: &Input) -> Vec<u8> {
+    let [zeros, ones] = [0x00, 0xFF].map(|held| {
+        let mut buffer = vec![held; input.rows_len + 40];
+        let outcome = settle(&input.file, &input.correction, &mut buffer);
+        assert!(matches!(outcome, Outcome::Settled { .. }));
+        let beyond = buffer.split_off(input.rows_len);
+        assert_eq!(beyond, [held; 40]);
+        (outcome, buffer)
+    });
+    assert_eq!(zeros, ones);
+    zeros.1
 }
 
 #[test]
@@ -117,5 +141,8 @@ fn listings_say_what_the_rows_say() {
         }
         expected += &format!("total {penalties} {make_ups}\n");
         assert_eq!(listing(&input.file), expected);
+        if let Some(copy) = input.version_2_copy() {
+            assert_eq!(listing(&copy.file), expected, "case {place}, copied");
+        }
     }
 }

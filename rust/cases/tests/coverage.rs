@@ -4,7 +4,7 @@
 use std::collections::{BTreeMap, BTreeSet, HashMap};
 
 use cases::generator::{any_case_in, case};
-use cases::{Component, Conduct, Generated, Kind, Market, Random, Row, Size, Unit};
+use cases::{Component, Conduct, Generated, Input, Kind, Market, Random, Row, Size, Unit};
 use cases::{Version, Wanted};
 use second::{Outcome, fuel_party_days, settle};
 
@@ -62,11 +62,27 @@ fn sums(generated: &Generated) -> PartyDaySums {
     sums
 }
 
+/// The version 2 copy of a case has the same outcome, rows and fuel party-days.
+fn same_of_the_copy(input: &Input, outcome: Outcome, rows: &[u8]) {
+    let Some(copy) = input.version_2_copy() else {
+        return;
+    };
+    let mut buffer = vec![0; copy.rows_len];
+    let of_the_copy = settle(&copy.file, &copy.correction, &mut buffer);
+    assert_eq!(of_the_copy, outcome);
+    assert!(buffer == rows);
+    assert_eq!(
+        fuel_party_days(&copy.file, &copy.correction),
+        fuel_party_days(&input.file, &input.correction)
+    );
+}
+
 fn reach(reached: &mut Reached, generated: &Generated) {
     let input = generated.input();
     let mut buffer = vec![0; input.rows_len];
     let outcome = settle(&input.file, &input.correction, &mut buffer);
     assert!(matches!(outcome, Outcome::Settled { .. }));
+    same_of_the_copy(&input, outcome, &buffer);
     let rows = Row::first(&buffer, generated.case.events.len());
     let references: HashMap<(u32, Component), i64> = generated
         .case

@@ -1,4 +1,5 @@
-//! In both versions every fault gives its number, and every pair of faults the one that is checked first.
+//! In both versions, and in version 2 copies, every fault gives its number, and every pair of faults the one that is
+//! checked first.
 
 use std::collections::BTreeMap;
 
@@ -9,11 +10,7 @@ use second::refusal;
 
 /// A good case with records in every section and events of every kind.
 fn good(version: Version, random: &mut Random) -> Input {
-    let wanted = Wanted {
-        version,
-        every_kind: true,
-        ..Wanted::of(Size::Small)
-    };
+    let wanted = Wanted::every_kind().in_version(version);
     let mut input = case(random, wanted).input();
     // Sometimes more rows than needed.
     if random.chance(1, 3) {
@@ -23,8 +20,14 @@ fn good(version: Version, random: &mut Random) -> Input {
     input
 }
 
+/// The number of an input, which its version 2 copy has too.
 fn number(input: &Input) -> u8 {
-    refusal(&input.file, &input.correction, input.rows_len)
+    let number = refusal(&input.file, &input.correction, input.rows_len);
+    if let Some(copy) = input.version_2_copy() {
+        let of_the_copy = refusal(&copy.file, &copy.correction, copy.rows_len);
+        assert_eq!(of_the_copy, number, "copied");
+    }
+    number
 }
 
 #[test]
@@ -35,8 +38,7 @@ fn each_fault_gives_its_number() {
         for _ in 0..60 {
             let input = good(version, &mut random);
             for fault in faults_in(version) {
-                let mut faulty = input.clone();
-                if (fault.apply)(&mut faulty, &mut random).is_some() {
+                if let Some(faulty) = fault.put_into(&input, &mut random) {
                     assert_eq!(number(&faulty), fault.number, "{}", fault.name);
                     *times.entry((fault.number, fault.name)).or_default() += 1;
                 }
@@ -83,14 +85,13 @@ fn two_faults(
     let mut combinations = 0;
     for later in faults_of(version, second) {
         for sooner in faults_of(version, first) {
-            let mut faulty = input.clone();
-            if (later.apply)(&mut faulty, random).is_none() {
+            let Some(one) = later.put_into(input, random) else {
                 continue;
-            }
-            assert_eq!(number(&faulty), second, "{}", later.name);
-            if (sooner.apply)(&mut faulty, random).is_none() {
+            };
+            assert_eq!(number(&one), second, "{}", later.name);
+            let Some(faulty) = sooner.put_into(&one, random) else {
                 continue;
-            }
+            };
             let what = format!("{} after {}", sooner.name, later.name);
             assert_eq!(number(&faulty), first, "{what}");
             combinations += 1;
@@ -107,8 +108,7 @@ fn faults_in_full_files() {
             let wanted = Wanted::of(Size::Full).in_version(version);
             let input = case(&mut random, wanted).input();
             for fault in faults_in(version) {
-                let mut faulty = input.clone();
-                if (fault.apply)(&mut faulty, &mut random).is_some() {
+                if let Some(faulty) = fault.put_into(&input, &mut random) {
                     assert_eq!(number(&faulty), fault.number, "{}", fault.name);
                 }
             }

@@ -3,8 +3,8 @@
 
 use cases::case::{ROW_BYTES, section_place, u32_at};
 use cases::generator::case;
-use cases::worse::{Change, apply, is_worse, random_changes};
-use cases::{Case, Component, Event, Kind, Market, Past, Random, Row, Size, Unit};
+use cases::worse::{Change, apply, apply_all, is_worse, random_changes};
+use cases::{Case, Component, Event, Input, Kind, Market, Past, Random, Row, Size, Unit};
 use cases::{Version, Wanted};
 use second::{Outcome, fuel_party_days, settle};
 
@@ -40,9 +40,20 @@ fn random_lists_keep_demand_3() {
     }
 }
 
+/// Lists that were made, compared, refused after, with a higher total and made in a copy too, and the compared changes.
+#[derive(Debug, Default)]
+struct Lists {
+    made: usize,
+    compared: usize,
+    changes: usize,
+    refused: usize,
+    risen: usize,
+    copied: usize,
+}
+
 fn random_lists(version: Version) {
     let mut random = Random::new(7);
-    let (mut lists, mut compared, mut refused, mut risen, mut changes) = (0, 0, 0, 0, 0);
+    let mut lists = Lists::default();
     for place in 0..3_000 {
         let size = match place % 30 {
             0 => Size::Full,
@@ -56,32 +67,56 @@ fn random_lists(version: Version) {
             ..Wanted::of(size)
         };
         let input = case(&mut random, wanted).input();
-        let premise = fuel_party_days(&input.file, &input.correction)
-            .expect("generated cases are accepted")
-            .iter()
-            .all(|day| day.e >= 0);
-        if !premise {
-            continue;
-        }
-        let before = settled(&input.file, &input.correction, 0x00).expect("accepted");
-        for most in [1, 4, 40] {
-            let (list, file) = random_changes(&input.file, most, &mut random);
-            lists += 1;
-            let Some(after) = settled(&file, &input.correction, 0xFF) else {
-                refused += 1;
-                continue;
-            };
-            assert!(keeps_demand_3(&before, &after), "case {place}: {list:?}");
-            compared += 1;
-            changes += list.len();
-            risen += usize::from(before.1 < after.1);
+        let days = fuel_party_days(&input.file, &input.correction);
+        let days = days.expect("generated cases are accepted");
+        if days.iter().all(|day| day.e >= 0) {
+            lists_of_a_case(&input, &mut random, &mut lists, &format!("case {place}"));
         }
     }
-    println!(
-        "{version:?}: {lists} lists, {compared} compared with {changes} changes, {refused} refused after, \
-         {risen} with a higher total"
-    );
-    assert!(compared > 4_000 && refused > 100 && risen > 1_000);
+    println!("{version:?}: {lists:?}");
+    assert!(lists.compared > 4_000 && lists.refused > 100 && lists.risen > 1_000);
+    assert_eq!(lists.copied > 4_000, version == Version::One);
+}
+
+/// Some lists of changes of a case under the premise.
+fn lists_of_a_case(input: &Input, random: &mut Random, lists: &mut Lists, what: &str) {
+    let before = settled(&input.file, &input.correction, 0x00).expect("accepted");
+    for most in [1, 4, 40] {
+        let (list, file) = random_changes(&input.file, most, random);
+        lists.made += 1;
+        let after = settled(&file, &input.correction, 0xFF);
+        lists.copied += usize::from(same_of_the_copy(input, &list, &file, &after));
+        let Some(after) = after else {
+            lists.refused += 1;
+            continue;
+        };
+        assert!(keeps_demand_3(&before, &after), "{what}: {list:?}");
+        lists.compared += 1;
+        lists.changes += list.len();
+        lists.risen += usize::from(before.1 < after.1);
+    }
+}
+
+/// The list makes of the version 2 copy the copy of the changed file, with the same rows, or refused too; whether there
+/// are copies of both.
+fn same_of_the_copy(
+    input: &Input,
+    list: &[Change],
+    changed: &[u8],
+    after: &Option<(Vec<Row>, u64)>,
+) -> bool {
+    let changed = Input {
+        file: changed.to_vec(),
+        ..input.clone()
+    };
+    let (Some(copy), Some(changed_copy)) = (input.version_2_copy(), changed.version_2_copy())
+    else {
+        return false;
+    };
+    let file = apply_all(&copy.file, list).expect("worsening changes");
+    assert!(file == changed_copy.file, "{list:?}");
+    assert_eq!(settled(&file, &copy.correction, 0x5A), *after, "{list:?}");
+    true
 }
 
 #[test]
@@ -89,9 +124,12 @@ fn an_empty_list_changes_nothing() {
     let mut random = Random::new(8);
     for _ in 0..50 {
         let input = case(&mut random, Wanted::of(Size::Small)).input();
-        let (list, file) = random_changes(&input.file, 0, &mut random);
-        assert!(list.is_empty());
-        assert_eq!(file, input.file);
+        let copy = input.version_2_copy().expect("a copy");
+        for input in [input, copy] {
+            let (list, file) = random_changes(&input.file, 0, &mut random);
+            assert!(list.is_empty());
+            assert_eq!(file, input.file);
+        }
     }
 }
 
@@ -122,8 +160,6 @@ fn the_premise_is_needed() {
         (0, -1_000_000, 2_000_000),
         &[],
     );
-    let file = with_event(event).to_bytes();
-    assert_eq!(fuel_party_days(&file, &[]).unwrap()[0].e, -10_000_000);
     let change = Change::PastEntry {
         place: 0,
         entry: Past {
@@ -134,10 +170,14 @@ fn the_premise_is_needed() {
             day: 7_999,
         },
     };
-    let before = settled(&file, &[], 0).unwrap();
-    let after = settled(&apply(&file, &change).unwrap(), &[], 0).unwrap();
-    assert_eq!((before.1, after.1), (1_000_000, 500_000));
-    assert!(!keeps_demand_3(&before, &after));
+    for version in Version::ALL {
+        let file = with_event(event).in_version(version).to_bytes();
+        assert_eq!(fuel_party_days(&file, &[]).unwrap()[0].e, -10_000_000);
+        let before = settled(&file, &[], 0).unwrap();
+        let after = settled(&apply(&file, &change).unwrap(), &[], 0).unwrap();
+        assert_eq!((before.1, after.1), (1_000_000, 500_000));
+        assert!(!keeps_demand_3(&before, &after));
+    }
 }
 
 #[test]
@@ -152,17 +192,19 @@ fn demand_3_leaves_out_mitigated_hours() {
         component: Component(1),
         value: 2_000,
     }];
-    let file = case.to_bytes();
     let change = Change::Hour {
         event: 0,
         hour: 5,
         a: 9_000,
     };
-    let before = settled(&file, &[], 0).unwrap();
-    let after = settled(&apply(&file, &change).unwrap(), &[], 0).unwrap();
-    assert!(keeps_demand_3(&before, &after));
-    assert_eq!(before.0[0].mitigated.0, 0b11_1111_1100_0000_0000);
-    assert_eq!(after.0[0].mitigated.0, 0b00_0001_1111_1110_0000);
+    for version in Version::ALL {
+        let file = case.clone().in_version(version).to_bytes();
+        let before = settled(&file, &[], 0).unwrap();
+        let after = settled(&apply(&file, &change).unwrap(), &[], 0).unwrap();
+        assert!(keeps_demand_3(&before, &after));
+        assert_eq!(before.0[0].mitigated.0, 0b11_1111_1100_0000_0000);
+        assert_eq!(after.0[0].mitigated.0, 0b00_0001_1111_1110_0000);
+    }
 }
 
 #[test]
@@ -184,31 +226,35 @@ fn higher_is_unsigned_or_signed_by_kind() {
 fn a_past_entry_moves_the_events() {
     let mut random = Random::new(9);
     for place in 0..100 {
-        let wanted = Wanted {
-            version: Version::ALL[place % 2],
-            every_kind: true,
-            ..Wanted::of(Size::Small)
-        };
-        let generated = case(&mut random, wanted);
-        let file = generated.case.to_bytes();
-        let entry = Past {
-            group: 3,
-            kind: Kind::WITHHELD,
-            market: Market::DAY_AHEAD,
-            period: 9,
-            day: 77,
-        };
-        for place in 0..=generated.case.past.len() {
-            let mut expected = generated.case.clone();
-            expected.past.insert(place, entry);
-            let changed = apply(&file, &Change::PastEntry { place, entry }).unwrap();
-            assert_eq!(changed, expected.to_bytes());
-            assert_eq!(u32_at(&changed, 24), u32_at(&file, 24) + 12);
-            assert_eq!(section_place(&changed, 3).0, section_place(&file, 3).0 + 12);
+        let wanted = Wanted::every_kind().in_version(Version::ALL[place % 2]);
+        let case = case(&mut random, wanted).case;
+        add_past_entries(&case);
+        if case.version == Version::One {
+            add_past_entries(&case.in_version(Version::Two));
         }
-        let place = generated.case.past.len() + 1;
-        assert_eq!(apply(&file, &Change::PastEntry { place, entry }), None);
     }
+}
+
+/// A past entry at every place of a case, and past the end.
+fn add_past_entries(case: &Case) {
+    let file = case.to_bytes();
+    let entry = Past {
+        group: 3,
+        kind: Kind::WITHHELD,
+        market: Market::DAY_AHEAD,
+        period: 9,
+        day: 77,
+    };
+    for place in 0..=case.past.len() {
+        let mut expected = case.clone();
+        expected.past.insert(place, entry);
+        let changed = apply(&file, &Change::PastEntry { place, entry }).unwrap();
+        assert_eq!(changed, expected.to_bytes());
+        assert_eq!(u32_at(&changed, 24), u32_at(&file, 24) + 12);
+        assert_eq!(section_place(&changed, 3).0, section_place(&file, 3).0 + 12);
+    }
+    let place = case.past.len() + 1;
+    assert_eq!(apply(&file, &Change::PastEntry { place, entry }), None);
 }
 
 /// A withheld event with this a in hour 3.

@@ -1,7 +1,7 @@
 //! What N3 and N2 of an event count, record by record.
 
 use crate::case_file::{Case, Conduct, Past};
-use crate::settlement::{Row, settle_case, unit_of};
+use crate::settlement::{Row, unit_of};
 use crate::terms::Market;
 
 /// Bytes for a bit of each of 200 events.
@@ -56,13 +56,9 @@ fn bits_of(places: &[usize], length: usize) -> Vec<u8> {
     bytes
 }
 
-/// What N3 and N2 of an event of the case counted.
-pub fn instances(case: &Case, event: usize) -> Instances {
-    instances_beside(case, &settle_case(case), event).unwrap_or_default()
-}
-
-/// The same beside the rows, whose flags make instances; None where the event is none.
-pub fn instances_beside(case: &Case, rows: &[Row], event: usize) -> Option<Instances> {
+/// What N3 and N2 of an event counted beside the rows, whose flags make instances; None where the
+/// event is none.
+pub fn instances(case: &Case, rows: &[Row], event: usize) -> Option<Instances> {
     is_instance(case, rows, event).then(|| Instances {
         three: counted(case, rows, event, 2),
         two: counted(case, rows, event, 1),

@@ -7,7 +7,8 @@
 //! - [`refusal`], [`settle`] and [`listing`] take whole cases.
 //! - [`calls`] has the smaller rules on plain numbers.
 //! - [`fuel_party_days`] gives E, which the premise of demand 3 is about.
-//! - [`penalty_working()`], [`instances()`] and [`make_up_working()`] give the terms of an event's money.
+//! - [`penalty_working()`], [`instances()`] and [`make_up_working()`] give the terms of an event's money,
+//!   [`SettledCase`] those of all events of a case that is settled once.
 
 mod case_file;
 mod event_record;
@@ -16,6 +17,7 @@ mod layout;
 mod make_up_working;
 mod penalty_working;
 mod rules;
+mod settled_case;
 mod settlement;
 mod terms;
 
@@ -29,6 +31,7 @@ use settlement::{Row, settle_case};
 pub use instances::{Counted, INSTANCES_BYTES, Instances};
 pub use make_up_working::MakeUpWorking;
 pub use penalty_working::PenaltyWorking;
+pub use settled_case::SettledCase;
 pub use settlement::FuelPartyDay;
 
 /// What comes of settling a case.
@@ -114,44 +117,17 @@ pub fn fuel_party_days(file: &[u8], correction: &[u8]) -> Result<Vec<FuelPartyDa
 /// The working of the penalty of an event; the number if the case is refused, else 10 where it has
 /// no such event.
 pub fn penalty_working(file: &[u8], correction: &[u8], event: usize) -> Result<PenaltyWorking, u8> {
-    let case = case_with(file, correction, event)?;
-    Ok(penalty_working::penalty_working(&case, event))
+    SettledCase::of(file, correction)?.penalty_working(event)
 }
 
 /// What N3 and N2 of an event counted; refused as [`penalty_working()`] is.
 pub fn instances(file: &[u8], correction: &[u8], event: usize) -> Result<Instances, u8> {
-    let case = case_with(file, correction, event)?;
-    Ok(instances::instances(&case, event))
-}
-
-/// The same as bits at the beginning of a buffer; also refused, with 15, where that is too short.
-/// On a refusal the buffer is untouched, and so are the bytes beyond the bits.
-pub fn instances_into(
-    file: &[u8],
-    correction: &[u8],
-    event: usize,
-    out: &mut [u8],
-) -> Result<(), u8> {
-    let counted = instances(file, correction, event)?;
-    let bits = out.get_mut(..INSTANCES_BYTES).ok_or(15)?;
-    bits.copy_from_slice(&counted.to_bytes());
-    Ok(())
+    SettledCase::of(file, correction)?.instances(event)
 }
 
 /// The working of the make-up payment of an event; refused as [`penalty_working()`] is.
 pub fn make_up_working(file: &[u8], correction: &[u8], event: usize) -> Result<MakeUpWorking, u8> {
-    let case = case_with(file, correction, event)?;
-    Ok(make_up_working::make_up_working(&case, event))
-}
-
-/// A case that has this event, whatever the length of its rows.
-fn case_with(file: &[u8], correction: &[u8], event: usize) -> Result<Case, u8> {
-    let case = read_case(file, correction, usize::MAX)?;
-    if event < case.events.len() {
-        Ok(case)
-    } else {
-        Err(10)
-    }
+    SettledCase::of(file, correction)?.make_up_working(event)
 }
 
 /// The sums of the rows' penalties and of their make-ups.

@@ -3,7 +3,7 @@
 
 use crate::case_file::{BidHour, Case, Conduct, Unit};
 use crate::rules::{self, BidConditions};
-use crate::settlement::{settle_case, unit_of};
+use crate::settlement::{Row, unit_of};
 use crate::terms::{Component, HOURS, HourMask, Market, round_to_cents};
 
 /// The working of a bid's make-up payment. What its component lacks is 0, and so is all of it where
@@ -26,9 +26,9 @@ pub struct MakeUpWorking {
     pub hours: [u64; HOURS],
 }
 
-/// The working of the make-up payment of an event of the case.
-pub fn make_up_working(case: &Case, event: usize) -> MakeUpWorking {
-    let Some(bids) = Bids::of(case, event) else {
+/// The working of the make-up payment of an event of the case, beside its rows.
+pub fn make_up_working(case: &Case, rows: &[Row], event: usize) -> MakeUpWorking {
+    let Some(bids) = Bids::of(case, rows, event) else {
         return MakeUpWorking::default();
     };
     let correct = || case.correct_references[&(case.events[event].unit, bids.component)];
@@ -50,8 +50,8 @@ struct Bids<'a> {
     reference: i64,
 }
 
-impl Bids<'_> {
-    fn of(case: &Case, event: usize) -> Option<Bids<'_>> {
+impl<'a> Bids<'a> {
+    fn of(case: &'a Case, rows: &[Row], event: usize) -> Option<Bids<'a>> {
         let own = &case.events[event];
         match &own.conduct {
             Conduct::Bids {
@@ -65,7 +65,7 @@ impl Bids<'_> {
                 component: *component,
                 shadow_price: *shadow_price,
                 hours,
-                mitigated: settle_case(case)[event].mitigated,
+                mitigated: rows[event].mitigated,
                 reference: case.references[&(own.unit, *component)],
             }),
             _ => None,

@@ -1,9 +1,9 @@
 //! The working of an event's penalty: the terms of its hours, and what they come to.
 
 use crate::case_file::{Case, Conduct, DispatchHour, FuelHour, Past, WithheldHour};
-use crate::instances::instances_beside;
+use crate::instances::instances;
 use crate::rules;
-use crate::settlement::{Row, settle_case, unit_of};
+use crate::settlement::{Row, unit_of};
 use crate::terms::{HOURS, HourMask, round_to_cents};
 
 /// "10,000,000, which is $5,000", in twentieths of a cent.
@@ -42,20 +42,19 @@ pub struct PenaltyWorking {
     pub losses: [u64; HOURS],
 }
 
-/// The working of the penalty of an event of the case.
-pub fn penalty_working(case: &Case, event: usize) -> PenaltyWorking {
-    let rows = settle_case(case);
+/// The working of the penalty of an event of the case, beside its rows.
+pub fn penalty_working(case: &Case, rows: &[Row], event: usize) -> PenaltyWorking {
     let nothing = PenaltyWorking {
         kind: case.events[event].conduct.kind(),
         row: event,
         ..PenaltyWorking::default()
     };
     match &case.events[event].conduct {
-        Conduct::Withheld { hours, .. } => withheld(case, &rows, hours, nothing),
+        Conduct::Withheld { hours, .. } => withheld(case, rows, hours, nothing),
         Conduct::Dispatch { impact, hours, .. } => {
             dispatch(*impact, rows[event].flags, hours, nothing)
         }
-        Conduct::Fuel { hours, .. } => fuel(case, &rows, hours, nothing),
+        Conduct::Fuel { hours, .. } => fuel(case, rows, hours, nothing),
         Conduct::Bids { .. } => nothing,
     }
 }
@@ -72,7 +71,7 @@ fn withheld(
         withheld * price.max(0)
     });
     let amount: u64 = terms.iter().sum();
-    let (multiplier, n3, n2) = match instances_beside(case, rows, event) {
+    let (multiplier, n3, n2) = match instances(case, rows, event) {
         Some(counted) => {
             let (n3, n2) = (counted.three.count(), counted.two.count());
             (rules::multiplier(n3, n2), n3, n2)

@@ -4,7 +4,8 @@ mod common;
 
 use cases::case::{ROW_BYTES, put_u32, section_place};
 use cases::{Case, Component, Event, Kind, Market, Past, Unit};
-use common::{number, past_withheld, reference, unit};
+use common::version_2::copy_of;
+use common::{number, number_of, past_withheld, reference, unit};
 use second::calls::{self, BidHour};
 use second::{Outcome, listing, refusal, settle};
 
@@ -43,7 +44,7 @@ fn full() -> Case {
 
 /// The number that a file breaks, with enough rows and no correction.
 fn of_bytes(file: &[u8]) -> u8 {
-    refusal(file, &[], ROW_BYTES * 200)
+    number_of(file, &[], ROW_BYTES * 200)
 }
 
 /// The number that `full` breaks after a change of one byte in a section.
@@ -57,28 +58,33 @@ fn with_byte(section: usize, at: usize, value: u8) -> u8 {
 
 #[test]
 fn listing_example() {
-    assert_eq!(
-        listing(&example().to_bytes()),
-        "8000 1 12 0 0 1 0 2 200400 0\ntotal 200400 0\n"
-    );
+    let file = example().to_bytes();
+    for file in [copy_of(&file), file] {
+        assert_eq!(
+            listing(&file),
+            "8000 1 12 0 0 1 0 2 200400 0\ntotal 200400 0\n"
+        );
+    }
 }
 
 #[test]
 fn empty_case() {
     let file = Case::default().to_bytes();
-    assert_eq!(file.len(), 36);
-    assert_eq!(refusal(&file, &[], 0), 0);
-    assert_eq!(listing(&file), "total 0 0\n");
-    let mut rows = [0xA5; 5];
-    assert_eq!(
-        settle(&file, &[], &mut rows),
-        Outcome::Settled {
-            rows: 0,
-            penalties: 0,
-            make_ups: 0
-        }
-    );
-    assert_eq!(rows, [0xA5; 5]);
+    for file in [copy_of(&file), file] {
+        assert_eq!(file.len(), 36);
+        assert_eq!(refusal(&file, &[], 0), 0);
+        assert_eq!(listing(&file), "total 0 0\n");
+        let mut rows = [0xA5; 5];
+        assert_eq!(
+            settle(&file, &[], &mut rows),
+            Outcome::Settled {
+                rows: 0,
+                penalties: 0,
+                make_ups: 0
+            }
+        );
+        assert_eq!(rows, [0xA5; 5]);
+    }
 }
 
 #[test]
@@ -89,9 +95,11 @@ fn a_refusal_leaves_the_rows() {
     assert_eq!(settle(&file, &[], &mut rows), Outcome::Refused(2));
     assert!(rows.iter().all(|&byte| byte == 0xA5));
     let file = full().to_bytes();
-    let mut rows = vec![0xA5; 2 * ROW_BYTES - 1];
-    assert_eq!(settle(&file, &[], &mut rows), Outcome::Refused(15));
-    assert!(rows.iter().all(|&byte| byte == 0xA5));
+    for file in [copy_of(&file), file] {
+        let mut rows = vec![0xA5; 2 * ROW_BYTES - 1];
+        assert_eq!(settle(&file, &[], &mut rows), Outcome::Refused(15));
+        assert!(rows.iter().all(|&byte| byte == 0xA5));
+    }
 }
 
 #[test]
@@ -125,7 +133,7 @@ fn examples_of_the_table() {
     // 7: component 9
     assert_eq!(with_byte(1, 2, 9), 7);
     // 8: 7 bytes
-    assert_eq!(refusal(&good, &[0; 7], 2 * ROW_BYTES), 8);
+    assert_eq!(number_of(&good, &[0; 7], 2 * ROW_BYTES), 8);
     // 9: kind 2
     assert_eq!(with_byte(2, 2, 2), 9);
     // 10: market 2
@@ -149,8 +157,8 @@ fn examples_of_the_table() {
     case.references.clear();
     assert_eq!(number(&case, &[]), 14);
     // 15: 127 bytes, one event
-    assert_eq!(refusal(&example().to_bytes(), &[], 127), 15);
-    assert_eq!(refusal(&example().to_bytes(), &[], 128), 0);
+    assert_eq!(number_of(&example().to_bytes(), &[], 127), 15);
+    assert_eq!(number_of(&example().to_bytes(), &[], 128), 0);
 }
 
 #[test]
@@ -332,10 +340,10 @@ fn reference_and_correction_ranges() {
     assert_eq!(with_byte(1, 3, 1), 7);
     let file = full().to_bytes();
     // A spare byte of the correction.
-    assert_eq!(refusal(&file, &[12, 0, 0, 1, 1, 0, 0, 0], 1_000), 8);
-    assert_eq!(refusal(&file, &[12, 0, 0, 0, 1, 0, 0, 0], 1_000), 0);
+    assert_eq!(number_of(&file, &[12, 0, 0, 1, 1, 0, 0, 0], 1_000), 8);
+    assert_eq!(number_of(&file, &[12, 0, 0, 0, 1, 0, 0, 0], 1_000), 0);
     // 8 also looks at a correction of no multiple of 8 whose whole records are good.
-    assert_eq!(refusal(&file, &[12, 0, 0, 0, 1, 0, 0, 0, 0], 1_000), 8);
+    assert_eq!(number_of(&file, &[12, 0, 0, 0, 1, 0, 0, 0, 0], 1_000), 8);
 }
 
 #[test]
@@ -654,11 +662,11 @@ fn each_number_over_everything_before_the_next() {
     // 5 of the events comes before 6 of the units; 15 is last.
     let mut case = full();
     case.references.clear();
-    assert_eq!(refusal(&case.to_bytes(), &[], 0), 14);
+    assert_eq!(number_of(&case.to_bytes(), &[], 0), 14);
     case.units[0].area = 2;
-    assert_eq!(refusal(&case.to_bytes(), &[], 0), 6);
+    assert_eq!(number_of(&case.to_bytes(), &[], 0), 6);
     case.past = vec![past_withheld(0, Market::DAY_AHEAD, 0); 257];
-    assert_eq!(refusal(&case.to_bytes(), &[], 0), 5);
+    assert_eq!(number_of(&case.to_bytes(), &[], 0), 5);
 }
 
 #[test]

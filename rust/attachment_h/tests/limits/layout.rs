@@ -134,7 +134,7 @@ fn lengths_of_the_sections() {
     for version in Version::ALL {
         for (case, number) in numbers_of_records() {
             let input = Input::new(&case.in_version(version), &[]);
-            checks.one(&input, number, "number of records");
+            checks.expect(&input, number, "number of records");
         }
         // Every length that is no multiple, around one and two records.
         for (section, record) in widths(version).into_iter().enumerate() {

@@ -155,11 +155,8 @@ fn the_correction_of_the_other_version() {
         for count in 1..=18 {
             let entries = references();
             input.correction = correction_bytes(other, &entries[..count]);
-            checks.one(
-                &input,
-                8,
-                &format!("{count} corrections of the other version"),
-            );
+            let what = format!("{count} corrections of the other version");
+            checks.expect(&input, 8, &what);
         }
     }
     checks.done(36, "the correction of the other version");

@@ -1,9 +1,8 @@
 //! Generated cases beside the second implementation.
 
 use attachment_h::{Cents, Kind, Multiplier, Refused};
-use attachment_h::{instances, make_up_working, penalty_working};
 use cases::generator::case;
-use cases::{Event, Generated, Input, Random, Size, Version, Wanted};
+use cases::{Event, Generated, Random, Size, Version, Wanted};
 
 use crate::{Inputs, Worked, both};
 
@@ -11,6 +10,7 @@ use crate::{Inputs, Worked, both};
 #[derive(Debug, Default)]
 struct Seen {
     events: [[usize; 2]; 4],
+    in_both_versions: usize,
     instances: usize,
     amounts_without_multiplier: usize,
     counted_events: usize,
@@ -35,10 +35,11 @@ struct Seen {
 impl Seen {
     fn add(&mut self, place: usize, event: &Event, worked: &Worked) {
         self.events[usize::from(event.kind().0) - 1][usize::from(event.market.0)] += 1;
+        self.in_both_versions += usize::from(worked.versions == 2);
         self.add_counts(worked);
         self.add_penalty(place, worked);
         self.add_make_up(event, worked);
-        match worked.length {
+        match worked.out.len() {
             ..114 => self.too_short += 1,
             114 => self.exact += 1,
             115.. => self.longer += 1,
@@ -113,73 +114,44 @@ impl Seen {
 
 #[test]
 fn generated_cases() {
-    let sizes = [(Size::Small, 6_000), (Size::Medium, 300), (Size::Full, 6)];
-    let copied = generated_cases_of(Version::One, sizes);
-    println!("{copied} events in a copy too");
-    assert!(copied > 40_000);
+    // Every case but the six full ones has a copy.
+    let (events, in_a_copy) = generated_cases_of(Version::One);
+    assert_eq!(in_a_copy, events - 6 * 200);
 }
 
 #[test]
 fn generated_cases_of_version_2() {
-    // Half as many, since the copies of version 1 are of version 2 too.
-    let sizes = [(Size::Small, 3_000), (Size::Medium, 150), (Size::Full, 6)];
-    assert_eq!(generated_cases_of(Version::Two, sizes), 0);
+    let (events, numbered_through) = generated_cases_of(Version::Two);
+    assert_eq!(numbered_through, events);
 }
 
-/// The events of so many generated cases; how many of them were worked in a copy too.
-fn generated_cases_of(version: Version, sizes: [(Size, usize); 3]) -> usize {
+/// The events of generated cases; how many there are, and how many were worked in the other version too.
+fn generated_cases_of(version: Version) -> (usize, usize) {
     let mut random = Random::new(901);
-    let (mut seen, mut copied) = (Seen::default(), 0);
-    for (size, count) in sizes {
+    let (mut seen, mut events) = (Seen::default(), 0);
+    for (size, count) in [(Size::Small, 6_000), (Size::Medium, 300), (Size::Full, 6)] {
         for place in 0..count {
             let generated = case(&mut random, Wanted::of(size).in_version(version));
             let what = format!("{version:?}, {size:?} {place}");
-            copied += work(&generated, &mut random, &mut seen, &what);
+            work(&generated, &mut random, &mut seen, &what);
+            events += generated.case.events.len();
         }
     }
     seen.done();
-    copied
+    assert_eq!(seen.events.iter().flatten().sum::<usize>(), events);
+    (events, seen.in_both_versions)
 }
 
-/// All events of a case, and some that it does not have; how many of them the copy has too.
-fn work(generated: &Generated, random: &mut Random, seen: &mut Seen, what: &str) -> usize {
-    let (inputs, events) = (Inputs::of(generated.input()), &generated.case.events);
-    let of_version_2 = generated.case.version == Version::Two;
-    let through = of_version_2.then(|| generated.numbered_through().input());
+/// All events of a case, and some that it does not have.
+fn work(generated: &Generated, random: &mut Random, seen: &mut Seen, what: &str) {
+    let (inputs, events) = (Inputs::of_case(generated), &generated.case.events);
     for (event, record) in events.iter().enumerate() {
         let worked = both(random, &inputs, event, what).expect(what);
         seen.add(event, record, &worked);
-        if let Some(through) = &through {
-            has_the_same(through, event, &worked, what);
-        }
     }
     for event in [events.len(), events.len() + 1, 256, 1 << 32, usize::MAX] {
         let worked = both(random, &inputs, event, what);
         assert_eq!(worked.err(), Some(Refused(10)), "{what}, event {event}");
         seen.no_such_event += 1;
     }
-    inputs.copy.map_or(0, |_| events.len())
-}
-
-/// The same case in version 1, with its units numbered through, has the same working.
-fn has_the_same(through: &Input, event: usize, worked: &Worked, what: &str) {
-    let (file, correction) = (&through.file, &through.correction);
-    let penalty = penalty_working(file, correction, event);
-    assert_eq!(
-        penalty.as_ref(),
-        Ok(&worked.penalty),
-        "{what}, event {event}"
-    );
-    let counted = instances(file, correction, event);
-    assert_eq!(
-        counted.as_ref(),
-        Ok(&worked.instances),
-        "{what}, event {event}"
-    );
-    let make_up = make_up_working(file, correction, event);
-    assert_eq!(
-        make_up.as_ref(),
-        Ok(&worked.make_up),
-        "{what}, event {event}"
-    );
 }

@@ -1,11 +1,9 @@
 //! A small case of each kind, worked out with a pencil.
 
-use attachment_h::{
-    Cents, Component, INSTANCES_LENGTH, Kind, Market, Mask, Multiplier, instances_into,
-};
+use attachment_h::{Cents, Component, INSTANCES_LENGTH, Kind, Market, Mask, Multiplier};
 use cases::{Case, Event, Input, Past, Random, Reference, Unit};
 
-use crate::{Inputs, Worked, both};
+use crate::{Inputs, Worked, bits_of, both};
 
 /// A unit of group 7 outside of Constrained Areas, with 15 × its response rate at 450.
 fn unit(unit: u32, capability: u32) -> Unit {
@@ -40,10 +38,11 @@ fn reference(component: u8, value: u32) -> Reference {
 fn workings(case: &Case, correction: &[Reference]) -> Vec<Worked> {
     let mut random = Random::new(931);
     let inputs = Inputs::of(Input::new(case, correction));
-    assert!(inputs.copy.is_some());
-    (0..case.events.len())
+    let worked: Vec<Worked> = (0..case.events.len())
         .map(|event| both(&mut random, &inputs, event, "by hand").expect("accepted"))
-        .collect()
+        .collect();
+    assert!(worked.iter().all(|worked| worked.versions == 2));
+    worked
 }
 
 /// Terms in these hours, 0 in the others.
@@ -138,11 +137,8 @@ fn withheld_counts() {
     for (byte, bits) in [(0, 0b10), (25, 0b11), (57, 0b10), (82, 0b10)] {
         expected[byte] = bits;
     }
-    let mut out = [0xA5; INSTANCES_LENGTH];
-    assert_eq!(instances_into(&case.to_bytes(), &[], 2, &mut out), Ok(()));
-    assert_eq!(out, expected);
-    assert_eq!(instances_into(&case.to_bytes(), &[], 0, &mut out), Ok(()));
-    assert_eq!(out, [0; INSTANCES_LENGTH]);
+    assert_eq!(bits_of(&case, 2), expected);
+    assert_eq!(bits_of(&case, 0), [0; INSTANCES_LENGTH]);
 }
 
 #[test]

@@ -1,10 +1,10 @@
 //! The largest figures that a case can have, and counts of every place.
 
-use attachment_h::{Cents, Component, INSTANCES_LENGTH, Kind, Market, Multiplier, instances_into};
+use attachment_h::{Cents, Component, Kind, Market, Multiplier};
 use cases::case::EVERY_HOUR;
 use cases::{Case, Event, Input, Past, Random, Reference, Unit};
 
-use crate::{Inputs, Worked, both};
+use crate::{Inputs, Worked, bits_of, both};
 
 fn unit(unit: u32) -> Unit {
     Unit {
@@ -32,8 +32,9 @@ fn all_day<A: Copy, B: Copy>(a: A, b: B) -> [(usize, A, B); 24] {
 
 fn worked(case: &Case, correction: &[Reference], event: usize) -> Worked {
     let inputs = Inputs::of(Input::new(case, correction));
-    assert!(inputs.copy.is_some());
-    both(&mut Random::new(941), &inputs, event, "at an edge").expect("accepted")
+    let worked = both(&mut Random::new(941), &inputs, event, "at an edge").expect("accepted");
+    assert_eq!(worked.versions, 2);
+    worked
 }
 
 #[test]
@@ -152,9 +153,7 @@ fn every_past_entry() {
     assert_eq!(last.instances.two.past, of_two);
     // Itself, event 0 and the entries: 256, and 170 without those of period 42.
     assert_eq!((last.penalty.n3, last.penalty.n2), (258, 172));
-    let mut out = [0; INSTANCES_LENGTH];
-    assert_eq!(instances_into(&case.to_bytes(), &[], 1, &mut out), Ok(()));
-    assert_eq!(out[25..57], [0xFF; 32]);
+    assert_eq!(bits_of(&case, 1)[25..57], [0xFF; 32]);
 }
 
 #[test]
@@ -172,8 +171,7 @@ fn every_event() {
         let two: Vec<usize> = (0..event).filter(|place| place % 2 == event % 2).collect();
         assert_eq!((counted.three.events, counted.two.events), (three, two));
     }
-    let mut out = [0; INSTANCES_LENGTH];
-    assert_eq!(instances_into(&case.to_bytes(), &[], 199, &mut out), Ok(()));
+    let out = bits_of(&case, 199);
     // Events 0 to 198, and of them the odd ones.
     assert_eq!((&out[..24], out[24]), (&[0xFF; 24][..], 0b0111_1111));
     assert_eq!(

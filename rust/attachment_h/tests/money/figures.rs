@@ -7,13 +7,15 @@ use attachment_h::{
 };
 use cases::case::{DispatchHour, WithheldHour};
 use cases::generator::case;
-use cases::{Case, Conduct, Event, Generated, Market, Random, Size, Unit, Version, Wanted};
+use cases::{Case, Conduct, Event, Generated, Input, Market, Random, Size, Unit};
+use cases::{Version, Wanted};
 
 use crate::of_make_up;
 
 /// A case with its rows and the workings of all its events.
+#[derive(PartialEq)]
 struct Settled<'a> {
-    what: String,
+    what: &'a str,
     case: &'a Case,
     rows: Vec<Row>,
     penalties: Vec<PenaltyWorking>,
@@ -25,6 +27,7 @@ struct Settled<'a> {
 #[derive(Debug, Default)]
 struct Compared {
     events: usize,
+    copied: usize,
     instances: usize,
     withheld: usize,
     dispatch: usize,
@@ -35,9 +38,15 @@ struct Compared {
 }
 
 impl Compared {
-    /// All events of a case.
-    fn add(&mut self, generated: &Generated, what: String) {
-        let settled = Settled::of(what, generated);
+    /// All events of a case, whose version 2 copy has the same figures.
+    fn add(&mut self, generated: &Generated, what: &str) {
+        let (case, input) = (&generated.case, generated.input());
+        let settled = Settled::of(what, case, &input);
+        if let Some(copy) = input.version_2_copy() {
+            let of_the_copy = Settled::of(what, case, &copy);
+            assert!(of_the_copy == settled, "{what}, copied");
+            self.copied += case.events.len();
+        }
         for event in 0..settled.rows.len() {
             settled.compare_rows(event);
             settled.compare_counts(event, self);
@@ -55,19 +64,18 @@ impl Compared {
     }
 }
 
-impl Settled<'_> {
-    fn of(what: String, generated: &Generated) -> Settled<'_> {
-        let input = generated.input();
+impl<'a> Settled<'a> {
+    fn of(what: &'a str, case: &'a Case, input: &Input) -> Settled<'a> {
         let (file, correction) = (&input.file, &input.correction);
-        let places = 0..generated.case.events.len();
+        let places = 0..case.events.len();
         let mut rows = vec![0; input.rows_len];
-        settle(file, correction, &mut rows).expect(&what);
+        settle(file, correction, &mut rows).expect(what);
         let penalty = |event| penalty_working(file, correction, event).expect("accepted");
         let instances = |event| instances(file, correction, event).expect("accepted");
         let make_up = |event| make_up_working(file, correction, event).expect("accepted");
         Settled {
             what,
-            case: &generated.case,
+            case,
             rows: Row::first(&rows, places.len()),
             penalties: places.clone().map(penalty).collect(),
             instances: places.clone().map(instances).collect(),
@@ -331,31 +339,31 @@ fn of_party_day(worked: &PenaltyWorking) -> PenaltyWorking {
 
 #[test]
 fn figures_of_the_rows_and_of_the_smaller_calls() {
-    let sizes = [
-        (Size::Small, 12_000),
-        (Size::Medium, 1_000),
-        (Size::Full, 6),
-    ];
-    figures_of(Version::One, sizes);
+    // Every case but the six full ones has a copy.
+    let compared = figures_of(Version::One);
+    assert_eq!(compared.copied, compared.events - 6 * 200);
 }
 
 #[test]
 fn figures_of_version_2() {
-    // Half as many: the calls that are compared have no version.
-    let sizes = [(Size::Small, 6_000), (Size::Medium, 500), (Size::Full, 6)];
-    figures_of(Version::Two, sizes);
+    assert_eq!(figures_of(Version::Two).copied, 0);
 }
 
-/// The figures of so many generated cases.
-fn figures_of(version: Version, sizes: [(Size, usize); 3]) {
+/// The figures of generated cases.
+fn figures_of(version: Version) -> Compared {
     let mut random = Random::new(911);
     let mut compared = Compared::default();
-    for (size, count) in sizes {
+    for (size, count) in [
+        (Size::Small, 12_000),
+        (Size::Medium, 1_000),
+        (Size::Full, 6),
+    ] {
         for place in 0..count {
             let generated = case(&mut random, Wanted::of(size).in_version(version));
-            compared.add(&generated, format!("{version:?}, {size:?} {place}"));
+            compared.add(&generated, &format!("{version:?}, {size:?} {place}"));
         }
     }
     println!("{version:?}: {compared:?}");
     compared.done();
+    compared
 }

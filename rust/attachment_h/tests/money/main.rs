@@ -1,7 +1,7 @@
 //! The working of an event's money: what its penalty and its make-up payment are made of, and what N3 and N2
 //! counted. Every answer is held to the second implementation's, field by field and byte by byte; what it says is
 //! held to the rows and to the smaller calls, and to a case of each kind by hand. All of it is done in both versions, and
-//! the version 2 copy of a case has the same workings.
+//! every event of a version 2 copy is worked by both implementations too, to the same workings.
 
 mod beside;
 mod by_hand;
@@ -13,125 +13,139 @@ use attachment_h::{
     Cents, Counted, INSTANCES_LENGTH, Instances, Kind, MakeUpWorking, Mask, Multiplier,
     PenaltyWorking, Refused, instances, instances_into, make_up_working, penalty_working,
 };
-use cases::{Input, Random};
+use cases::{Case, Generated, Input, Random, Version};
+use second::SettledCase;
 
-/// What the library says of an event's money, and the length of the buffer that was given to its bits.
-#[derive(Debug)]
+/// What is said of an event's money, the buffer of its bits after that, and in how many versions it was worked.
+#[derive(Debug, PartialEq)]
 struct Worked {
     penalty: PenaltyWorking,
     instances: Instances,
     make_up: MakeUpWorking,
-    length: usize,
+    out: Vec<u8>,
+    versions: usize,
 }
 
-/// An input, and its version 2 copy where it has one.
-struct Inputs {
+/// An input in one version, and the case as the second implementation settles it, once for all events.
+struct InOneVersion {
     input: Input,
-    copy: Option<Input>,
+    second: Result<SettledCase, u8>,
+}
+
+/// An input and, where it has one, the same case in the other version, which has the same workings.
+struct Inputs {
+    input: InOneVersion,
+    other: Option<InOneVersion>,
 }
 
 impl Inputs {
+    /// An input, of version 1 with its version 2 copy.
     fn of(input: Input) -> Inputs {
         let copy = input.version_2_copy();
-        Inputs { input, copy }
+        Inputs {
+            input: InOneVersion::of(input),
+            other: copy.map(InOneVersion::of),
+        }
+    }
+
+    /// A generated case, of version 2 with the one of version 1 whose units are numbered through.
+    fn of_case(generated: &Generated) -> Inputs {
+        if generated.case.version == Version::One {
+            return Inputs::of(generated.input());
+        }
+        let through = generated.numbered_through().input();
+        Inputs {
+            input: InOneVersion::of(generated.input()),
+            other: Some(InOneVersion::of(through)),
+        }
     }
 }
 
-/// The working of an event, in which both implementations agree, and which the copy has too. Every fourth event of a copy,
-/// its first among them, is worked by the second implementation again: that takes the longest, and reads the whole case
-/// each time.
+/// The working of an event, in which both implementations agree, of the input and of the same in the other version.
 fn both(random: &mut Random, inputs: &Inputs, event: usize, what: &str) -> Result<Worked, Refused> {
-    let worked = one(random, &inputs.input, event, what);
-    let Some(copy) = &inputs.copy else {
+    let before = noise(random);
+    let what = format!("{what}, event {event}, {} bytes", before.len());
+    let worked = inputs.input.work(&before, event, &what);
+    let Some(other) = &inputs.other else {
         return worked;
     };
-    let what = format!("{what}, event {event}, copied");
-    if event.is_multiple_of(4) {
-        let copied = one(random, copy, event, &what);
-        assert_eq!(copied.err(), worked.as_ref().err().copied(), "{what}");
-    }
-    let (file, correction) = (&copy.file, &copy.correction);
-    let answers = (
-        penalty_working(file, correction, event),
-        instances(file, correction, event),
-        make_up_working(file, correction, event),
-    );
-    match &worked {
-        Ok(worked) => {
-            assert_eq!(answers.0.as_ref(), Ok(&worked.penalty), "{what}");
-            assert_eq!(answers.1.as_ref(), Ok(&worked.instances), "{what}");
-            assert_eq!(answers.2.as_ref(), Ok(&worked.make_up), "{what}");
-        }
-        Err(refused) => {
-            assert_eq!(answers.0.err(), Some(*refused), "{what}");
-            assert_eq!(answers.1.err(), Some(*refused), "{what}");
-            assert_eq!(answers.2.err(), Some(*refused), "{what}");
-        }
-    }
-    worked
-}
-
-/// The working of an event of one input.
-fn one(random: &mut Random, input: &Input, event: usize, what: &str) -> Result<Worked, Refused> {
-    let (file, correction) = (&input.file, &input.correction);
-    let penalty = penalty_working(file, correction, event);
-    let expected = second::penalty_working(file, correction, event);
-    assert_eq!(
-        penalty,
-        expected.map(of_penalty).map_err(Refused),
-        "{what}, event {event}"
-    );
-    let make_up = make_up_working(file, correction, event);
-    let expected = second::make_up_working(file, correction, event);
-    assert_eq!(
-        make_up,
-        expected.map(of_make_up).map_err(Refused),
-        "{what}, event {event}"
-    );
-    let instances = instances(file, correction, event);
-    let expected = second::instances(file, correction, event);
-    assert_eq!(
-        instances,
-        expected.map(of_instances).map_err(Refused),
-        "{what}, event {event}"
-    );
-    assert_eq!(penalty.err(), make_up.err(), "{what}, event {event}");
-    assert_eq!(
-        penalty.err(),
-        instances.clone().err(),
-        "{what}, event {event}"
-    );
-    let length = bits(random, input, event, what);
-    Ok(Worked {
-        penalty: penalty?,
-        instances: instances?,
-        make_up: make_up?,
-        length,
+    let what = format!("{what}, in the other version");
+    assert_eq!(other.work(&before, event, &what), worked, "{what}");
+    worked.map(|worked| Worked {
+        versions: 2,
+        ..worked
     })
 }
 
-/// The bits of an event in a buffer that has something in it, every byte beside the second implementation's; the
-/// length of the buffer.
-fn bits(random: &mut Random, input: &Input, event: usize, what: &str) -> usize {
+/// A buffer with something in it, often of just the length that the bits need.
+fn noise(random: &mut Random) -> Vec<u8> {
     let more = random.below(200);
     let length = random.pick(&[0, 57, 113, 113, 114, 114, 114, 115, 114 + more]);
-    let what = format!("{what}, event {event}, {length} bytes");
-    let (file, correction) = (&input.file, &input.correction);
-    let before: Vec<u8> = (0..length).map(|_| random.bits() as u8).collect();
-    let (mut out, mut expected_out) = (before.clone(), before.clone());
-    let answer = instances_into(file, correction, event, &mut out);
-    let expected = second::instances_into(file, correction, event, &mut expected_out);
-    assert_eq!(answer, expected.map_err(Refused), "{what}");
-    assert_eq!(out, expected_out, "{what}");
-    match answer {
-        Ok(()) => assert_eq!(
-            out[INSTANCES_LENGTH..],
-            before[INSTANCES_LENGTH..],
-            "{what}"
-        ),
-        Err(_) => assert_eq!(out, before, "{what}"),
+    (0..length).map(|_| random.bits() as u8).collect()
+}
+
+impl InOneVersion {
+    fn of(input: Input) -> InOneVersion {
+        let second = SettledCase::of(&input.file, &input.correction);
+        InOneVersion { input, second }
     }
-    length
+
+    /// An answer of the second implementation.
+    fn expected<T>(
+        &self,
+        answer: impl FnOnce(&SettledCase) -> Result<T, u8>,
+    ) -> Result<T, Refused> {
+        let settled = self.second.as_ref().map_err(|&number| number);
+        settled.and_then(answer).map_err(Refused)
+    }
+
+    /// The working of an event by the library, which is the second implementation's.
+    fn work(&self, before: &[u8], event: usize, what: &str) -> Result<Worked, Refused> {
+        let (file, correction) = (&self.input.file, &self.input.correction);
+        let penalty = penalty_working(file, correction, event);
+        let instances = instances(file, correction, event);
+        let make_up = make_up_working(file, correction, event);
+        let expected = self.expected(|case| case.penalty_working(event));
+        assert_eq!(penalty, expected.map(of_penalty), "{what}");
+        let expected = self.expected(|case| case.instances(event));
+        assert_eq!(instances, expected.map(of_instances), "{what}");
+        let expected = self.expected(|case| case.make_up_working(event));
+        assert_eq!(make_up, expected.map(of_make_up), "{what}");
+        let out = self.bits(before, event, what);
+        Ok(Worked {
+            penalty: penalty?,
+            instances: instances?,
+            make_up: make_up?,
+            out,
+            versions: 1,
+        })
+    }
+
+    /// The bits of an event in a buffer that held this, every byte beside the second implementation's.
+    fn bits(&self, before: &[u8], event: usize, what: &str) -> Vec<u8> {
+        let (mut out, mut expected_out) = (before.to_vec(), before.to_vec());
+        let answer = instances_into(&self.input.file, &self.input.correction, event, &mut out);
+        let expected = self.expected(|case| case.instances_into(event, &mut expected_out));
+        assert_eq!(answer, expected, "{what}");
+        assert_eq!(out, expected_out, "{what}");
+        let written = answer.map_or(0, |()| INSTANCES_LENGTH);
+        assert_eq!(out[written..], before[written..], "{what}");
+        out
+    }
+}
+
+/// The bits of an event of a case without a correction, the same in its version 2 copy.
+fn bits_of(case: &Case, event: usize) -> [u8; INSTANCES_LENGTH] {
+    let input = Input::new(case, &[]);
+    let copy = input.version_2_copy().expect("a copy");
+    let [bits, of_the_copy] = [input, copy].map(|input| {
+        let mut out = [0xA5; INSTANCES_LENGTH];
+        let answer = instances_into(&input.file, &input.correction, event, &mut out);
+        assert_eq!(answer, Ok(()));
+        out
+    });
+    assert_eq!(of_the_copy, bits);
+    bits
 }
 
 /// The second implementation's working in the form of the proved one.

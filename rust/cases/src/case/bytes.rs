@@ -204,4 +204,10 @@ impl Input {
             rows_len: self.rows_len,
         })
     }
+
+    /// The input and, where it has one, its version 2 copy.
+    pub fn with_copy(self) -> Vec<Input> {
+        let copy = self.version_2_copy();
+        std::iter::once(self).chain(copy).collect()
+    }
 }

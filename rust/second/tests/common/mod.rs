@@ -8,7 +8,7 @@ use cases::case::{ROW_BYTES, correction_bytes};
 use cases::{Case, Component, Kind, Market, Past, Reference, Row, Unit, Version};
 use second::calls::BidHour;
 use second::{Outcome, instances, listing, make_up_working, penalty_working, refusal, settle};
-use version_2::{copy_of, correction_copy_of};
+use version_2::{copy_of, correction_copy_of, has_copy};
 
 /// Day-Ahead, not tight.
 pub const PLAIN: BidHour = BidHour {
@@ -72,13 +72,24 @@ pub fn correction_of(references: &[Reference]) -> Vec<u8> {
     correction_bytes(Version::One, references)
 }
 
-/// The number that the case breaks, with enough rows; its version 2 copy breaks the same.
+/// The number that the case breaks, none of 1 to 4, with enough rows; its version 2 copy, which it has, breaks the same.
+#[track_caller]
 pub fn number(case: &Case, correction: &[Reference]) -> u8 {
     let (file, correction) = (case.to_bytes(), correction_of(correction));
-    let rows_len = ROW_BYTES * case.events.len();
-    let number = refusal(&file, &correction, rows_len);
-    let (copy, correction_copy) = (copy_of(&file), correction_copy_of(&correction));
-    assert_eq!(refusal(&copy, &correction_copy, rows_len), number);
+    assert!(has_copy(&file, &correction), "no copy");
+    let number = number_of(&file, &correction, ROW_BYTES * case.events.len());
+    assert!(!(1..=4).contains(&number), "{number}: not of the copy");
+    number
+}
+
+/// The number that a file breaks; the version 2 copy of one of version 1, where it has one, breaks the same.
+pub fn number_of(file: &[u8], correction: &[u8], rows_len: usize) -> u8 {
+    let number = refusal(file, correction, rows_len);
+    // 1 to 4 are of a file without sections.
+    if !(1..=4).contains(&number) && has_copy(file, correction) {
+        let (copy, correction_copy) = (copy_of(file), correction_copy_of(correction));
+        assert_eq!(refusal(&copy, &correction_copy, rows_len), number);
+    }
     number
 }
 

@@ -49,6 +49,16 @@ fn widened(section: usize, records: &[u8], number: impl Fn(u16) -> u32) -> Vec<u
     wide
 }
 
+/// Whether a file whose pairs follow on is of version 1, and its sections and its correction of whole records.
+pub fn has_copy(file: &[u8], correction: &[u8]) -> bool {
+    let whole = |section: usize, records: &[u8]| records.len().is_multiple_of(RECORDS[section].0);
+    let sections = sections_of(file);
+    let mut each = sections.iter().enumerate();
+    file.starts_with(&[1, 0])
+        && each.all(|(section, records)| whole(section, records))
+        && whole(REFERENCES, correction)
+}
+
 /// The version 2 copy of a version 1 file.
 pub fn copy_of(file: &[u8]) -> Vec<u8> {
     Version2::of(file, u32::from).to_bytes()
