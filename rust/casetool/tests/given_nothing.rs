@@ -3,7 +3,7 @@
 
 mod support;
 
-use support::{casetool, file_with, repository, written};
+use support::{casetool_in_both, casetool_where, file_with, repository, written};
 
 const UNIT: &str = "unit 12 group 7 area no capability 500.0 MW\n";
 
@@ -22,7 +22,7 @@ fn a_named_correction_that_is_empty() {
     ] {
         for (correction, name) in [(empty.as_str(), empty.as_str()), ("-", "standard input")] {
             let arguments = [&[command, &case, "--correction", correction], more].concat();
-            let ran = casetool(&arguments, b"");
+            let ran = casetool_in_both(&arguments, b"");
             assert_eq!((ran.status, ran.output.len()), (2, 0), "{command}");
             assert_eq!(
                 ran.errors,
@@ -33,7 +33,7 @@ fn a_named_correction_that_is_empty() {
         }
         // Without the option there is none, and that is right.
         let arguments = [&[command, case.as_str()], more].concat();
-        assert_eq!(casetool(&arguments, b"").status, 0);
+        assert_eq!(casetool_in_both(&arguments, b"").status, 0);
     }
 }
 
@@ -46,7 +46,7 @@ fn correction(count: usize) -> Vec<u8> {
         "reference unit 13 component maximum-parameter value 1\n",
     ];
     let text = lines[..count].concat();
-    let ran = casetool(&["write", "--correction"], text.as_bytes());
+    let ran = casetool_in_both(&["write", "--correction"], text.as_bytes());
     assert_eq!((ran.status, ran.output.len()), (0, 8 * count));
     ran.output
 }
@@ -56,7 +56,7 @@ fn the_settlement_says_which_correction_it_used() {
     let text = std::fs::read_to_string(repository("examples/two-plants.txt")).expect("the example");
     let case = file_with("given-nothing.settled", &written(&text));
     let first_line = |arguments: &[&str], input: &[u8]| {
-        let ran = casetool(&[&["settle", &case], arguments].concat(), input);
+        let ran = casetool_in_both(&[&["settle", &case], arguments].concat(), input);
         assert_eq!(ran.status, 0, "{}", ran.errors);
         ran.text().lines().next().expect("a line").to_string()
     };
@@ -71,7 +71,7 @@ fn the_settlement_says_which_correction_it_used() {
          event day 1 kind bids market day-ahead unit 12 period 0 component energy impact-hours none\n"
     ));
     let path = file_with("given-nothing.one", &correction(1));
-    let ran = casetool(&["settle", "--correction", &path], &one);
+    let ran = casetool_in_both(&["settle", "--correction", &path], &one);
     let start = format!("Correction: {path}, 1 reference\n\nUnit 12, group 7\n");
     assert!(ran.text().starts_with(&start), "{}", ran.text());
 }
@@ -87,11 +87,12 @@ fn a_text_with_no_event() {
         UNIT.to_string(),
         format!("{UNIT}{past}reference unit 12 component energy value $1.00\n"),
     ] {
-        let ran = casetool(&["write"], text.as_bytes());
+        let ran = casetool_in_both(&["write"], text.as_bytes());
         assert_eq!((ran.status, ran.output.len()), (1, 0), "{text}");
         assert_eq!(ran.errors, message);
+        let has_copy = !text.is_empty();
         for command in ["settle", "check"] {
-            let ran = casetool(&[command], text.as_bytes());
+            let ran = casetool_where(has_copy, &[command], text.as_bytes());
             assert_eq!(ran.status, 1, "{command}: {text}");
             let said = [ran.text(), ran.errors.as_str()].concat();
             // No bytes are no text, and as a case file too short.
@@ -103,18 +104,22 @@ fn a_text_with_no_event() {
             };
             assert!(said.contains(expected), "{said}");
         }
-        if !text.is_empty() {
-            let ran = casetool(&["check", "--allow-empty"], text.as_bytes());
+        if has_copy {
+            let ran = casetool_in_both(&["check", "--allow-empty"], text.as_bytes());
             assert_eq!((ran.status, ran.text()), (0, "accepted, 0 events\n"));
         }
-        let ran = casetool(&["write", "--allow-empty"], text.as_bytes());
+        let ran = casetool_in_both(&["write", "--allow-empty"], text.as_bytes());
         assert_eq!((ran.status, ran.errors.as_str()), (0, ""));
-        let checked = casetool(&["check"], &ran.output);
-        assert_eq!(
-            (checked.status, checked.text()),
-            (0, "accepted, 0 events\n")
-        );
+        is_accepted_without_events(&ran.output);
     }
+}
+
+fn is_accepted_without_events(case: &[u8]) {
+    let checked = casetool_in_both(&["check"], case);
+    assert_eq!(
+        (checked.status, checked.text()),
+        (0, "accepted, 0 events\n")
+    );
 }
 
 #[test]
@@ -125,7 +130,7 @@ fn a_text_with_no_event_where_nothing_can_be_asked_of_it() {
         &["working", "--event", "0"],
         &["line"],
     ] {
-        let ran = casetool(arguments, UNIT.as_bytes());
+        let ran = casetool_in_both(arguments, UNIT.as_bytes());
         assert_eq!((ran.status, ran.output.len()), (1, 0));
         assert_eq!(ran.errors, message);
     }
@@ -134,13 +139,13 @@ fn a_text_with_no_event_where_nothing_can_be_asked_of_it() {
 #[test]
 fn what_else_is_wrong_in_a_text_with_no_event() {
     // What is wrong in a line is said first.
-    let ran = casetool(&["write"], b"unit 12");
+    let ran = casetool_in_both(&["write"], b"unit 12");
     let message =
         "casetool: standard input: line 1, column 8: expected the keys group, capability\n";
     assert_eq!((ran.status, ran.errors.as_str()), (1, message));
     // A file has its name in the message.
     let path = file_with("given-nothing.text", UNIT.as_bytes());
-    let ran = casetool(&["write", &path], b"");
+    let ran = casetool_in_both(&["write", &path], b"");
     let start = format!("casetool: {path}: this text has no event;");
     assert!(ran.errors.starts_with(&start));
 }
@@ -148,19 +153,19 @@ fn what_else_is_wrong_in_a_text_with_no_event() {
 #[test]
 fn a_correction_with_no_reference() {
     for text in ["", "# none this month\n"] {
-        let ran = casetool(&["write", "--correction"], text.as_bytes());
+        let ran = casetool_in_both(&["write", "--correction"], text.as_bytes());
         let message = "casetool: standard input: this text has no reference; with --allow-empty it is written all the same\n";
         assert_eq!((ran.status, ran.errors.as_str()), (1, message));
-        let ran = casetool(&["write", "--correction", "--allow-empty"], text.as_bytes());
+        let ran = casetool_in_both(&["write", "--correction", "--allow-empty"], text.as_bytes());
         assert_eq!((ran.status, ran.output.len()), (0, 0));
     }
     // Six references whose bytes could be those of a case with a past entry and no event.
     let bytes = written("past group 7 kind fuel market day-ahead period 0 day 1");
     assert_eq!(bytes.len(), 48);
-    let shown = casetool(&["show", "--correction", "--version", "1"], &bytes);
+    let shown = casetool_in_both(&["show", "--correction", "--version", "1"], &bytes);
     let start = "order as-written\nversion 1\n# correction: 6 references\n";
     assert!(shown.text().starts_with(start));
-    let ran = casetool(&["write", "--correction"], &shown.output);
+    let ran = casetool_in_both(&["write", "--correction"], &shown.output);
     assert_eq!((ran.status, ran.output), (0, bytes));
 }
 
@@ -168,12 +173,8 @@ fn a_correction_with_no_reference() {
 fn a_case_file_of_36_bytes_is_accepted() {
     let case = written("");
     assert_eq!(case.len(), 36);
-    let checked = casetool(&["check"], &case);
-    assert_eq!(
-        (checked.status, checked.text()),
-        (0, "accepted, 0 events\n")
-    );
-    let settled = casetool(&["settle"], &case);
+    is_accepted_without_events(&case);
+    let settled = casetool_in_both(&["settle"], &case);
     let expected = "Correction: none\n\nTotals of 0 events\n    penalties        $0.00\n    make-ups         $0.00\n";
     assert_eq!((settled.status, settled.text()), (0, expected));
 }

@@ -2,8 +2,9 @@
 
 mod support;
 
+use attachment_h::layout::{Section, Version, put_u16};
 use support::refused::{UNITS, refused, text_of};
-use support::{casetool, file_with, written};
+use support::{casetool, casetool_in_both, casetool_where, file_with, written};
 
 fn refused_bytes(file: &[u8], answer: &str) {
     assert_eq!(text_of(&casetool(&["check", "-"], file)), answer);
@@ -23,19 +24,37 @@ fn accepted() {
             "accepted, 2 events\n",
         ),
     ] {
-        let ran = casetool(&["check"], &written(&format!("{UNITS}{text}")));
+        let ran = casetool_in_both(&["check"], &written(&format!("{UNITS}{text}")));
         assert_eq!((ran.status, ran.text()), (0, answer));
     }
 }
 
+/// The line of each version, the width of a unit, what is said of an event's, and the bytes of 65 units.
+const IN_BOTH: [(&str, usize, &str, &str); 2] = [
+    ("version 1", 24, "a multiple of 312", "1,560"),
+    ("version 2", 28, "a multiple of 316 in version 2", "1,820"),
+];
+
+/// A file with another byte.
+fn changed(file: &[u8], at: usize, value: u8) -> Vec<u8> {
+    let mut file = file.to_vec();
+    file[at] = value;
+    file
+}
+
 #[test]
-fn numbers_1_to_5() {
-    let good = written(UNITS);
-    let changed = |at: usize, value: u8| {
-        let mut file = good.clone();
-        file[at] = value;
-        file
-    };
+fn numbers_1_to_3() {
+    for (version, ..) in IN_BOTH {
+        number_1_to_3(&written(&format!("{version}\n{UNITS}")));
+    }
+    refused_bytes(
+        &vec![0; 70_000],
+        "refused 1: the file's length is outside 36 to 65,000 bytes\n\
+         the file: its length is 70,000 bytes; expected 36 to 65,000\n",
+    );
+}
+
+fn number_1_to_3(good: &[u8]) {
     refused_bytes(
         &good[..35],
         "refused 1: the file's length is outside 36 to 65,000 bytes\n\
@@ -50,51 +69,71 @@ fn numbers_1_to_5() {
          this file looks like text: casetool write makes a case file of it\n"
     );
     refused_bytes(
-        &vec![0; 70_000],
-        "refused 1: the file's length is outside 36 to 65,000 bytes\n\
-         the file: its length is 70,000 bytes; expected 36 to 65,000\n",
-    );
-    refused_bytes(
-        &changed(0, 9),
+        &changed(good, 0, 9),
         "refused 2: the version is neither 1 nor 2\nthe header: version is 9; expected 1 or 2\n",
     );
     refused_bytes(
-        &changed(2, 3),
+        &changed(good, 2, 3),
         "refused 3: the section count is not 4\nthe header: section count is 3; expected 4\n",
     );
+}
+
+#[test]
+fn numbers_4_and_5() {
+    for (version, unit, event, of_65) in IN_BOTH {
+        number_4(&written(&format!("{version}\n{UNITS}")), unit);
+        number_5(version, unit, event, of_65);
+    }
+}
+
+fn number_4(good: &[u8], unit: usize) {
+    let (one, two) = (36 + unit, 36 + 2 * unit);
     refused_bytes(
-        &changed(4, 40),
+        &changed(good, 4, 40),
         "refused 4: the pairs of offset and length don't follow on from byte 36 to the file's end\n\
          the header: the offset of units is 40; the header ends at 36\n",
     );
     refused_bytes(
-        &changed(8, 24),
-        "refused 4: the pairs of offset and length don't follow on from byte 36 to the file's end\n\
-         the header: the offset of references is 84; the section before it, units, ends at 60\n",
+        &changed(good, 8, unit as u8),
+        &format!(
+            "refused 4: the pairs of offset and length don't follow on from byte 36 to the file's end\n\
+             the header: the offset of references is {two}; the section before it, units, ends at {one}\n"
+        ),
     );
+    let cut = two - 1;
     refused_bytes(
-        &good[..83],
-        "refused 4: the pairs of offset and length don't follow on from byte 36 to the file's end\n\
-         the header: the last section, events, ends at 84; the file at 83\n",
+        &good[..cut],
+        &format!(
+            "refused 4: the pairs of offset and length don't follow on from byte 36 to the file's end\n\
+             the header: the last section, events, ends at {two}; the file at {cut}\n"
+        ),
     );
-    let mut odd = good.clone();
+}
+
+fn number_5(version: &str, unit: usize, event: &str, of_65: &str) {
+    let mut odd = written(&format!("{version}\n{UNITS}"));
     odd.push(0);
     odd[32] = 1;
     refused_bytes(
         &odd,
-        "refused 5: a section's length is no multiple of its record, or it has too many records\n\
-         the header: the length of events is 1; expected a multiple of 312\n",
+        &format!(
+            "refused 5: a section's length is no multiple of its record, or it has too many records\n\
+             the header: the length of events is 1; expected {event}\n"
+        ),
     );
-    let mut many = written("");
-    many.extend(vec![0; 24 * 65]);
-    many[8..10].copy_from_slice(&(24_u16 * 65).to_le_bytes());
+    let bytes = unit * 65;
+    let mut many = written(version);
+    many.extend(vec![0; bytes]);
+    put_u16(&mut many, 8, bytes as u16);
     for pair in [12, 20, 28] {
-        many[pair..pair + 2].copy_from_slice(&(36 + 24_u16 * 65).to_le_bytes());
+        put_u16(&mut many, pair, 36 + bytes as u16);
     }
     refused_bytes(
         &many,
-        "refused 5: a section's length is no multiple of its record, or it has too many records\n\
-         the header: the length of units is 1,560, 65 records; expected at most 64\n",
+        &format!(
+            "refused 5: a section's length is no multiple of its record, or it has too many records\n\
+             the header: the length of units is {of_65}, 65 records; expected at most 64\n"
+        ),
     );
 }
 
@@ -172,18 +211,32 @@ fn number_7_and_8() {
     ] {
         refused(7, text, &format!("references, {place}"));
         let text = format!("order as-written\n{text}");
-        let correction = casetool(&["write", "--correction"], text.as_bytes()).output;
-        refused_correction(&correction, &format!("correction, {place}"));
+        let correction = casetool_in_both(&["write", "--correction"], text.as_bytes()).output;
+        refused_correction("version 1", &correction, &format!("correction, {place}"));
     }
-    let seven = "the correction: its length is 7 bytes; expected a multiple of 8";
-    refused_correction(&[0; 7], seven);
-    let many = "the correction: its length is 2,056 bytes, 257 records; expected at most 256";
-    refused_correction(&[0; 2_056], many);
 }
 
-fn refused_correction(correction: &[u8], place: &str) {
-    let path = file_with("limits-correction", correction);
-    let ran = casetool(&["check", "--correction", &path], &written(UNITS));
+#[test]
+fn number_8_by_its_length() {
+    for (version, width) in [("version 1", "8"), ("version 2", "12 in version 2")] {
+        let seven =
+            format!("the correction: its length is 7 bytes; expected a multiple of {width}");
+        refused_correction(version, &[0; 7], &seven);
+    }
+    let many = "the correction: its length is 2,056 bytes, 257 records; expected at most 256";
+    refused_correction("version 1", &[0; 2_056], many);
+}
+
+fn refused_correction(version: &str, correction: &[u8], place: &str) {
+    let path = file_with(
+        &format!("limits-correction-{}", correction.len()),
+        correction,
+    );
+    let file = written(&format!("{version}\n{UNITS}"));
+    // Without whole records it has no copy.
+    let width = Section::References.width(Version::One);
+    let has_copy = correction.len().is_multiple_of(width);
+    let ran = casetool_where(has_copy, &["check", "--correction", &path], &file);
     let (first, rest) = text_of(&ran).split_once('\n').expect("two lines");
     assert!(first.starts_with("refused 8: the correction is"), "{first}");
     assert_eq!(rest, format!("{place}\n"));

@@ -2,8 +2,9 @@
 
 mod support;
 
+use casetool::place::refusal::Refusal;
 use support::refused::{UNITS, refused, text_of};
-use support::{casetool, file_with, written};
+use support::{casetool_in_both, file_with, written};
 
 #[test]
 fn number_10_before_the_hours() {
@@ -174,9 +175,9 @@ fn number_14_by_the_correction() {
          event day 8000 kind bids market day-ahead unit 12 period 44 component start-up-time impact-hours none"
     ));
     let text = "reference unit 13 component energy value $1.00";
-    let correction = casetool(&["write", "--correction"], text.as_bytes()).output;
+    let correction = casetool_in_both(&["write", "--correction"], text.as_bytes()).output;
     let path = file_with("limits-14", &correction);
-    let ran = casetool(&["check", "--correction", &path], &case);
+    let ran = casetool_in_both(&["check", "--correction", &path], &case);
     assert_eq!(
         text_of(&ran),
         "refused 14: an event of kind 4 has no reference r, or no correct reference c where its component reads one\n\
@@ -186,13 +187,15 @@ fn number_14_by_the_correction() {
 
 #[test]
 fn number_15() {
-    let file = written(&format!(
-        "{UNITS}event day 1 kind withheld market day-ahead unit 12 period 0 impact 0"
-    ));
-    let refused = attachment_h::check(&file, &[], 127).expect_err("127 bytes are no row");
-    assert_eq!(
-        casetool::place::refusal::Refusal::of(refused, &file, &[], 127).to_string(),
-        "refused 15: the rows buffer has fewer than 128 bytes for each event\n\
-         the rows buffer: its length is 127 bytes; expected at least 128 for 1 event\n"
-    );
+    for version in ["version 1", "version 2"] {
+        let file = written(&format!(
+            "{version}\n{UNITS}event day 1 kind withheld market day-ahead unit 12 period 0 impact 0"
+        ));
+        let refused = attachment_h::check(&file, &[], 127).expect_err("127 bytes are no row");
+        assert_eq!(
+            Refusal::of(refused, &file, &[], 127).to_string(),
+            "refused 15: the rows buffer has fewer than 128 bytes for each event\n\
+             the rows buffer: its length is 127 bytes; expected at least 128 for 1 event\n"
+        );
+    }
 }

@@ -3,8 +3,7 @@
 
 mod support;
 
-use casetool::text::write::case_file;
-use support::{casetool, written};
+use support::{casetool_in_both, written};
 
 /// A text that has its needed keys alone, each with the line that it stands on.
 struct Whole {
@@ -135,7 +134,7 @@ fn every_needed_key() {
     let wholes = wholes();
     let mut left_out = 0;
     for Whole { text, needed } in &wholes {
-        let ran = casetool(&["write"], text.as_bytes());
+        let ran = casetool_in_both(&["write"], text.as_bytes());
         assert_eq!((ran.status, ran.errors.as_str()), (0, ""), "{text}");
         for &(line, key) in needed {
             let (text, length) = without(text, line, key);
@@ -146,7 +145,7 @@ fn every_needed_key() {
                 }
                 _ => "",
             };
-            let ran = casetool(&["write"], text.as_bytes());
+            let ran = casetool_in_both(&["write"], text.as_bytes());
             let message = format!(
                 "casetool: standard input: line {line}, column {}: expected the key {key}{why}\n",
                 length + 1
@@ -181,7 +180,7 @@ fn a_maximum_parameter_in_every_hour() {
             "hour 23",
         ),
     ] {
-        let ran = casetool(&["write"], text(hours).as_bytes());
+        let ran = casetool_in_both(&["write"], text(hours).as_bytes());
         let message = format!(
             "casetool: standard input: line 3, column 1, 'event': expected a bid in every hour, since one left out would be a bid of 0: there is none for {missing}\n"
         );
@@ -190,14 +189,14 @@ fn a_maximum_parameter_in_every_hour() {
     let case = written(&text(&format!(
         "hours 0-6 bid 90\nhours 7-23 bid 0\n{late}"
     )));
-    let shown = casetool(&["show"], &case);
+    let shown = casetool_in_both(&["show"], &case);
     assert!(
         shown
             .text()
             .ends_with("  hours 0-6 bid 90\n  hours 7-23 bid 0\n")
     );
     // An hour that is 0 and not left out is flagged, as it is written.
-    let settled = casetool(&["settle"], &case);
+    let settled = casetool_in_both(&["settle"], &case);
     assert!(settled.text().contains("flagged hours    7–23\n"));
 }
 
@@ -205,7 +204,7 @@ fn a_maximum_parameter_in_every_hour() {
 fn a_unit_after_its_events_and_a_unit_that_is_not_listed() {
     let event = "event day 8000 kind dispatch market real-time unit 12 period 44 impact 1";
     let unit = "unit 12 group 7 area 1 capability 5 MW";
-    let ran = casetool(
+    let ran = casetool_in_both(
         &["write"],
         format!("{event}\n\n{unit}  # late\n").as_bytes(),
     );
@@ -219,7 +218,7 @@ fn a_unit_after_its_events_and_a_unit_that_is_not_listed() {
         "{event} shadow-price-hours none\n{} shadow-price-hours none\n{unit}  # late\n",
         event.replace("8000", "8001")
     );
-    let ran = casetool(&["write"], text.as_bytes());
+    let ran = casetool_in_both(&["write"], text.as_bytes());
     assert_eq!(
         ran.errors,
         "casetool: standard input: line 3, column 39: expected the key response-rate, which the event of line 1 reads\n"
@@ -227,14 +226,14 @@ fn a_unit_after_its_events_and_a_unit_that_is_not_listed() {
     // Another unit's area and rate are not asked for.
     let other = unit.replace("12", "13");
     let case = written(&format!("{event}\n{other}\n"));
-    let shown = casetool(&["show"], &case);
+    let shown = casetool_in_both(&["show"], &case);
     assert!(
         shown
             .text()
             .contains(&format!("\n{}\n", other.replace('5', "5.0")))
     );
     assert!(
-        casetool(&["check"], &case)
+        casetool_in_both(&["check"], &case)
             .text()
             .starts_with("refused 12: ")
     );
@@ -275,13 +274,13 @@ fn the_area_of_every_unit_whose_events_read_it() {
         )
     };
     for command in ["write", "check", "settle"] {
-        let ran = casetool(&[command], text.concat().as_bytes());
+        let ran = casetool_in_both(&[command], text.concat().as_bytes());
         assert_eq!((ran.status, ran.output.len()), (1, 0));
         assert_eq!(ran.errors, said.map(message).concat());
     }
     // Left out of the lines of the others it is 0, and not shown.
     let case = written(&[&text[3..5], &text[10..]].concat().concat());
-    let shown = casetool(&["show"], &case);
+    let shown = casetool_in_both(&["show"], &case);
     let units = "\nunit 15 group 7 capability 5.0 MW\nunit 16 group 7 capability 5.0 MW\n";
     assert!(shown.text().contains(units), "{}", shown.text());
 }
@@ -318,8 +317,8 @@ event day 8000 kind bids market real-time unit 13 period 44 component minimum-ge
 
 #[test]
 fn what_is_needed_is_shown_where_it_is_0() {
-    let file = case_file(ZEROS.as_bytes()).expect("a case").bytes;
-    let shown = casetool(&["show"], &file);
+    let file = written(ZEROS);
+    let shown = casetool_in_both(&["show"], &file);
     assert_eq!((shown.status, shown.text()), (0, ZEROS));
     // Two units of one number, which are refused, each ask for what they need.
     let twice = format!("order as-written\n{ZEROS}")
@@ -344,6 +343,6 @@ fn what_is_needed_is_shown_where_it_is_0() {
             "impact-hours none  # event 7",
             "shadow-price-hours none impact-hours none  # event 7",
         );
-    let file = case_file(twice.as_bytes()).expect("a case").bytes;
-    assert_eq!(casetool(&["show"], &file).text(), twice);
+    let file = written(&twice);
+    assert_eq!(casetool_in_both(&["show"], &file).text(), twice);
 }

@@ -3,7 +3,7 @@
 mod support;
 
 use casetool::text::calendar::{date, day_of, period};
-use support::{casetool, file_with, written};
+use support::{casetool, casetool_in_both, file_with, written};
 
 #[test]
 fn the_period_of_a_day() {
@@ -44,6 +44,10 @@ fn every_period_follows_on_its_first_day() {
 
 const UNIT: &str = "unit 12 group 7 area no capability 500.0 MW\n";
 
+fn past(day: &str, period: u16) -> String {
+    format!("past group 7 kind fuel market day-ahead period {period} day {day}\n")
+}
+
 fn event(day: &str, period: u16) -> String {
     format!("event day {day} kind withheld market day-ahead unit 12 period {period} impact 0\n")
 }
@@ -51,10 +55,10 @@ fn event(day: &str, period: u16) -> String {
 #[test]
 fn a_period_that_is_not_its_days_is_warned_of_and_written() {
     let right = [UNIT.to_string(), event("8000", 44)].concat();
-    let good = casetool(&["write"], right.as_bytes());
+    let good = casetool_in_both(&["write"], right.as_bytes());
     assert_eq!((good.status, good.errors.as_str()), (0, ""));
     let wrong = [UNIT.to_string(), event("2021-11-26", 43)].concat();
-    let ran = casetool(&["write"], wrong.as_bytes());
+    let ran = casetool_in_both(&["write"], wrong.as_bytes());
     assert_eq!(
         (ran.status, ran.errors.as_str()),
         (
@@ -71,9 +75,6 @@ fn a_period_that_is_not_its_days_is_warned_of_and_written() {
 
 #[test]
 fn past_entries_and_events_each_with_their_line() {
-    let past = |day: &str, period: u16| {
-        format!("past group 7 kind fuel market day-ahead period {period} day {day}\n")
-    };
     let text = [
         UNIT.to_string(),
         past("2021-04-30", 43),
@@ -87,7 +88,8 @@ fn past_entries_and_events_each_with_their_line() {
     .concat();
     let path = file_with("periods.txt", text.as_bytes());
     let case = file_with("periods.case", b"");
-    let ran = casetool(&["write", &path, "-o", &case], b"");
+    let to_file = casetool(&["write", &path, "-o", &case], b"");
+    let ran = casetool_in_both(&["write", &path], b"");
     let warning = |line: usize, column: usize, written: u16, day: u32, date: &str, period: u32| {
         format!(
             "casetool: warning: {path}: line {line}, column {column}, '{written}': day {day} ({date}) is in capability period {period}; {written} is written\n"
@@ -99,21 +101,21 @@ fn past_entries_and_events_each_with_their_line() {
         warning(6, 68, 43, 7975, "1 November 2021", 44),
         warning(7, 65, 0, 1_000_000, "28 November 4737", 5476),
     ];
+    assert_eq!((to_file.status, to_file.errors), (0, expected.concat()));
     assert_eq!((ran.status, ran.errors), (0, expected.concat()));
-    assert_eq!(
-        std::fs::read(&case).expect("the case").len(),
-        36 + 24 + 3 * 12 + 4 * 312
-    );
+    let file = std::fs::read(&case).expect("the case");
+    assert_eq!(file.len(), 36 + 24 + 3 * 12 + 4 * 312);
+    assert_eq!(ran.output, file);
     // Nothing but write warns.
     for command in ["show", "check"] {
-        assert_eq!(casetool(&[command, &case], b"").errors, "");
+        assert_eq!(casetool_in_both(&[command, &case], b"").errors, "");
     }
 }
 
 #[test]
 fn a_day_with_no_period_of_16_bits() {
     let text = [UNIT.to_string(), event("4294967295", 65535)].concat();
-    let ran = casetool(&["write"], text.as_bytes());
+    let ran = casetool_in_both(&["write"], text.as_bytes());
     assert_eq!(
         (ran.status, ran.errors.as_str()),
         (
@@ -122,7 +124,7 @@ fn a_day_with_no_period_of_16_bits() {
         )
     );
     // A text that is not written is not warned of.
-    let ran = casetool(&["write"], [text.as_str(), "hour"].concat().as_bytes());
+    let ran = casetool_in_both(&["write"], [text.as_str(), "hour"].concat().as_bytes());
     assert_eq!(ran.errors.lines().count(), 1);
     assert!(!written(&[UNIT.to_string(), event("8000", 44)].concat()).is_empty());
 }

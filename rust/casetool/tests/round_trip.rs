@@ -7,13 +7,14 @@ use attachment_h::layout::{Section, Sections, Version};
 use cases::Random;
 use cases::case::{Input, file_in};
 use cases::faults::faults_in;
-use cases::generator::{Generated, Size, Wanted, case, random_bytes_in};
+use cases::generator::{Size, Wanted, case, random_bytes_in};
 use casetool::text::show::{case_text, correction_text};
 use casetool::text::write::{case_file, correction};
-use support::{casetool, in_turn, repository, written};
+use support::alike::text_of_copy;
+use support::{casetool, copies, in_turn, repository, written};
 
-/// Shows a file and writes it again, if it has sections to show; whether it has.
-fn comes_back(file: &[u8]) -> bool {
+/// Shows a file and writes it again, if it has sections to show: its text.
+fn comes_back(file: &[u8]) -> Option<String> {
     let Some(sections) = Sections::of(file) else {
         assert!(matches!(
             attachment_h::check(file, &[], 0),
@@ -21,24 +22,50 @@ fn comes_back(file: &[u8]) -> bool {
         ));
         let shown = casetool(&["show"], file);
         assert_eq!((shown.status, shown.output.len()), (1, 0));
-        return false;
+        return None;
     };
     let text = case_text(&sections);
     let again = case_file(text.as_bytes()).unwrap_or_else(|error| panic!("{error}\n{text}"));
     assert!(again.bytes == file, "another file of\n{text}");
-    true
+    Some(text)
 }
 
-fn correction_comes_back(version: Version, bytes: &[u8]) {
+/// The same of a file and of its copy, if it has one: how many have sections to show, and how many of them are copies.
+fn both_come_back(file: &[u8]) -> (usize, usize) {
+    let Some(text) = comes_back(file) else {
+        return (0, 0);
+    };
+    let Some(copy) = copies::of_case(file) else {
+        return (1, 0);
+    };
+    assert_eq!(comes_back(&copy), Some(text_of_copy(&text)));
+    (2, 1)
+}
+
+/// Shows a correction and writes it again: its text.
+fn correction_comes_back(version: Version, bytes: &[u8]) -> String {
     let text = correction_text(version, bytes);
     let again = correction(text.as_bytes()).map(|written| written.bytes);
     assert_eq!(again.as_deref(), Ok(bytes), "{text}");
+    text
+}
+
+/// The same of a correction and of its copy, if it is of version 1: how many.
+fn both_corrections_come_back(version: Version, bytes: &[u8]) -> usize {
+    let text = correction_comes_back(version, bytes);
+    if version == Version::Two {
+        return 1;
+    }
+    let copy = copies::of_correction(bytes).expect("whole records");
+    let expected = text_of_copy(&text);
+    assert_eq!(correction_comes_back(Version::Two, &copy), expected);
+    2
 }
 
 #[test]
 fn accepted() {
     let mut random = Random::new(701);
-    let mut bytes = 0;
+    let (mut bytes, mut copies, mut corrections) = (0, 0, 0);
     for place in 0..2_500 {
         let size = match place % 50 {
             0 | 1 => Size::Full,
@@ -48,40 +75,40 @@ fn accepted() {
         let version = in_turn(place);
         let generated = case(&mut random, Wanted::of(size).in_version(version));
         let input = generated.input();
-        assert!(comes_back(&input.file), "case {place}");
-        correction_comes_back(version, &input.correction);
+        let (shown, of_copies) = both_come_back(&input.file);
+        assert_eq!(shown, 1 + of_copies, "case {place}");
+        copies += of_copies;
+        corrections += both_corrections_come_back(version, &input.correction);
         bytes += input.file.len();
     }
-    println!("2,500 accepted cases of {bytes} bytes");
-}
-
-/// A small case with all kinds, so that most faults have a place.
-fn every_kind(version: Version, random: &mut Random) -> Generated {
-    let wanted = Wanted {
-        every_kind: true,
-        ..Wanted::of(Size::Small).in_version(version)
-    };
-    case(random, wanted)
+    println!("2,500 accepted cases of {bytes} bytes, {copies} copies, {corrections} corrections");
+    assert_eq!(copies, 1_250 - 50);
 }
 
 #[test]
 fn faulty() {
     let mut random = Random::new(702);
     for version in Version::ALL {
-        let (mut shown, mut not_shown) = (0, 0);
+        let (mut shown, mut copies, mut not_shown) = (0, 0, 0);
         for fault in faults_in(version) {
             for _ in 0..25 {
-                let mut input = every_kind(version, &mut random).input();
-                if (fault.apply)(&mut input, &mut random).is_none() {
+                let wanted = Wanted::every_kind().in_version(version);
+                let good = case(&mut random, wanted).input();
+                let Some(input) = fault.put_into(&good, &mut random) else {
                     continue;
-                }
-                let readable = comes_back(&input.file);
-                assert_eq!(readable, fault.number > 5, "{}", fault.name);
-                *(if readable { &mut shown } else { &mut not_shown }) += 1;
+                };
+                let (files, of_copies) = both_come_back(&input.file);
+                assert_eq!(files > 0, fault.number > 5, "{}", fault.name);
+                shown += files - of_copies;
+                copies += of_copies;
+                not_shown += usize::from(files == 0);
             }
         }
-        println!("{version:?}: {shown} faulty files shown, {not_shown} without sections");
+        println!(
+            "{version:?}: {shown} faulty files shown, {copies} copies, {not_shown} without sections"
+        );
         assert!(shown > 1_000);
+        assert_eq!(copies, if version == Version::One { shown } else { 0 });
     }
 }
 
@@ -129,26 +156,29 @@ fn liken(version: Version, sections: &mut [Vec<u8>; 4], random: &mut Random) {
 fn any_content() {
     let mut random = Random::new(703);
     for version in Version::ALL {
-        let (mut shown, mut old_numbers) = (0, 0);
+        let (mut shown, mut copies, mut corrections, mut old_numbers) = (0, 0, 0, 0);
         for _ in 0..3_000 {
             let mut sections = noise(version, &mut random);
             liken(version, &mut sections, &mut random);
             let file = file_in(version, &sections);
-            assert!(comes_back(&file));
+            let (files, of_copies) = both_come_back(&file);
+            assert_eq!(files, 1 + usize::from(version == Version::One));
             let text = case_text(&Sections::of(&file).expect("sections"));
             old_numbers += usize::from(text.contains(" old-number "));
             let Input { file, .. } = random_bytes_in(version, &mut random);
-            shown += usize::from(comes_back(&file));
+            let (changed, of_changed) = both_come_back(&file);
+            shown += changed - of_changed;
+            copies += of_copies + of_changed;
         }
-        println!(
-            "{version:?}: 3,000 files of noise, {old_numbers} with old numbers, {shown} of 3,000 changed ones"
-        );
         assert_eq!(old_numbers > 500, version == Version::Two);
         for length in 0..256 {
             let bytes =
                 (0..Section::References.width(version) * length).map(|_| random.bits() as u8);
-            correction_comes_back(version, &bytes.collect::<Vec<u8>>());
+            corrections += both_corrections_come_back(version, &bytes.collect::<Vec<u8>>());
         }
+        println!(
+            "{version:?}: 3,000 files of noise, {old_numbers} with old numbers, {shown} of 3,000 changed ones, {copies} copies, {corrections} corrections"
+        );
     }
 }
 

@@ -6,12 +6,12 @@ mod support;
 use attachment_h::Cents;
 use attachment_h::layout::{Section, Sections, u32_at};
 use cases::Random;
-use cases::case::Input;
-use cases::generator::any_case_in;
-use cases::{Component, Kind, Row};
+use cases::case::{Input, Unit};
+use cases::generator::{Generated, any_case_in};
+use cases::{Component, Event, Kind, Row};
 use casetool::text::amounts::{Measure, dollars};
 use casetool::text::{calendar, hours};
-use support::{casetool, file_with, in_turn, repository};
+use support::{casetool_in_both, casetool_with, copies_of, file_with, in_turn, repository};
 
 fn example(name: &str) -> Vec<u8> {
     std::fs::read(repository(&format!("examples/{name}"))).expect("an example")
@@ -19,20 +19,20 @@ fn example(name: &str) -> Vec<u8> {
 
 #[test]
 fn the_example() {
-    let case = casetool(&["write"], &example("two-plants.txt")).output;
-    let ran = casetool(&["settle"], &case);
+    let case = casetool_in_both(&["write"], &example("two-plants.txt")).output;
+    let ran = casetool_in_both(&["settle"], &case);
     assert_eq!((ran.status, ran.errors.as_str()), (0, ""));
     assert_eq!(ran.text(), include_str!("two-plants.settled"));
-    assert_eq!(ran, casetool(&["settle"], &case));
+    assert_eq!(ran, casetool_in_both(&["settle"], &case));
 }
 
 #[test]
 fn the_example_with_its_correction() {
-    let case = casetool(&["write"], &example("two-plants.txt")).output;
+    let case = casetool_in_both(&["write"], &example("two-plants.txt")).output;
     let text = example("two-plants-correction.txt");
-    let correction = casetool(&["write", "--correction"], &text).output;
+    let correction = casetool_in_both(&["write", "--correction"], &text).output;
     let path = file_with("two-plants.correction", &correction);
-    let ran = casetool(&["settle", "--correction", &path], &case);
+    let ran = casetool_in_both(&["settle", "--correction", &path], &case);
     let expected = include_str!("two-plants.settled")
         .replace(
             "Correction: none",
@@ -167,10 +167,50 @@ fn restored_in(line: &str) -> u32 {
     )
 }
 
+/// The parts of a settlement under its units, which are those of the case.
+fn blocks_of<'t>(text: &'t str, generated: &Generated) -> Vec<&'t str> {
+    let blocks: Vec<&str> = text.split("\nUnit ").skip(1).collect();
+    assert_eq!(blocks.len(), generated.case.units.len());
+    for (block, unit) in blocks.iter().zip(&generated.case.units) {
+        let start = format!("{}, group {}\n", unit.unit, unit.group);
+        assert!(block.starts_with(&start), "{block}");
+    }
+    blocks
+}
+
+/// That the figures of an event are those of its row; whether bids are in force.
+fn same_figures(lines: &[&str], event: &Event, row: &Row) -> bool {
+    let flags = figure(lines, "flagged hours").map(mask_of);
+    assert_eq!(flags, Some(row.flags.0));
+    let bids = event.kind() == Kind::BIDS;
+    let energy = bids && event.component() == Component::ENERGY;
+    assert!(energy || row.make_up.0 == 0);
+    let figures = [
+        ("mitigated hours", bids, u64::from(row.mitigated.0)),
+        ("penalty", !bids, row.penalty.0),
+        ("make-up", energy, row.make_up.0),
+    ];
+    for (name, there, value) in figures {
+        let read = |text| match name {
+            "mitigated hours" => u64::from(mask_of(text)),
+            _ => cents_of(text),
+        };
+        assert_eq!(figure(lines, name).map(read), there.then_some(value));
+    }
+    let multiplier = figure(lines, "multiplier").map(multiplier_of);
+    let expected = (u16::from(row.multiplier.0), row.n3, row.n2);
+    assert_eq!(multiplier, (!bids).then_some(expected));
+    let in_force = figure(lines, "bids in force");
+    if let Some(list) = in_force {
+        assert_eq!(bids_of(list, event.component().0), mitigated_bids(row));
+    }
+    in_force.is_some()
+}
+
 #[test]
 fn generated_cases_beside_the_second_implementation() {
     let mut random = Random::new(731);
-    let (mut events, mut mitigated, mut with_restored) = (0, 0, 0);
+    let (mut events, mut mitigated, mut with_restored, mut copies) = (0, 0, 0, 0);
     for place in 0..400 {
         let generated = any_case_in(in_turn(place), &mut random);
         let input = generated.input();
@@ -183,55 +223,18 @@ fn generated_cases_beside_the_second_implementation() {
         else {
             panic!("case {place} is refused");
         };
-        let path = file_with("generated.correction", &input.correction);
-        let mut arguments = vec!["settle"];
-        if !input.correction.is_empty() {
-            arguments.extend(["--correction", &path]);
-        }
-        let ran = casetool(&arguments, &input.file);
+        let ran = casetool_with("generated.correction", &["settle"], &input);
+        copies += copies_of(&input);
         assert_eq!(ran.status, 0, "case {place}");
         let text = ran.text();
-        let blocks: Vec<&str> = text.split("\nUnit ").skip(1).collect();
-        assert_eq!(blocks.len(), generated.case.units.len());
-        for (block, unit) in blocks.iter().zip(&generated.case.units) {
-            let start = format!("{}, group {}\n", unit.unit, unit.group);
-            assert!(block.starts_with(&start), "{block}");
-        }
+        let blocks = blocks_of(text, &generated);
         for (event, record) in generated.case.events.iter().enumerate() {
-            let row = Row::of(&rows, event);
-            let lines = paragraph(text, event);
-            let place_of_unit = generated.case.units.iter();
-            let place_of_unit = place_of_unit.take_while(|unit| unit.unit < record.unit);
-            assert!(blocks[place_of_unit.count()].contains(lines[0]));
-            assert_eq!(
-                figure(&lines, "flagged hours").map(mask_of),
-                Some(row.flags.0)
-            );
-            let bids = record.kind() == Kind::BIDS;
-            let energy = bids && record.component() == Component::ENERGY;
-            assert!(energy || row.make_up.0 == 0);
-            let figures = [
-                ("mitigated hours", bids, u64::from(row.mitigated.0)),
-                ("penalty", !bids, row.penalty.0),
-                ("make-up", energy, row.make_up.0),
-            ];
-            for (name, there, value) in figures {
-                let read = |text| match name {
-                    "mitigated hours" => u64::from(mask_of(text)),
-                    _ => cents_of(text),
-                };
-                assert_eq!(figure(&lines, name).map(read), there.then_some(value));
-            }
-            let multiplier = figure(&lines, "multiplier").map(multiplier_of);
-            let expected = (u16::from(row.multiplier.0), row.n3, row.n2);
-            assert_eq!(multiplier, (!bids).then_some(expected));
-            if let Some(list) = figure(&lines, "bids in force") {
-                assert_eq!(bids_of(list, record.component().0), mitigated_bids(&row));
-                mitigated += 1;
-            }
-            let expected = restored(&input, event, &row);
+            let (row, lines) = (Row::of(&rows, event), paragraph(text, event));
+            let before = |unit: &Unit| unit.unit < record.unit;
+            assert!(blocks[generated.case.units.partition_point(before)].contains(lines[0]));
+            mitigated += usize::from(same_figures(&lines, record, &row));
             let said = figure(&lines, "restored").map_or(0, restored_in);
-            assert_eq!(said, expected, "case {place}, event {event}");
+            assert_eq!(said, restored(&input, event, &row), "case {place}");
             with_restored += usize::from(said != 0);
             events += 1;
         }
@@ -239,8 +242,10 @@ fn generated_cases_beside_the_second_implementation() {
         let sums: Vec<u64> = totals.lines().skip(1).map(cents_of).collect();
         assert_eq!(sums, [penalties, make_ups]);
     }
-    println!("400 cases of {events} events, {mitigated} mitigated, {with_restored} restored");
-    assert!(with_restored > 20);
+    println!(
+        "400 cases of {events} events, {mitigated} mitigated, {with_restored} restored, {copies} copies"
+    );
+    assert!(with_restored > 20 && copies > 150);
 }
 
 #[test]

@@ -5,7 +5,7 @@ mod support;
 
 use std::sync::atomic::{AtomicUsize, Ordering};
 
-use support::{casetool, file_with, written};
+use support::{casetool_in_both, file_with, written};
 
 const UNITS: &str = "unit 12 group 7 area no capability 500.0 MW response-rate 10.0 MW/min\n\
                      unit 13 group 7 capability 500.0 MW response-rate 10.0 MW/min\n\
@@ -21,10 +21,10 @@ fn settled(text: &str, correction: &str) -> String {
     let mut arguments = vec!["settle", &path];
     let mut bytes = Vec::new();
     if !correction.is_empty() {
-        bytes = casetool(&["write", "--correction"], correction.as_bytes()).output;
+        bytes = casetool_in_both(&["write", "--correction"], correction.as_bytes()).output;
         arguments.extend(["--correction", "-"]);
     }
-    let ran = casetool(&arguments, &bytes);
+    let ran = casetool_in_both(&arguments, &bytes);
     assert_eq!((ran.status, ran.errors.as_str()), (0, ""));
     ran.text().to_string()
 }

@@ -6,7 +6,7 @@ mod support;
 use cases::Random;
 use cases::Row;
 use cases::generator::any_case_in;
-use support::{casetool, file_with, in_turn, written};
+use support::{casetool_in_both, casetool_with, copies_of, in_turn, written};
 
 const UNITS: &str = "\
 unit 12 group 7 area 1 capability 500.0 MW response-rate 10.0 MW/min average-price $50.00 constrained-hours 1000
@@ -18,7 +18,7 @@ fn works(text: &str, hour: usize, expected: &str) {
     let text = format!("{UNITS}{text}");
     let last = (text.matches("\nevent ").count() - 1).to_string();
     let arguments = ["working", "--event", &last, "--hour", &hour.to_string()];
-    let ran = casetool(&arguments, &written(&text));
+    let ran = casetool_in_both(&arguments, &written(&text));
     assert_eq!((ran.status, ran.errors.as_str()), (0, ""));
     let mut lines = ran.text().lines();
     let heading = lines.next().expect("a heading");
@@ -281,39 +281,35 @@ No step is exceeded: hour 7 is not flagged",
     );
 }
 
+/// The steps of a working that are exceeded.
+fn exceeded(text: &str) -> Vec<usize> {
+    let step = |line: &str| {
+        let (step, _) = line.trim().split_once('.').expect("a step");
+        step.parse().expect("a number")
+    };
+    let lines = text.lines().filter(|line| line.ends_with(", exceeded"));
+    lines.map(step).collect()
+}
+
 #[test]
 fn generated_cases_beside_the_second_implementation() {
     let mut random = Random::new(742);
-    let (mut hours, mut flagged) = (0, 0);
+    let (mut hours, mut flagged, mut copies) = (0, 0, 0);
     for place in 0..150 {
         let input = any_case_in(in_turn(place), &mut random).input();
         let mut rows = vec![0; input.rows_len];
         second::settle(&input.file, &input.correction, &mut rows);
-        let path = file_with("working.correction", &input.correction);
+        copies += copies_of(&input);
         for event in 0..rows.len() / 128 {
             let row = Row::of(&rows, event);
             let hour = random.below(24);
             let (event, hour_word) = (event.to_string(), hour.to_string());
-            let mut arguments = vec!["working", "--event", &event, "--hour", &hour_word];
-            if !input.correction.is_empty() {
-                arguments.extend(["--correction", &path]);
-            }
-            let ran = casetool(&arguments, &input.file);
+            let arguments = ["working", "--event", &event, "--hour", &hour_word];
+            let ran = casetool_with("working.correction", &arguments, &input);
             assert_eq!(ran.status, 0);
             let text = ran.text();
             let last = text.lines().last().expect("a verdict");
-            let exceeded: Vec<usize> = text
-                .lines()
-                .filter(|line| line.ends_with(", exceeded"))
-                .map(|line| {
-                    line.trim()
-                        .split('.')
-                        .next()
-                        .expect("a step")
-                        .parse()
-                        .expect("a number")
-                })
-                .collect();
+            let exceeded = exceeded(text);
             let is_flagged = row.flags.0 >> hour & 1 == 1;
             let expected = match exceeded.first() {
                 Some(step) => format!("Step {step} failed: hour {hour} is flagged"),
@@ -328,5 +324,6 @@ fn generated_cases_beside_the_second_implementation() {
             flagged += usize::from(is_flagged);
         }
     }
-    println!("{hours} hours, {flagged} of them flagged");
+    println!("{hours} hours, {flagged} of them flagged, {copies} copies");
+    assert!(copies > 50);
 }

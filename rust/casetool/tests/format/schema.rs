@@ -11,7 +11,7 @@ use cases::faults::{CHECKED, faults_in};
 use cases::generator::{Size, Wanted, any_case_in, case};
 
 use crate::support::json::{Value, answer, broken, parse, schema};
-use crate::support::{casetool, casetool_with, in_turn, repository};
+use crate::support::{casetool, casetool_in_both, casetool_with, copies_of, in_turn, repository};
 
 #[test]
 fn refusals_as_json() {
@@ -24,14 +24,11 @@ fn refusals_as_json() {
     });
     for (version, fault) in faults {
         for _ in 0..4 {
-            let wanted = Wanted {
-                every_kind: true,
-                ..Wanted::of(Size::Small).in_version(version)
-            };
-            let mut input = case(&mut random, wanted).input();
-            if (fault.apply)(&mut input, &mut random).is_none() {
+            let wanted = Wanted::every_kind().in_version(version);
+            let good = case(&mut random, wanted).input();
+            let Some(input) = fault.put_into(&good, &mut random) else {
                 continue;
-            }
+            };
             let arguments = ["check", "--as", "case", "--format", "json"];
             let ran = casetool_with("schema.check", &arguments, &input);
             let value = answer(&ran, &schema);
@@ -135,10 +132,11 @@ fn increase(working: &Working) -> i128 {
 fn workings_as_json() {
     let schema = schema();
     let mut random = Random::new(754);
-    let (mut hours, mut flagged, mut negative) = (0, 0, 0);
+    let (mut hours, mut flagged, mut negative, mut copies) = (0, 0, 0, 0);
     for place in 0..60 {
         let generated = any_case_in(in_turn(place), &mut random);
         let input = generated.input();
+        copies += copies_of(&input);
         for event in (0..generated.case.events.len()).step_by(7) {
             let hour = random.below(24);
             let [number, of_day] = [event, hour].map(|number| number.to_string());
@@ -158,15 +156,15 @@ fn workings_as_json() {
             negative += usize::from(increase(&expected) < 0);
         }
     }
-    println!("{hours} hours, {flagged} flagged, {negative} with a negative d");
-    assert!(hours > 150 && flagged > 20 && negative > 20);
+    println!("{hours} hours, {flagged} flagged, {negative} with a negative d, {copies} copies");
+    assert!(hours > 150 && flagged > 20 && negative > 20 && copies > 20);
 }
 
 #[test]
 fn the_schema_would_notice() {
     let schema = schema();
     let example = std::fs::read(repository("examples/two-plants.txt")).expect("the example");
-    let text = casetool(&["settle", "--format", "json"], &example)
+    let text = casetool_in_both(&["settle", "--format", "json"], &example)
         .text()
         .to_string();
     assert_eq!(broken(&parse(&text), &schema, &schema), None);

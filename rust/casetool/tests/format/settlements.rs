@@ -8,7 +8,7 @@ use casetool::format::json::Json;
 use casetool::text::calendar::day_of;
 
 use crate::support::json::{Value, answer, parse, schema};
-use crate::support::{casetool, casetool_with, file_with, in_turn, repository};
+use crate::support::{casetool, casetool_with, copies_of, file_with, in_turn, repository};
 
 fn settled_by_the_library(input: &Input) -> (Settled, Vec<Row>) {
     let mut rows = vec![0; ROWS_LENGTH];
@@ -127,7 +127,7 @@ fn same_totals(totals: &Value, settled: &Settled) {
 fn settlements_as_json() {
     let schema = schema();
     let mut random = Random::new(751);
-    let (mut rows, mut corrected, mut restored) = (0, 0, 0);
+    let (mut rows, mut corrected, mut restored, mut copies) = (0, 0, 0, 0);
     for place in 0..120 {
         let generated = any_case_in(in_turn(place), &mut random);
         let input = generated.input();
@@ -144,6 +144,7 @@ fn settlements_as_json() {
             restored += value.at("restored_hours").list().len();
         }
         rows += found.len();
+        copies += copies_of(&input);
         match (value.at("correction"), generated.correction.len()) {
             (Value::Null, 0) => {}
             (correction, count) => {
@@ -152,8 +153,10 @@ fn settlements_as_json() {
             }
         }
     }
-    println!("{rows} rows, {corrected} settlements with a correction, {restored} restored hours");
-    assert!(rows > 1_000 && corrected > 40 && restored > 5);
+    println!(
+        "{rows} rows, {corrected} settlements with a correction, {restored} restored hours, {copies} copies"
+    );
+    assert!(rows > 1_000 && corrected > 40 && restored > 5 && copies > 50);
 }
 
 /// The values of a text of CSV, line by line.

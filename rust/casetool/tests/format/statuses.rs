@@ -1,6 +1,6 @@
 //! Exit statuses: 0 done, 1 refused or unreadable, 2 misuse, of every command in every format.
 
-use crate::support::{casetool, file_with, repository, written};
+use crate::support::{casetool, casetool_in_both, casetool_where, file_with, repository, written};
 
 const EVENT_AND_HOUR: [&str; 4] = ["--event", "0", "--hour", "0"];
 
@@ -34,20 +34,21 @@ fn example() -> String {
 fn done_or_refused() {
     let good = example();
     let case = written(&good);
+    let cut_in_its_first_unit = &case[..40];
     let refused = good.replace("area 1", "area 2");
     let mistaken = good.replace("kind", "type");
     for command in commands() {
-        for (input, status) in [
-            (good.as_bytes(), 0),
-            (&case, 0),
-            (refused.as_bytes(), 1),
-            (&written(&refused), 1),
-            (mistaken.as_bytes(), 1),
-            (&case[..40], 1),
-            (b"", 1),
-            (b"# nothing\n", 1),
+        for (input, status, has_copy) in [
+            (good.as_bytes(), 0, true),
+            (&case, 0, true),
+            (refused.as_bytes(), 1, true),
+            (&written(&refused), 1, true),
+            (mistaken.as_bytes(), 1, true),
+            (cut_in_its_first_unit, 1, false),
+            (b"", 1, false),
+            (b"# nothing\n", 1, true),
         ] {
-            let ran = casetool(&command, input);
+            let ran = casetool_where(has_copy, &command, input);
             assert_eq!(ran.status, status, "{command:?}: {}", ran.errors);
             // There is an answer or a message, and with status 1 only a check has an answer.
             let answered = status == 0 || command[0] == "check" && ran.errors.is_empty();
@@ -89,7 +90,7 @@ fn an_answer_in_every_format_goes_to_its_file() {
         let ran = casetool(&[command.as_slice(), &["-o", &path]].concat(), &good);
         assert_eq!((ran.status, ran.output.len()), (0, 0));
         let answer = std::fs::read(&path).expect("the answer");
-        assert_eq!(answer, casetool(&command, &good).output);
+        assert_eq!(answer, casetool_in_both(&command, &good).output);
         // A text with mistakes leaves no old answer, but that of a check in JSON, which is an answer.
         let ran = casetool(&[command.as_slice(), &["-o", &path]].concat(), b"unit 12");
         let answered = command[..] == ["check", "--format", "json"];

@@ -10,12 +10,12 @@ use casetool::text::hours;
 
 use crate::asked;
 use crate::support::json::{Value, answer, broken, parse, schema};
-use crate::support::{casetool, casetool_with, in_turn, repository};
+use crate::support::{casetool_in_both, casetool_with, copies_of, in_turn, repository};
 
 #[test]
 fn one_event_whole() {
     let text = std::fs::read(repository("examples/two-plants.txt")).expect("the example");
-    let ran = casetool(&["line", "--event", "5", "--format", "json"], &text);
+    let ran = casetool_in_both(&["line", "--event", "5", "--format", "json"], &text);
     let (free, free_dollars) = ("0, ".repeat(19), "\"0.00\", ".repeat(19));
     let (line, line_dollars) = ("8000, ".repeat(19), "\"80.00\", ".repeat(19));
     let expected = format!(
@@ -54,7 +54,7 @@ fn one_event_whole() {
     answer(&ran, &schema());
     // A case with no event of bids has an empty list.
     let empty = crate::support::written("unit 12 group 7 capability 1 MW");
-    let ran = casetool(&["line", "--format", "json"], &empty);
+    let ran = casetool_in_both(&["line", "--format", "json"], &empty);
     let expected = "{\n  \"answer\": \"lines\",\n  \"events\": []\n}\n";
     assert_eq!((ran.status, ran.text()), (0, expected));
     answer(&ran, &schema());
@@ -132,7 +132,7 @@ fn one_line_of_every_component() {
 fn the_schema_would_notice() {
     let schema = schema();
     let text = std::fs::read(repository("examples/two-plants.txt")).expect("the example");
-    let table = casetool(&["line", "--format", "json"], &text);
+    let table = casetool_in_both(&["line", "--format", "json"], &text);
     let one = asked("--component energy --reference 50 --market DAM --format json");
     for (ran, good, bad) in [
         (&table, "\"tight_line\": null", "\"tight_line\": \"80.00\""),
@@ -321,24 +321,20 @@ fn fails(component: Component, hour: &Hour) -> bool {
 fn generated_cases() {
     let schema = schema();
     let mut random = Random::new(761);
-    let (mut events, mut flagged, mut tight, mut by_sum) = (0, 0, 0, 0);
+    let (mut events, mut flagged, mut tight, mut by_sum, mut copies) = (0, 0, 0, 0, 0);
     for place in 0..40 {
         let input = any_case_in(in_turn(place), &mut random).input();
         let expected = by_the_library(&input);
         let ran = casetool_with("line.generated", &["line", "--format", "json"], &input);
         let value = answer(&ran, &schema);
         let text = casetool_with("line.generated", &["line"], &input);
-        let tables: Vec<&str> = text
-            .text()
-            .split("\n\n")
-            .filter(|table| table.starts_with("Event "))
-            .collect();
+        let tables = text.text().split("\n\n");
+        let tables = tables.filter(|table| table.starts_with("Event "));
+        let tables: Vec<&str> = tables.collect();
         let mut rows = vec![0; input.rows_len];
         second::settle(&input.file, &input.correction, &mut rows);
-        assert_eq!(
-            (value.at("events").list().len(), tables.len()),
-            (expected.len(), expected.len())
-        );
+        let counts = [value.at("events").list().len(), tables.len()];
+        assert_eq!(counts, [expected.len(); 2]);
         for (place, expected) in expected.iter().enumerate() {
             same_event(&value.at("events").list()[place], expected);
             assert!(tables[place].starts_with(&format!("Event {}: ", expected.event)));
@@ -354,9 +350,10 @@ fn generated_cases() {
             }
         }
         events += expected.len();
+        copies += copies_of(&input);
     }
     println!(
-        "{events} events of bids, {flagged} hours flagged, {by_sum} of them by the sum alone, {tight} tight"
+        "{events} events of bids, {flagged} hours flagged, {by_sum} of them by the sum alone, {tight} tight, {copies} copies"
     );
-    assert!(events > 200 && flagged > 500 && tight > 100 && by_sum > 10);
+    assert!(events > 200 && flagged > 500 && tight > 100 && by_sum > 10 && copies > 15);
 }

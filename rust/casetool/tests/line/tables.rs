@@ -3,7 +3,7 @@
 use std::path::Path;
 
 use crate::SUM_OF_TIMES;
-use crate::support::{casetool, file_with, repository, written};
+use crate::support::{casetool, casetool_in_both, file_with, repository, written};
 
 fn example() -> Vec<u8> {
     std::fs::read(repository("examples/two-plants.txt")).expect("the example")
@@ -12,10 +12,10 @@ fn example() -> Vec<u8> {
 /// That this text has these tables, by its case file too.
 fn prints(arguments: &[&str], text: &str, expected: &str) {
     let arguments = [&["line"], arguments].concat();
-    let ran = casetool(&arguments, text.as_bytes());
+    let ran = casetool_in_both(&arguments, text.as_bytes());
     assert_eq!((ran.status, ran.errors.as_str()), (0, ""));
     assert_eq!(ran.text(), expected);
-    assert_eq!(casetool(&arguments, &written(text)), ran);
+    assert_eq!(casetool_in_both(&arguments, &written(text)), ran);
 }
 
 const EVENT_3: &str = "\
@@ -242,7 +242,7 @@ fn a_case_with_no_event_of_bids() {
         "This case has no event of bids\n",
     );
     // A case file may have no event at all.
-    let ran = casetool(&["line"], &written(UNIT));
+    let ran = casetool_in_both(&["line"], &written(UNIT));
     assert_eq!(
         (ran.status, ran.text(), ran.errors.as_str()),
         (0, "This case has no event of bids\n", "")
@@ -279,7 +279,7 @@ fn events_that_have_no_line() {
         (one.into_bytes(), "1", "this case has one event, 0"),
         (written(UNIT), "0", "this case has no events"),
     ] {
-        let ran = casetool(&["line", "--event", event], &text);
+        let ran = casetool_in_both(&["line", "--event", event], &text);
         assert_eq!((ran.status, ran.output.len()), (2, 0));
         let message = format!("casetool: --event {event}: {problem}; see casetool line --help\n");
         assert_eq!(ran.errors, message);
@@ -316,21 +316,21 @@ fn a_refused_case_is_refused_as_a_working_is() {
             "casetool: standard input: line 11, column 14, 'type': did you mean kind?",
         ),
     ] {
-        let ran = casetool(&[&["line"], correction].concat(), text.as_bytes());
+        let ran = casetool_in_both(&[&["line"], correction].concat(), text.as_bytes());
         assert_eq!(ran.errors.lines().nth(1), Some(second_line));
         assert_eq!(
             ran,
-            casetool(&[&working, correction].concat(), text.as_bytes())
+            casetool_in_both(&[&working, correction].concat(), text.as_bytes())
         );
         assert_eq!((ran.status, ran.output.len()), (1, 0));
     }
     let case = written(&good.replace("area 1", "area 2"));
-    let ran = casetool(&["line"], &case);
+    let ran = casetool_in_both(&["line"], &case);
     assert_eq!(
         ran.errors.lines().nth(1),
         Some("units, record 1 (unit 13): area is 2; expected 0 or 1")
     );
-    assert_eq!(ran, casetool(&working, &case));
+    assert_eq!(ran, casetool_in_both(&working, &case));
 }
 
 #[test]

@@ -1,6 +1,6 @@
 //! Bids by hand: r and c, mitigated hours, the make-up of energy hour by hour, and what a correction restored.
 
-use crate::support::{casetool, file_with};
+use crate::support::{casetool_in_both, file_with};
 use crate::{example, sheet, works, works_with};
 
 /// Event 3 of the example, with c, what is said of it, the term of each hour, the sum and the make-up.
@@ -287,7 +287,7 @@ fn a_correction_that_lacks_a_reference_is_refused() {
     let path = correction("lacks", "start-up-cost", "$100.00");
     let arguments = ["working", "--event", "0", "--correction", &path];
     let text = bids("real-time", "energy", "$20.00", "impact-hours none");
-    let ran = casetool(&arguments, text.as_bytes());
+    let ran = casetool_in_both(&arguments, text.as_bytes());
     assert_eq!((ran.status, ran.output.len()), (1, 0));
     assert!(
         ran.errors.starts_with("casetool: refused 14: "),

@@ -4,15 +4,18 @@ use cases::Random;
 use cases::generator::any_case_in;
 
 use crate::example;
-use crate::support::{casetool, casetool_with, file_with, in_turn, written};
+use crate::support::{casetool_in_both, casetool_with, copies_of, file_with, in_turn, written};
 
 #[test]
 fn the_example() {
     let text = example("two-plants.txt");
-    let ran = casetool(&["settle", "--explain"], text.as_bytes());
+    let ran = casetool_in_both(&["settle", "--explain"], text.as_bytes());
     assert_eq!((ran.status, ran.errors.as_str()), (0, ""));
     assert_eq!(ran.text(), include_str!("../two-plants.explained"));
-    assert_eq!(casetool(&["settle", "--explain"], &written(&text)), ran);
+    assert_eq!(
+        casetool_in_both(&["settle", "--explain"], &written(&text)),
+        ran
+    );
 }
 
 #[test]
@@ -23,7 +26,7 @@ fn the_example_with_its_correction() {
     );
     let text = example("two-plants.txt");
     let arguments = ["settle", "--explain", "--correction", &path];
-    let ran = casetool(&arguments, text.as_bytes());
+    let ran = casetool_in_both(&arguments, text.as_bytes());
     assert_eq!((ran.status, ran.errors.as_str()), (0, ""));
     assert!(ran.text().contains(
         "    make-up          $1,500.00\n      1. r (23.3.1.4): the reference level of the unit and component\n"
@@ -38,8 +41,11 @@ fn the_example_with_its_correction() {
 #[test]
 fn nothing_to_explain() {
     let text = "unit 12 group 7 capability 1 MW\n";
-    let ran = casetool(&["settle", "--explain", "--allow-empty"], text.as_bytes());
-    assert_eq!(ran, casetool(&["settle", "--allow-empty"], text.as_bytes()));
+    let ran = casetool_in_both(&["settle", "--explain", "--allow-empty"], text.as_bytes());
+    assert_eq!(
+        ran,
+        casetool_in_both(&["settle", "--allow-empty"], text.as_bytes())
+    );
     assert!(ran.text().contains("\nUnit 12, group 7\n  no events\n"));
 }
 
@@ -71,7 +77,7 @@ pub fn parted(text: &str) -> (Vec<(usize, String)>, String) {
 #[test]
 fn generated_cases_have_the_workings_of_their_events() {
     let mut random = Random::new(772);
-    let (mut cases, mut events) = (0, 0);
+    let (mut cases, mut copies, mut events) = (0, 0, 0);
     for place in 0..40 {
         let generated = any_case_in(in_turn(place), &mut random);
         let input = generated.input();
@@ -91,7 +97,8 @@ fn generated_cases_have_the_workings_of_their_events() {
             events += 1;
         }
         cases += 1;
+        copies += copies_of(&input);
     }
-    println!("{cases} settlements, {events} events of them worked alone");
-    assert!(events > 100);
+    println!("{cases} settlements, {copies} copies, {events} events of them worked alone");
+    assert!(events > 100 && copies > 15);
 }

@@ -8,7 +8,7 @@ use cases::{Kind, Random, Row};
 use crate::explain::parted;
 use crate::pencil::{self, Sheet};
 use crate::support::json::{Value, answer, schema};
-use crate::support::{casetool_with, in_turn};
+use crate::support::{casetool_with, copies_of, in_turn};
 
 /// Ten-thousandths of dollars, of cents.
 fn money(cents: u64) -> i128 {
@@ -40,10 +40,12 @@ fn follow(kind: Kind, steps: &str, row: &Row) -> bool {
 fn followed_with_a_pencil() {
     let mut random = Random::new(773);
     let (mut events, mut penalised, mut made_up, mut not_borne) = ([0; 5], 0, 0, 0);
+    let mut copies = 0;
     for place in 0..400 {
         let generated = any_case_in(in_turn(place), &mut random);
         let input = generated.input();
         let ran = casetool_with("money.pencil", &["settle", "--explain"], &input);
+        copies += copies_of(&input);
         assert_eq!((ran.status, ran.errors.as_str()), (0, ""));
         let mut rows = vec![0; input.rows_len];
         second::settle(&input.file, &input.correction, &mut rows);
@@ -62,10 +64,10 @@ fn followed_with_a_pencil() {
     }
     let [_, withheld, dispatch, fuel, bids] = events;
     println!(
-        "{withheld} withheld, {dispatch} dispatch, {fuel} fuel, {bids} bids; {penalised} with a penalty, {made_up} with a make-up, {not_borne} whose fuel day another bears"
+        "{withheld} withheld, {dispatch} dispatch, {fuel} fuel, {bids} bids; {penalised} with a penalty, {made_up} with a make-up, {not_borne} whose fuel day another bears; {copies} copies"
     );
     assert!(events[1..].iter().all(|&count| count > 1_000));
-    assert!(penalised > 1_000 && made_up > 20 && not_borne > 100);
+    assert!(penalised > 1_000 && made_up > 20 && not_borne > 100 && copies > 150);
 }
 
 fn integers(list: &Value) -> Vec<i128> {
@@ -223,6 +225,7 @@ struct Compared {
     events: usize,
     counted: usize,
     restored: usize,
+    copies: usize,
 }
 
 /// That the workings of a settlement are the second implementation's.
@@ -265,6 +268,7 @@ fn as_json_beside_the_second_implementation() {
         let input = generated.input();
         let arguments = ["settle", "--explain", "--format", "json"];
         let ran = casetool_with("money.json", &arguments, &input);
+        compared.copies += copies_of(&input);
         let value = answer(&ran, &schema);
         let workings = value.at("workings").list();
         assert_eq!(workings.len(), generated.case.events.len());
@@ -274,9 +278,10 @@ fn as_json_beside_the_second_implementation() {
         events,
         counted,
         restored,
+        copies,
     } = compared;
     println!(
-        "{events} events, {counted} records counted for N3, {restored} bids with restored hours"
+        "{events} events, {counted} records counted for N3, {restored} bids with restored hours, {copies} copies"
     );
-    assert!(events > 5_000 && counted > 1_000 && restored > 10);
+    assert!(events > 5_000 && counted > 1_000 && restored > 10 && copies > 100);
 }

@@ -11,7 +11,7 @@ mod programs;
 #[path = "../support/mod.rs"]
 mod support;
 
-use support::{casetool, repository, written};
+use support::{casetool, casetool_in_both, repository, written};
 
 /// The example, or its correction.
 fn example(name: &str) -> String {
@@ -22,10 +22,10 @@ fn example(name: &str) -> String {
 fn works_with(options: &[&str], text: &str, event: usize, expected: &str) {
     let event = event.to_string();
     let arguments = [&["working", "--event", &event], options].concat();
-    let ran = casetool(&arguments, text.as_bytes());
+    let ran = casetool_in_both(&arguments, text.as_bytes());
     assert_eq!((ran.status, ran.errors.as_str()), (0, ""));
     assert_eq!(ran.text(), expected);
-    assert_eq!(casetool(&arguments, &written(text)), ran);
+    assert_eq!(casetool_in_both(&arguments, &written(text)), ran);
 }
 
 fn works(text: &str, event: usize, expected: &str) {

@@ -2,7 +2,7 @@
 
 use std::path::Path;
 
-use crate::support::{casetool, file_with, written};
+use crate::support::{casetool, casetool_in_both, casetool_where, file_with, written};
 use crate::{example, works_with};
 
 #[test]
@@ -61,17 +61,20 @@ fn options_that_do_not_go_together() {
     }
 }
 
+/// Bytes of a case file that is cut in its first unit, and has no copy.
+const CUT: usize = 40;
+
 /// That an input is refused as the working of an hour is, by both commands in both formats, with this in the second line.
 fn refused(input: &[u8], correction: &[&str], said: &str) {
     let hour = ["working", "--event", "0", "--hour", "0"];
-    let expected = casetool(&[&hour, correction].concat(), input);
+    let has_copy = input.len() != CUT;
+    let expected = casetool_where(has_copy, &[&hour, correction].concat(), input);
     assert_eq!((expected.status, expected.output.len()), (1, 0));
     assert_eq!(expected.errors.lines().nth(1), Some(said));
     for arguments in [&hour[..3], &["settle", "--explain"]] {
         for format in ["text", "json"] {
-            let format = ["--format", format];
-            let ran = casetool(&[arguments, correction, &format].concat(), input);
-            assert_eq!(ran, expected);
+            let arguments = [arguments, correction, &["--format", format]].concat();
+            assert_eq!(casetool_where(has_copy, &arguments, input), expected);
         }
     }
 }
@@ -103,7 +106,7 @@ fn a_refused_case_is_refused_as_the_working_of_an_hour_is() {
         "casetool: standard input: line 11, column 14, 'type': did you mean kind?",
     );
     refused(
-        &written(&good)[..40],
+        &written(&good)[..CUT],
         &[],
         "the header: the last section, events, ends at 2,004; the file at 40",
     );
@@ -113,7 +116,7 @@ fn a_refused_case_is_refused_as_the_working_of_an_hour_is() {
 fn an_event_that_a_refused_case_lacks() {
     // The case is looked at first.
     let broken = example("two-plants.txt").replace("area 1", "area 2");
-    let ran = casetool(&["working", "--event", "99"], broken.as_bytes());
+    let ran = casetool_in_both(&["working", "--event", "99"], broken.as_bytes());
     assert_eq!(ran.status, 1);
     assert!(ran.errors.starts_with("casetool: refused 6: "));
 }
@@ -127,7 +130,7 @@ fn an_answer_goes_to_its_file_and_an_old_one_is_renamed() {
         let ran = casetool(&arguments, text.as_bytes());
         assert_eq!((ran.status, ran.output.len()), (0, 0));
         let answer = std::fs::read(&path).expect("the answer");
-        assert_eq!(answer, casetool(command, text.as_bytes()).output);
+        assert_eq!(answer, casetool_in_both(command, text.as_bytes()).output);
         let broken = text.replace("area 1", "area 2");
         let ran = casetool(&arguments, broken.as_bytes());
         assert_eq!((ran.status, Path::new(&path).exists()), (1, false));

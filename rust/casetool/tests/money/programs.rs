@@ -2,7 +2,7 @@
 
 use crate::example;
 use crate::support::json::{Value, answer, broken, parse, schema};
-use crate::support::{casetool, file_with};
+use crate::support::{casetool_in_both, file_with};
 
 /// The working of an event of the example, with its correction or without.
 fn worked(event: usize, corrected: bool) -> String {
@@ -15,7 +15,7 @@ fn worked(event: usize, corrected: bool) -> String {
     if corrected {
         arguments.extend(["--correction", &path]);
     }
-    let ran = casetool(&arguments, example("two-plants.txt").as_bytes());
+    let ran = casetool_in_both(&arguments, example("two-plants.txt").as_bytes());
     assert_eq!((ran.status, ran.errors.as_str()), (0, ""));
     answer(&ran, &schema());
     ran.text().to_string()
@@ -45,7 +45,7 @@ fn figures_that_a_kind_lacks_are_null() {
                 reference unit 12 component start-up-time value 60 minutes\n\
                 event day 8000 kind bids market DAM unit 12 period 44 component start-up-time impact-hours none\n";
     let arguments = ["working", "--event", "0", "--format", "json"];
-    let ran = casetool(&arguments, text.as_bytes());
+    let ran = casetool_in_both(&arguments, text.as_bytes());
     let value = answer(&ran, &schema());
     let bids = value.at("working").at("bids");
     assert_eq!(bids.at("reference").integer(), 60);
@@ -59,7 +59,7 @@ fn figures_that_a_kind_lacks_are_null() {
 fn steps_are_those_of_the_text() {
     let text = example("two-plants.txt");
     for event in ["0", "1", "2", "3", "4", "5"] {
-        let words = casetool(&["working", "--event", event], text.as_bytes());
+        let words = casetool_in_both(&["working", "--event", event], text.as_bytes());
         let sentences: Vec<&str> = words
             .text()
             .lines()
@@ -84,9 +84,9 @@ fn steps_are_those_of_the_text() {
 fn a_settlement_with_its_workings() {
     let text = example("two-plants.txt");
     let arguments = ["settle", "--explain", "--format", "json"];
-    let ran = casetool(&arguments, text.as_bytes());
+    let ran = casetool_in_both(&arguments, text.as_bytes());
     let value = answer(&ran, &schema());
-    let plain = casetool(&["settle", "--format", "json"], text.as_bytes());
+    let plain = casetool_in_both(&["settle", "--format", "json"], text.as_bytes());
     let plain = answer(&plain, &schema());
     for name in ["answer", "correction", "rows", "totals"] {
         assert_eq!(value.at(name), plain.at(name), "{name}");
@@ -145,7 +145,7 @@ const CHANGES: [(&str, &str); 22] = [
 fn the_schema_would_notice() {
     let schema = schema();
     let arguments = ["settle", "--explain", "--format", "json"];
-    let ran = casetool(&arguments, example("two-plants.txt").as_bytes());
+    let ran = casetool_in_both(&arguments, example("two-plants.txt").as_bytes());
     let text = ran.text();
     assert_eq!(broken(&parse(text), &schema, &schema), None);
     for (good, bad) in CHANGES {

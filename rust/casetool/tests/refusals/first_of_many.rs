@@ -1,9 +1,11 @@
 //! Cases that are broken in many places: the first record is named, with its field.
 
+use std::ops::Range;
+
 use attachment_h::ROWS_LENGTH;
 use attachment_h::layout::{Section, Version};
 use cases::Random;
-use cases::case::{Input, file_in, section_place, sections_of};
+use cases::case::{Input, file_in, section_place, sections_of, version_of};
 use cases::generator::Size;
 use casetool::place::Part;
 
@@ -17,28 +19,38 @@ fn first_of_many(input: &Input) -> (u8, usize, usize) {
     (number, place.record, place.at)
 }
 
+/// Every unit, reference, past entry or event broken, or every record of the correction.
+fn broken_everywhere(input: &Input) {
+    let version = version_of(&input.file);
+    for (number, section, byte) in [(6, 0, 4), (7, 1, 3), (9, 2, 2), (10, 3, 1)] {
+        let mut bad = input.clone();
+        let (offset, length) = section_place(&bad.file, section);
+        for record in (offset..offset + length).step_by(width(version, section)) {
+            bad.file[record + byte] = 2;
+        }
+        assert_eq!(first_of_many(&bad), (number, 0, byte));
+    }
+    let mut bad = input.clone();
+    bad.correction = sections_of(&input.file)[1].clone();
+    for record in bad.correction.chunks_exact_mut(width(version, 1)) {
+        record[3] = 2;
+    }
+    assert_eq!(first_of_many(&bad), (8, 0, 3));
+}
+
 #[test]
 fn the_first_of_many_is_named() {
-    // Every unit, reference, past entry or event broken, or every record of the correction.
     let mut random = Random::new(714);
+    let mut cases = 0;
     for place in 0..100 {
-        let version = in_turn(place);
-        let input = every_kind(version, &mut random, Size::Small).input();
-        for (number, section, byte) in [(6, 0, 4), (7, 1, 3), (9, 2, 2), (10, 3, 1)] {
-            let mut bad = input.clone();
-            let (offset, length) = section_place(&bad.file, section);
-            for record in (offset..offset + length).step_by(width(version, section)) {
-                bad.file[record + byte] = 2;
-            }
-            assert_eq!(first_of_many(&bad), (number, 0, byte));
+        let input = every_kind(in_turn(place), &mut random, Size::Small).input();
+        for input in input.with_copy() {
+            broken_everywhere(&input);
+            cases += 1;
         }
-        let mut bad = input.clone();
-        bad.correction = sections_of(&input.file)[1].clone();
-        for record in bad.correction.chunks_exact_mut(width(version, 1)) {
-            record[3] = 2;
-        }
-        assert_eq!(first_of_many(&bad), (8, 0, 3));
     }
+    println!("{cases} cases broken everywhere");
+    assert_eq!(cases, 150);
 }
 
 #[test]
@@ -79,101 +91,123 @@ fn the_first_of_many_numbers_is_named() {
     }
 }
 
-/// A case with other sections.
-fn with_sections(version: Version, sections: [Vec<u8>; 4], correction: &[u8]) -> Input {
-    Input {
-        file: file_in(version, &sections),
-        correction: correction.to_vec(),
-        rows_len: ROWS_LENGTH,
+/// The sections of a case, and its version.
+struct Whole {
+    version: Version,
+    sections: [Vec<u8>; 4],
+}
+
+impl Whole {
+    fn of(input: &Input) -> Whole {
+        Whole {
+            version: version_of(&input.file),
+            sections: sections_of(&input.file),
+        }
     }
+
+    fn events(&self) -> Vec<&[u8]> {
+        let events = self.sections[3].chunks_exact(width(self.version, 3));
+        events.collect()
+    }
+
+    /// Where the number of an event's unit stands.
+    fn number_of_event(&self) -> Range<usize> {
+        match self.version {
+            Version::One => 2..4,
+            Version::Two => 312..316,
+        }
+    }
+
+    /// The first place of the case with another section, or several, and a correction.
+    fn first_with(&self, others: &[(Section, &[u8])], correction: &[u8]) -> (u8, usize, usize) {
+        let mut sections = self.sections.clone();
+        for (section, bytes) in others {
+            sections[*section as usize] = bytes.to_vec();
+        }
+        first_of_many(&Input {
+            file: file_in(self.version, &sections),
+            correction: correction.to_vec(),
+            rows_len: ROWS_LENGTH,
+        })
+    }
+}
+
+/// 11: all in falling order, so that the second is the first after a later one.
+fn all_in_falling_order(whole: &Whole) {
+    let records = whole.events();
+    let falling: Vec<u8> = records.iter().rev().copied().flatten().copied().collect();
+    let [one, other] = [records.len() - 1, records.len() - 2].map(|place| records[place]);
+    let parts = [8..12, 0..1, 1..2, whole.number_of_event(), 6..7];
+    let part = parts
+        .into_iter()
+        .find(|part| one[part.clone()] != other[part.clone()]);
+    assert_eq!(
+        whole.first_with(&[(Section::Events, &falling)], &[]),
+        (11, 1, part.expect("a difference").start)
+    );
+}
+
+/// 12: no units, and so no references that would need them.
+fn without_units(whole: &Whole) {
+    let nothing: [(Section, &[u8]); 2] = [(Section::Units, &[]), (Section::References, &[])];
+    let at = whole.number_of_event().start;
+    assert_eq!(whole.first_with(&nothing, &[]), (12, 0, at));
+}
+
+/// 13: every a above its capability from some hour on, in all events of kinds 1 and 2.
+fn above_capability(whole: &Whole, hour: usize) {
+    let mut above = whole.sections[3].clone();
+    for event in above
+        .chunks_exact_mut(width(whole.version, 3))
+        .filter(|event| event[0] <= 2)
+    {
+        for cell in event[24..312].chunks_exact_mut(12).skip(hour) {
+            cell[..4].copy_from_slice(&50_001_u32.to_le_bytes());
+        }
+    }
+    let first = whole.events().iter().position(|event| event[0] <= 2);
+    assert_eq!(
+        whole.first_with(&[(Section::Events, &above)], &[]),
+        (13, first.expect("an event of kind 1 or 2"), 24 + 12 * hour)
+    );
+}
+
+/// 14: no references; then a correction of one reference that no event reads. Whether an event reads another.
+fn without_references(whole: &Whole) -> bool {
+    let (version, records) = (whole.version, whole.events());
+    let first = records.iter().position(|event| event[0] == 4);
+    assert_eq!(
+        whole.first_with(&[(Section::References, &[])], &[]),
+        (14, first.expect("a bid"), 6)
+    );
+    let mut unread = vec![0; width(version, 1)];
+    unread[2] = 8;
+    let number = Section::Units.unit_number(version, &whole.sections[0]);
+    Section::References.put_unit_number(version, &mut unread, number);
+    let reads = |event: &&[u8]| event[0] == 4 && matches!(event[6], 0 | 1 | 3);
+    let first = records.iter().position(reads);
+    if let Some(first) = first {
+        assert_eq!(whole.first_with(&[], &unread), (14, first, 6));
+    }
+    first.is_some()
 }
 
 #[test]
 fn the_first_of_many_events_is_named() {
     let mut random = Random::new(715);
-    let mut without_correct = 0;
+    let (mut cases, mut without_correct) = (0, 0);
     for place in 0..100 {
-        let version = in_turn(place);
-        let event_bytes = width(version, 3);
-        let input = every_kind(version, &mut random, Size::Small).input();
-        let [units, references, past, events] = sections_of(&input.file);
-        let records: Vec<&[u8]> = events.chunks_exact(event_bytes).collect();
-
-        // 11: all in falling order, so that the second is the first after a later one.
-        let falling: Vec<u8> = records.iter().rev().copied().flatten().copied().collect();
-        let bad = with_sections(
-            version,
-            [units.clone(), references.clone(), past.clone(), falling],
-            &[],
-        );
-        let [one, other] = [records.len() - 1, records.len() - 2].map(|place| records[place]);
-        let number = match version {
-            Version::One => 2..4,
-            Version::Two => 312..316,
-        };
-        let number_at = number.start;
-        let parts = [8..12, 0..1, 1..2, number, 6..7];
-        let part = parts
-            .into_iter()
-            .find(|part| one[part.clone()] != other[part.clone()]);
-        assert_eq!(
-            first_of_many(&bad),
-            (11, 1, part.expect("a difference").start)
-        );
-
-        // 12: no units, and so no references that would need them.
-        let bad = with_sections(
-            version,
-            [Vec::new(), Vec::new(), past.clone(), events.clone()],
-            &[],
-        );
-        assert_eq!(first_of_many(&bad), (12, 0, number_at));
-
-        // 13: every a above its capability from some hour on, in all events of kinds 1 and 2.
+        let input = every_kind(in_turn(place), &mut random, Size::Small).input();
         let hour = random.below(24);
-        let mut above = events.clone();
-        for event in above
-            .chunks_exact_mut(event_bytes)
-            .filter(|event| event[0] <= 2)
-        {
-            for cell in event[24..312].chunks_exact_mut(12).skip(hour) {
-                cell[..4].copy_from_slice(&50_001_u32.to_le_bytes());
-            }
-        }
-        let bad = with_sections(
-            version,
-            [units.clone(), references.clone(), past.clone(), above],
-            &[],
-        );
-        let first = records.iter().position(|event| event[0] <= 2);
-        let first = first.expect("an event of kind 1 or 2");
-        assert_eq!(first_of_many(&bad), (13, first, 24 + 12 * hour));
-
-        // 14: no references; then a correction of one reference that no event reads.
-        let bad = with_sections(
-            version,
-            [units.clone(), Vec::new(), past.clone(), events.clone()],
-            &[],
-        );
-        let first = records.iter().position(|event| event[0] == 4);
-        assert_eq!(first_of_many(&bad), (14, first.expect("a bid"), 6));
-        let mut unread = vec![0; width(version, 1)];
-        unread[2] = 8;
-        let number = Section::Units.unit_number(version, &units);
-        Section::References.put_unit_number(version, &mut unread, number);
-        let bad = with_sections(
-            version,
-            [units.clone(), references.clone(), past, events.clone()],
-            &unread,
-        );
-        let first = records
-            .iter()
-            .position(|event| event[0] == 4 && matches!(event[6], 0 | 1 | 3));
-        if let Some(first) = first {
-            assert_eq!(first_of_many(&bad), (14, first, 6));
-            without_correct += 1;
+        for input in input.with_copy() {
+            let whole = Whole::of(&input);
+            all_in_falling_order(&whole);
+            without_units(&whole);
+            above_capability(&whole, hour);
+            without_correct += usize::from(without_references(&whole));
+            cases += 1;
         }
     }
-    println!("{without_correct} cases without correct references");
-    assert!(without_correct > 20);
+    println!("{cases} cases, {without_correct} without correct references");
+    assert!(cases == 150 && without_correct > 30);
 }

@@ -196,18 +196,28 @@ fn names_its_record(place: &Place) {
     assert!(place.sentence.starts_with(&name), "{}", place.sentence);
 }
 
-/// Puts a fault into a case and looks whether its place is found; how many of record and field are known, if the case
-/// has a place for it.
-fn is_found(version: Version, fault: &Fault, size: Size, random: &mut Random) -> Option<usize> {
+/// Puts a fault into a case and looks whether its place is found, in its copy too; how many of record and field are
+/// known of each, if the case has a place for it.
+fn is_found(
+    version: Version,
+    fault: &Fault,
+    size: Size,
+    random: &mut Random,
+) -> Option<Vec<usize>> {
     let good = every_kind(version, random, size).input();
-    let mut bad = good.clone();
-    (fault.apply)(&mut bad, random)?;
+    let bad = fault.put_into(&good, random)?;
+    let both = good.with_copy().into_iter().zip(bad.with_copy());
+    Some(both.map(|(good, bad)| known(fault, &good, &bad)).collect())
+}
+
+/// That the place of a fault is found; how many of record and field are known.
+fn known(fault: &Fault, good: &Input, bad: &Input) -> usize {
     let name = fault.name;
-    let (number, place) = found(&bad).expect("a refusal");
+    let (number, place) = found(bad).expect("a refusal");
     assert_eq!(number, fault.number, "{name}");
-    let (part, mut record, field) = expected(fault, &good, &bad);
+    let (part, mut record, field) = expected(fault, good, bad);
     if number == 14 {
-        record = Some(first_without_reference(&bad));
+        record = Some(first_without_reference(bad));
     }
     assert_eq!(place.part, part, "{name}: {}", place.sentence);
     names_its_record(&place);
@@ -217,14 +227,14 @@ fn is_found(version: Version, fault: &Fault, size: Size, random: &mut Random) ->
     if let Some(field) = field {
         assert_eq!(place.at, field, "{name}: {}", place.sentence);
     }
-    Some(usize::from(record.is_some()) + usize::from(field.is_some()))
+    usize::from(record.is_some()) + usize::from(field.is_some())
 }
 
 #[test]
 fn every_fault_has_its_place() {
     let mut random = Random::new(711);
     for version in Version::ALL {
-        let (mut described, mut located, mut faults) = (0, 0, 0);
+        let (mut described, mut copies, mut located, mut faults) = (0, 0, 0, 0);
         for fault in faults_in(version) {
             let found = (0..60).filter_map(|round| {
                 let size = match round {
@@ -234,28 +244,37 @@ fn every_fault_has_its_place() {
                 };
                 is_found(version, fault, size, &mut random)
             });
-            let found: Vec<usize> = found.collect();
+            let found: Vec<Vec<usize>> = found.collect();
             assert!(!found.is_empty(), "no case for {}", fault.name);
+            let every = found.concat();
             described += found.len();
-            located += found.iter().filter(|&&known| known == 2).count();
+            copies += every.len() - found.len();
+            located += every.iter().filter(|&&known| known == 2).count();
             faults += 1;
         }
         println!(
-            "{version:?}: {described} of {faults} faults described, {located} with record and field"
+            "{version:?}: {described} of {faults} faults described, {copies} copies, {located} with record and field"
         );
+        assert_eq!(copies > 3_000, version == Version::One);
     }
 }
 
 #[test]
 fn an_accepted_case_has_no_place() {
     let mut random = Random::new(717);
+    let mut cases = 0;
     for place in 0..100 {
         let input = any_case_in(in_turn(place), &mut random).input();
-        for number in CHECKED.into_iter().filter(|number| *number != 1) {
-            let found = find(number, &input.file, &input.correction, input.rows_len);
-            assert_eq!(found, None, "{number}");
+        for input in input.with_copy() {
+            cases += 1;
+            for number in CHECKED.into_iter().filter(|number| *number != 1) {
+                let found = find(number, &input.file, &input.correction, input.rows_len);
+                assert_eq!(found, None, "{number}");
+            }
         }
     }
+    println!("{cases} accepted cases, {} of them copies", cases - 100);
+    assert!(cases > 130);
 }
 
 /// The field of the header that is the first to break a limit, by the name of the fault.
@@ -297,10 +316,9 @@ fn faults_of_the_header_have_their_field() {
         let good = every_kind(version, &mut random, Size::Small).input();
         for fault in faults_in(version).filter(|fault| (2..=5).contains(&fault.number)) {
             for _ in 0..40 {
-                let mut bad = good.clone();
-                if (fault.apply)(&mut bad, &mut random).is_none() {
+                let Some(bad) = fault.put_into(&good, &mut random) else {
                     continue;
-                }
+                };
                 let (_, place) = found(&bad).expect("a refusal");
                 let at = field_of_the_header(fault, &good, &bad);
                 assert_eq!(place.at, at, "{}: {}", fault.name, place.sentence);
@@ -311,12 +329,26 @@ fn faults_of_the_header_have_their_field() {
     println!("{located} faults of the header");
 }
 
+/// That the copy of an input, if it has one, is refused as it is, in the same record: how many copies.
+fn copy_found(input: &Input) -> usize {
+    let Some(copy) = input.version_2_copy() else {
+        return 0;
+    };
+    let record = |input| {
+        let (number, place) = found(input)?;
+        names_its_record(&place);
+        Some((number, place.part, place.record))
+    };
+    assert_eq!(record(&copy), record(input));
+    1
+}
+
 #[test]
 fn two_faults_and_noise_always_have_a_place() {
     let mut random = Random::new(713);
     let checked = |fault: &Fault| CHECKED.iter().position(|&number| number == fault.number);
     for version in Version::ALL {
-        let (mut pairs, mut noise, mut accepted) = (0, 0, 0);
+        let (mut pairs, mut noise, mut accepted, mut copies) = (0, 0, 0, 0);
         for first in faults_in(version) {
             // Two faults of 5 may leave no records in which the other finds its place.
             let later = |second: &&Fault| match first.number {
@@ -324,13 +356,12 @@ fn two_faults_and_noise_always_have_a_place() {
                 _ => checked(second) >= checked(first),
             };
             for second in faults_in(version).filter(later) {
-                let mut input = every_kind(version, &mut random, Size::Small).input();
+                let good = every_kind(version, &mut random, Size::Small).input();
                 // From the one that is checked last to the one that is checked first, which breaks what the other needs.
-                let both = (second.apply)(&mut input, &mut random)
-                    .and_then(|()| (first.apply)(&mut input, &mut random));
-                if both.is_some() {
-                    pairs += usize::from(found(&input).is_some());
-                }
+                let with_second = second.put_into(&good, &mut random);
+                let both = with_second.and_then(|input| first.put_into(&input, &mut random));
+                pairs += usize::from(both.as_ref().and_then(found).is_some());
+                copies += both.as_ref().map_or(0, copy_found);
             }
         }
         for _ in 0..6_000 {
@@ -343,10 +374,12 @@ fn two_faults_and_noise_always_have_a_place() {
                 }
                 None => accepted += 1,
             }
+            copies += copy_found(&input);
         }
         println!(
-            "{version:?}: {pairs} cases of two faults and {noise} of noise described, {accepted} accepted"
+            "{version:?}: {pairs} cases of two faults and {noise} of noise described, {accepted} accepted, {copies} copies"
         );
         assert!(pairs > 2_000 && noise > 3_000);
+        assert_eq!(copies > 4_000, version == Version::One);
     }
 }

@@ -2,6 +2,8 @@
 
 #![allow(dead_code)]
 
+pub mod alike;
+pub mod copies;
 #[cfg(unix)]
 pub mod fake;
 pub mod json;
@@ -31,8 +33,29 @@ impl Ran {
     }
 }
 
-/// Runs casetool in this process.
-pub fn casetool(arguments: &[&str], mut input: &[u8]) -> Ran {
+/// Runs casetool in this process. Of a version 1 case, text or correction its version 2 copy has to get the same answer.
+pub fn casetool(arguments: &[&str], input: &[u8]) -> Ran {
+    let ran = run(arguments, input);
+    alike::answered_alike(arguments, input, &ran);
+    ran
+}
+
+/// The same of what has to have a copy.
+#[track_caller]
+pub fn casetool_in_both(arguments: &[&str], input: &[u8]) -> Ran {
+    casetool_where(true, arguments, input)
+}
+
+/// The same of what has to have a copy, or to have none.
+#[track_caller]
+pub fn casetool_where(has_copy: bool, arguments: &[&str], input: &[u8]) -> Ran {
+    let ran = run(arguments, input);
+    let copied = alike::answered_alike(arguments, input, &ran);
+    assert_eq!(copied, has_copy, "a copy: {arguments:?}");
+    ran
+}
+
+fn run(arguments: &[&str], mut input: &[u8]) -> Ran {
     let arguments: Vec<OsString> = arguments.iter().map(OsString::from).collect();
     let (mut output, mut errors) = (Vec::new(), Vec::new());
     let status = casetool::run(&arguments, &mut input, &mut output, &mut errors);
@@ -69,12 +92,19 @@ pub fn file_with(name: &str, bytes: &[u8]) -> String {
     path.to_str().expect("a path of text").to_string()
 }
 
-/// Runs casetool on a case and its correction, which is put into a file of this name.
+/// Runs casetool on a case and its correction, which is put into a file of this name; and on their copies, where a version
+/// 1 case has one.
 pub fn casetool_with(name: &str, arguments: &[&str], input: &Input) -> Ran {
     let path = file_with(name, &input.correction);
     let correction: &[&str] = match input.correction.as_slice() {
         [] => &[],
         _ => &["--correction", &path],
     };
-    casetool(&[arguments, correction].concat(), &input.file)
+    let has_copy = input.version_2_copy().is_some();
+    casetool_where(has_copy, &[arguments, correction].concat(), &input.file)
+}
+
+/// How many copies an input has, one or none.
+pub fn copies_of(input: &Input) -> usize {
+    usize::from(input.version_2_copy().is_some())
 }

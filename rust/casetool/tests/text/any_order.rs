@@ -4,12 +4,12 @@
 use attachment_h::layout::{Section, Sections};
 use attachment_h::{ROWS_LENGTH, check};
 use cases::Random;
-use cases::case::file_in;
+use cases::case::{Input, file_in};
 use cases::generator::any_case_in;
 use casetool::text::show::case_text;
 use casetool::text::write::{case_file, correction};
 
-use crate::support::{casetool, in_turn, repository, written};
+use crate::support::{casetool_in_both, in_turn, repository, written};
 
 /// The records of a text, each with its hours.
 fn blocks(text: &str) -> Vec<String> {
@@ -27,14 +27,26 @@ fn blocks(text: &str) -> Vec<String> {
     found
 }
 
+/// So many generated cases of the versions in turn, and the copies of those of version 1.
+fn generated(count: usize, random: &mut Random) -> Vec<Input> {
+    let inputs = (0..count).flat_map(|place| {
+        let input = any_case_in(in_turn(place), random).input();
+        input.with_copy()
+    });
+    let inputs: Vec<Input> = inputs.collect();
+    println!("{count} cases, {} copies", inputs.len() - count);
+    assert!(inputs.len() > count + count / 3);
+    inputs
+}
+
 #[test]
 fn generated_cases_in_another_order() {
     let mut random = Random::new(741);
     let mut moved = 0;
-    for place in 0..200 {
-        let version = in_turn(place);
-        let file = any_case_in(version, &mut random).input().file;
-        let text = case_text(&Sections::of(&file).expect("an accepted case"));
+    let inputs = generated(200, &mut random);
+    for Input { file, .. } in &inputs {
+        let sections = Sections::of(file).expect("an accepted case");
+        let text = case_text(&sections);
         let mut records = blocks(&text);
         // Past entries stay in their order: it is theirs.
         for place in (1..records.len()).rev() {
@@ -44,12 +56,14 @@ fn generated_cases_in_another_order() {
                 records.swap(place, other);
             }
         }
-        let shuffled = format!("version {}\n{}", version.number(), records.concat());
+        let version = sections.version().number();
+        let shuffled = format!("version {version}\n{}", records.concat());
         moved += usize::from(blocks(&text) != records);
         let again = case_file(shuffled.as_bytes()).unwrap_or_else(|error| panic!("{error}"));
-        assert!(again.bytes == file, "another file of\n{shuffled}");
+        assert!(again.bytes == *file, "another file of\n{shuffled}");
     }
-    assert!(moved > 100, "{moved}");
+    println!("{moved} in another order");
+    assert!(moved > 150, "{moved}");
 }
 
 #[test]
@@ -65,9 +79,9 @@ fn events_are_numbered_as_the_rows_are() {
         &["working", "--event", "2"],
         &["working", "--event", "3"],
     ] {
-        let as_it_is = casetool(arguments, text.as_bytes());
+        let as_it_is = casetool_in_both(arguments, text.as_bytes());
         assert_eq!((as_it_is.status, as_it_is.errors.as_str()), (0, ""));
-        assert_eq!(casetool(arguments, reversed.as_bytes()), as_it_is);
+        assert_eq!(casetool_in_both(arguments, reversed.as_bytes()), as_it_is);
     }
 }
 
@@ -95,7 +109,7 @@ fn two_equal_ones_have_both_lines() {
         ),
     ] {
         for command in ["write", "check", "settle"] {
-            let ran = casetool(&[command], text.as_bytes());
+            let ran = casetool_in_both(&[command], text.as_bytes());
             assert_eq!((ran.status, ran.output.len()), (1, 0));
             assert_eq!(ran.errors, format!("casetool: standard input: {message}\n"));
         }
@@ -118,10 +132,9 @@ const AS_WRITTEN: &str = "order as-written\n";
 fn a_file_out_of_order_begins_with_order_as_written() {
     let mut random = Random::new(742);
     let (mut kept, mut plain) = (0, 0);
-    for place in 0..300 {
-        let version = in_turn(place);
-        let file = any_case_in(version, &mut random).input().file;
+    for Input { file, .. } in generated(300, &mut random) {
         let sections = Sections::of(&file).expect("an accepted case");
+        let version = sections.version();
         let mut parts = Section::ALL.map(|section| sections.bytes(section).to_vec());
         let section = random.pick(&[Section::Units, Section::References, Section::Events]);
         let (part, bytes) = (&mut parts[section as usize], section.width(version));
@@ -156,15 +169,15 @@ fn a_correction_out_of_order() {
         "reference unit 13 component energy value $1.00\n",
         "reference unit 12 component energy value $1.00\n",
     ];
-    let sorted = casetool(&["write", "--correction"], lines.concat().as_bytes());
+    let sorted = casetool_in_both(&["write", "--correction"], lines.concat().as_bytes());
     let text = format!("{AS_WRITTEN}{}", lines.concat());
-    let kept = casetool(&["write", "--correction"], text.as_bytes());
+    let kept = casetool_in_both(&["write", "--correction"], text.as_bytes());
     assert_eq!((sorted.status, kept.status), (0, 0));
     assert_eq!(
         [&kept.output[8..], &kept.output[..8]].concat(),
         sorted.output
     );
-    let shown = casetool(&["show", "--correction"], &kept.output);
+    let shown = casetool_in_both(&["show", "--correction"], &kept.output);
     assert_eq!(
         shown.text(),
         format!(
@@ -172,7 +185,7 @@ fn a_correction_out_of_order() {
             lines.concat()
         )
     );
-    let shown = casetool(&["show", "--correction"], &sorted.output);
+    let shown = casetool_in_both(&["show", "--correction"], &sorted.output);
     let start = "version 1\n# correction: 2 references\n";
     assert!(shown.text().starts_with(start));
 }
@@ -202,7 +215,7 @@ fn the_line_of_the_order() {
             "line 1, column 18, 'unit': expected as-written after order, and nothing else",
         ),
     ] {
-        let ran = casetool(&["write", "--allow-empty"], text.as_bytes());
+        let ran = casetool_in_both(&["write", "--allow-empty"], text.as_bytes());
         assert_eq!(
             (ran.status, ran.errors),
             (1, format!("casetool: standard input: {message}\n"))

@@ -1,6 +1,6 @@
 //! What people write is taken where it can be meant in one way, and gives the same file as the form of `show`.
 
-use crate::support::{casetool, written};
+use crate::support::{casetool_in_both, written};
 
 const UNIT: &str = "unit 12 group 7 area no capability 1500.0 MW response-rate 10.0 MW/min\n";
 
@@ -81,7 +81,7 @@ fn lists_of_hours() {
         same(&text(hours), &text(as_shown));
     }
     // A list ends where a key begins, and has its own column in a message.
-    let ran = casetool(&["write"], text("0, 5–7, 24 ").as_bytes());
+    let ran = casetool_in_both(&["write"], text("0, 5–7, 24 ").as_bytes());
     let errors: Vec<&str> = ran.errors.lines().collect();
     assert_eq!(
         errors,
@@ -121,12 +121,12 @@ fn markets_kinds_and_marks() {
         &event("dispatch", "real-time", "0", "1"),
     );
     // Yes and no are for marks alone.
-    let ran = casetool(&["write"], b"unit yes group 7 capability 1");
+    let ran = casetool_in_both(&["write"], b"unit yes group 7 capability 1");
     assert_eq!(
         ran.errors,
         "casetool: standard input: line 1, column 6, 'yes': expected a whole number\n"
     );
-    let ran = casetool(&["write"], event("withheld", "DA", "1", "0").as_bytes());
+    let ran = casetool_in_both(&["write"], event("withheld", "DA", "1", "0").as_bytes());
     let message = "casetool: standard input: line 2, column 37, 'DA': expected day-ahead, real-time, or its number, 0 or 1\n";
     assert_eq!((ran.status, ran.errors.as_str()), (1, message));
 }
@@ -135,7 +135,7 @@ fn markets_kinds_and_marks() {
 fn it_is_shown_in_one_form() {
     let text = "event day 2021-11-26 kind WITHHELD market DAM unit 12 period 44 impact yes\n\
                 hours 5, 6, 7 withheld 1,200.5MW price $-1,234.5\nunit 12 group 7 area no capability 1,500MW";
-    let shown = casetool(&["show"], &written(text));
+    let shown = casetool_in_both(&["show"], &written(text));
     assert_eq!(
         shown.text(),
         "version 1\n# case: 1 unit, 0 references, 0 past entries, 1 event\n\n\

@@ -2,14 +2,18 @@
 
 use casetool::text::write::{case_file, correction};
 
-use crate::support::casetool;
+use crate::support::{casetool, casetool_where};
 
 const UNIT: &str = "unit 12 group 7 area no capability 500.0 MW";
 const EVENT: &str = "event day 8000 kind bids market day-ahead unit 12 period 44 component energy impact-hours none";
 
 /// That a text is turned away with these messages.
 fn wrong_all(text: &str, messages: &[&str]) {
-    let ran = casetool(&["write"], text.as_bytes());
+    // Of a unit's number out of its range and of a file that is too long version 2 says other figures: version/lines.rs.
+    let is_of_version_1 = text.starts_with("unit -1 ")
+        || text.starts_with("unit 4294967296 ")
+        || messages[0].ends_with("over 65,000 bytes");
+    let ran = casetool_where(!is_of_version_1, &["write"], text.as_bytes());
     assert_eq!((ran.status, ran.output.len()), (1, 0), "{text}");
     let said = |message: &&str| format!("casetool: standard input: {message}\n");
     assert_eq!(ran.errors, messages.iter().map(said).collect::<String>());

@@ -2,11 +2,11 @@
 
 use casetool::text::near::meant;
 
-use crate::support::casetool;
+use crate::support::casetool_in_both;
 
 /// What is said of a text, without the name of its source.
 fn said(text: &str) -> Vec<String> {
-    let ran = casetool(&["write"], text.as_bytes());
+    let ran = casetool_in_both(&["write"], text.as_bytes());
     assert_eq!((ran.status, ran.output.len()), (1, 0), "{text}");
     let lines = ran.errors.lines();
     lines
@@ -48,9 +48,12 @@ event day 8001 kind dispatch market real-time unit 13 period 44 impact 1
     assert_eq!(said(text), expected);
     // The same are said by every command that reads a text.
     for command in ["check", "settle"] {
-        let ran = casetool(&[command], text.as_bytes());
+        let ran = casetool_in_both(&[command], text.as_bytes());
         assert_eq!((ran.status, ran.output.len()), (1, 0));
-        assert_eq!(ran.errors, casetool(&["write"], text.as_bytes()).errors);
+        assert_eq!(
+            ran.errors,
+            casetool_in_both(&["write"], text.as_bytes()).errors
+        );
     }
 }
 

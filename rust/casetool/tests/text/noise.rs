@@ -4,6 +4,7 @@ use std::collections::BTreeMap;
 
 use attachment_h::layout::Sections;
 use cases::Random;
+use cases::case::Input;
 use cases::generator::{Size, Wanted, case, random_bytes_in};
 use casetool::text::bytes::text_of;
 use casetool::text::show::case_text;
@@ -66,9 +67,10 @@ fn noise_never_panics() {
     for place in 0..3_000 {
         let version = in_turn(place);
         let wanted = Wanted::of(Size::Small).in_version(version);
-        let file = case(&mut random, wanted).input().file;
-        let text = case_text(&Sections::of(&file).expect("an accepted case"));
-        seen(&changed(&mut random, &text));
+        for Input { file, .. } in case(&mut random, wanted).input().with_copy() {
+            let text = case_text(&Sections::of(&file).expect("an accepted case"));
+            seen(&changed(&mut random, &text));
+        }
         seen(&random_bytes_in(version, &mut random).file);
         let noise: Vec<u8> = (0..random.below(200))
             .map(|_| random.bits() as u8)

@@ -3,8 +3,9 @@
 use attachment_h::layout::{Section, Sections, Version, converted, file_in};
 use attachment_h::{ROWS_LENGTH, check, settle};
 use cases::Random;
+use cases::case::version_of;
 use cases::faults::faults_in;
-use cases::generator::{Size, Wanted, any_case, any_case_in, case};
+use cases::generator::{Wanted, any_case, any_case_in, case};
 
 use crate::support::{Ran, casetool, file_with, in_turn, written};
 use crate::{PAST, event, example, reference, two_hundred_events, unit};
@@ -70,15 +71,17 @@ fn generated_cases_and_their_corrections() {
 fn a_copy_into_its_own_version_is_the_same() {
     let mut random = Random::new(783);
     for place in 0..100 {
-        let version = in_turn(place);
-        let input = any_case_in(version, &mut random).input();
-        assert_eq!(copied(version, &[], &input.file), input.file);
-        let number = version.number().to_string();
-        let options = ["--correction", "--version", &number];
-        assert_eq!(
-            copied(version, &options, &input.correction),
-            input.correction
-        );
+        let input = any_case_in(in_turn(place), &mut random).input();
+        for input in input.with_copy() {
+            let version = version_of(&input.file);
+            assert_eq!(copied(version, &[], &input.file), input.file);
+            let number = version.number().to_string();
+            let options = ["--correction", "--version", &number];
+            assert_eq!(
+                copied(version, &options, &input.correction),
+                input.correction
+            );
+        }
     }
     // Also one that has no copy in the other version, and one that is refused.
     for text in [
@@ -95,61 +98,54 @@ fn a_copy_into_its_own_version_is_the_same() {
     }
 }
 
+/// That a faulty case is copied and back, and refused as before, or why it has no copy; whether it has one, nothing where
+/// it has no sections.
+fn faulty_case(name: &str, file: &[u8], to: Version) -> Option<bool> {
+    let ran = convert(to, &[], file);
+    let Some(sections) = Sections::of(file) else {
+        let start = "casetool: standard input: this file has no sections to convert\nrefused ";
+        assert!(ran.errors.starts_with(start), "{name}: {}", ran.errors);
+        assert_eq!((ran.status, ran.output.len()), (1, 0));
+        return None;
+    };
+    let from = sections.version();
+    let parts = Section::ALL.map(|section| converted(section, sections.bytes(section), from, to));
+    let [Some(units), Some(references), Some(past), Some(events)] = parts else {
+        assert!(ran.errors.contains("version 1 has numbers up to 65,535"));
+        return Some(false);
+    };
+    let has_old = |section: Section| {
+        let mut records = sections.records(section);
+        records.any(|record| section.old_number(record) != 0)
+    };
+    if from == Version::Two && Section::ALL.into_iter().any(has_old) {
+        let why = "; version 1 has no place for it\n";
+        assert!(ran.errors.contains(why), "{name}");
+        return Some(false);
+    }
+    let copy = file_in(to, &[units, references, past, events]);
+    assert_eq!((ran.status, &ran.output), (0, &copy), "{name}");
+    assert_eq!(copied(from, &[], &copy), file, "{name}");
+    let number = |file| check(file, &[], ROWS_LENGTH);
+    assert_eq!(number(&copy), number(file), "{name}");
+    Some(true)
+}
+
 #[test]
 fn faulty_cases() {
     let mut random = Random::new(784);
     let (mut copies, mut refused) = (0, 0);
     for version in Version::ALL {
         for fault in faults_in(version).filter(|fault| fault.number != 8 && fault.number != 15) {
-            let wanted = Wanted {
-                every_kind: true,
-                ..Wanted::of(Size::Small).in_version(version)
-            };
-            let mut input = case(&mut random, wanted).input();
-            if (fault.apply)(&mut input, &mut random).is_none() {
+            let wanted = Wanted::every_kind().in_version(version);
+            let good = case(&mut random, wanted).input();
+            let Some(input) = fault.put_into(&good, &mut random) else {
                 continue;
+            };
+            match faulty_case(fault.name, &input.file, other(version)) {
+                Some(has_copy) => copies += usize::from(has_copy),
+                None => refused += 1,
             }
-            let to = other(version);
-            let ran = convert(to, &[], &input.file);
-            let Some(sections) = Sections::of(&input.file) else {
-                let start =
-                    "casetool: standard input: this file has no sections to convert\nrefused ";
-                assert!(
-                    ran.errors.starts_with(start),
-                    "{}: {}",
-                    fault.name,
-                    ran.errors
-                );
-                assert_eq!((ran.status, ran.output.len()), (1, 0));
-                refused += 1;
-                continue;
-            };
-            let parts = Section::ALL.map(|section| {
-                let from = sections.version();
-                converted(section, sections.bytes(section), from, to)
-            });
-            let [Some(units), Some(references), Some(past), Some(events)] = parts else {
-                assert!(ran.errors.contains("version 1 has numbers up to 65,535"));
-                continue;
-            };
-            let has_old = sections.version() == Version::Two
-                && Section::ALL.into_iter().any(|section| {
-                    let mut records = sections.records(section);
-                    records.any(|record| section.old_number(record) != 0)
-                });
-            if has_old {
-                assert!(
-                    ran.errors.contains("; version 1 has no place for it\n"),
-                    "{}",
-                    fault.name
-                );
-                continue;
-            }
-            let copy = file_in(to, &[units, references, past, events]);
-            assert_eq!((ran.status, &ran.output), (0, &copy), "{}", fault.name);
-            let number = |file| check(file, &[], ROWS_LENGTH);
-            assert_eq!(number(&copy), number(&input.file), "{}", fault.name);
-            copies += 1;
         }
     }
     println!("{copies} faulty cases copied, {refused} without sections");

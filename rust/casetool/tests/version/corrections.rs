@@ -4,7 +4,7 @@ use attachment_h::layout::{Section, Version};
 use cases::Random;
 use cases::generator::any_case_in;
 
-use crate::support::{Ran, casetool, file_with, in_turn, written};
+use crate::support::{Ran, casetool, copies, file_with, in_turn, written};
 use crate::{event, reference, unit};
 
 const CORRECT: &str = "reference unit 12 component energy value $30.00\n";
@@ -357,42 +357,43 @@ fn what_version_can_be_given_to() {
     assert_eq!((ran.status, ran.text()), (0, "casetool 0.1.0\n"));
 }
 
+/// That a correction comes back with its version; whether its length alone says that.
+fn comes_back_by_its_length(version: Version, bytes: &[u8]) -> bool {
+    let number = version.number().to_string();
+    let told = casetool(&["show", "--correction", "--version", &number], bytes);
+    assert_eq!((told.status, told.errors.as_str()), (0, ""));
+    let again = casetool(&["write", "--correction"], &told.output);
+    assert_eq!((again.status, again.output.as_slice()), (0, bytes));
+    let alone = casetool(&["show", "--correction"], bytes);
+    let may_be = |version: &&Version| {
+        let width = Section::References.width(**version);
+        bytes.len().is_multiple_of(width) && bytes.len() / width <= 256
+    };
+    let by_length = Version::ALL.iter().filter(may_be).count() == 1;
+    assert!(alone.status == 2 || alone == told);
+    assert_eq!(alone.status == 0, by_length);
+    by_length
+}
+
 #[test]
 fn generated_corrections_come_back_through_the_command_line() {
     let mut random = Random::new(782);
     let (mut asked, mut by_length) = (0, 0);
     for place in 0..200 {
         let version = in_turn(place);
-        let input = any_case_in(version, &mut random).input();
-        let bytes = &input.correction;
+        let bytes = any_case_in(version, &mut random).input().correction;
         if bytes.is_empty() {
             continue;
         }
-        let number = version.number().to_string();
-        let told = casetool(&["show", "--correction", "--version", &number], bytes);
-        assert_eq!((told.status, told.errors.as_str()), (0, ""));
-        let again = casetool(&["write", "--correction"], &told.output);
-        assert_eq!((again.status, &again.output), (0, bytes));
-        let alone = casetool(&["show", "--correction"], bytes);
-        let may_be = |version: &Version| {
-            let width = Section::References.width(*version);
-            bytes.len().is_multiple_of(width) && bytes.len() / width <= 256
-        };
-        match Version::ALL
-            .iter()
-            .filter(|version| may_be(version))
-            .count()
-        {
-            1 => {
-                assert_eq!(alone, told);
-                by_length += 1;
-            }
-            _ => {
-                assert_eq!(alone.status, 2);
-                asked += 1;
+        let copy = copies::of_correction(&bytes).filter(|_| version == Version::One);
+        let copy = copy.map(|copy| (Version::Two, copy));
+        for (version, bytes) in [(version, bytes)].into_iter().chain(copy) {
+            match comes_back_by_its_length(version, &bytes) {
+                true => by_length += 1,
+                false => asked += 1,
             }
         }
     }
     println!("{by_length} corrections by their length, {asked} asked about");
-    assert!(by_length > 20 && asked > 20);
+    assert!(by_length > 30 && asked > 30);
 }
