@@ -36,7 +36,8 @@ fn events_refusal<'a>(
 ) -> u8
     requires { ⌜ UnitsInOrder format (now units) × InOrder format (now references) × InOrder format (correctReferences (now correction) (now references))
         × (eventsIn format (now events) .count ≤ mostEvents) × (eventNumbersFine format (now events) ≡ true) ⌝ }
-    ensures { λ r. ⌜ r ≡ eventsRefusal format (now (units .entry)) (now (references .entry)) (correctReferences (now (correction .entry)) (now (references .entry))) (now (events .entry)) «rows_length» ⌝ }
+    ensures { λ r. ⌜ r ≡ eventsRefusal format (now (units .entry)) (now (references .entry)) (correctReferences (now (correction .entry)) (now (references .entry)))
+        (now (events .entry)) «rows_length» ⌝ }
     ensures { λ r. ⌜ (r ≡ 0 → Found format (now (units .entry)) (now (references .entry)) (correctReferences (now (correction .entry)) (now (references .entry))) (now (events .entry))
         (now (places .exit)) (now (levels .exit)) (now (corrects .exit))) ⌝ }
 {

@@ -268,7 +268,8 @@ pub fn references_found<'a>(
     corrects: &mut [u32; layout::MOST_EVENTS],
 ) -> bool
     requires { ⌜ InOrder format (now references) × InOrder format (correctReferences (now correction) (now references)) × (eventsIn format (now events) .count ≤ mostEvents) ⌝ }
-    ensures { λ r. ⌜ r ≡ referencesFound (referencesIn format (now (references .entry))) (referencesIn format (correctReferences (now (correction .entry)) (now (references .entry)))) (eventsIn format (now (events .entry))) ⌝ }
+    ensures { λ r. ⌜ r ≡ referencesFound (referencesIn format (now (references .entry)))
+        (referencesIn format (correctReferences (now (correction .entry)) (now (references .entry)))) (eventsIn format (now (events .entry))) ⌝ }
     ensures { λ r. ⌜ (r ≡ true → Holds (eventsIn format (now (events .entry)) .count) (now (levels .exit))
         (bidLevel (referencesIn format (now (references .entry))) (eventsIn format (now (events .entry))))) ⌝ }
     ensures { λ r. ⌜ (r ≡ true → Holds (eventsIn format (now (events .entry)) .count) (now (corrects .exit))
