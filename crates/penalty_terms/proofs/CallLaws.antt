@@ -1,12 +1,12 @@
 -- With multiplier 0 there is no penalty; else the smaller call of the kind, given the terms, gives that of the row that bears it.
 use Prim.Native.Nat.{ℕ, _-_, _*_, _^_, _≤_, _<_}
-use mathlib.Core.Bool.{Bool, true, false, cond, not, _&&_, _||_}
+use mathlib.Core.Bool.{Bool, true, false, cond, _&&_, _||_}
 use mathlib.Core.List.{List}
 use mathlib.Core.Path.{_≡_, refl, sym, ap, _∙_}
 use native.Mathlib.Nat.{zero-mul}
 use native.Mathlib.Omega.{arith}
-use lib.Dec.{ltb, leb, eqb}
-use lib.ListN.{length, getD}
+use lib.Dec.{ltb, eqb}
+use lib.ListN.{length}
 use borrow.Author.Tests.{ltb-true, eqb-true, eqb-false, ne-eqb, lt-ltb, le-ltb, le-leb}
 use Rattle.binary.specs.Bounded.{sumTo}
 use Rattle.binary.specs.Lists.{listTo}
@@ -14,7 +14,8 @@ use Rattle.binary.specs.Word.{positivePart, negativePart, within}
 use Rattle.binary.proofs.BoundedLaws.{sum-same, any-false}
 use Rattle.binary.proofs.ListLaws.{list-length, list-at}
 use Rattle.tariff.specs.Ranges.{highestCapability, highestPrice, highestRevenue, highestE, highestT}
-use Rattle.tariff.specs.SanctionRules.{cents, ladder, withheldPenalty, fuelCharge, fuelPenalty}
+use Rattle.tariff.specs.SanctionRules.{cents, withheldPenalty, fuelCharge, fuelPenalty}
+use Rattle.tariff.proofs.LadderLaws.{ladder-halves}
 use Rattle.calls.specs.Answers.{answer, given}
 use Rattle.penalty_calls.specs.SanctionCalls.{badMultiplier, badHour, badHours, amountAt, withheldPenaltyAnswer, badRevenue, badRevenues, revenueAt, dispatchPenaltyAnswer, badFuel, fuelPenaltyAnswer}
 use Rattle.casefile.specs.Layout.{mostHours}
@@ -72,17 +73,13 @@ after-range true = refl
 after-range false = refl
 
 multiplier-good : (c : Case) (i : ℕ) → badMultiplier (withheldMultiplier c i) ≡ false
-unfolding badMultiplier withheldMultiplier ladder
-multiplier-good c i = go (isInstance c i) (leb 4 (instances c 1 i)) (leb 3 (instances c 2 i))
+unfolding badMultiplier withheldMultiplier
+multiplier-good c i =
+    go (isInstance c i) _ (ladder-halves (λ m. badMultiplier m ≡ false) refl refl refl refl (instances c 2 i) (instances c 1 i)) refl
   where
-    bad : ℕ → Bool
-    bad m = not (eqb m 0 || eqb m 2 || eqb m 4 || eqb m 6)
-
-    go : (a b d : Bool) → bad (cond a (cond b 6 (cond d 4 2)) 0) ≡ false
-    go true true d = refl
-    go true false true = refl
-    go true false false = refl
-    go false b d = refl
+    go : (b : Bool) (m : ℕ) → badMultiplier m ≡ false → badMultiplier 0 ≡ false → badMultiplier (cond b m 0) ≡ false
+    go true m x y = x
+    go false m x y = y
 
 -- ---- no multiplier
 

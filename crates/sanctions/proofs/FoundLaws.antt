@@ -29,6 +29,7 @@ use Rattle.sanctions.specs.StageFound.{Accepted, FoundMasks, Sound, high
 use Rattle.sanctions.specs.StageTables.{hourEnergy, hourRevenue, withImpact, instanceAt, instanceOf, rowCounts, entryOf, entryCounts, instancesHere, instancesPast, instancesAt, noSanction, instanceRow, withheldRow, dispatchRow, energyIn, ledBy, energyAt, tccAt, partyDay, fuelRowCounts, fuelEntryCounts, multiplierAt, partyPenalty, fuelRow, rowAt, sanctionOf}
 use Rattle.sanctions.specs.declared.instances.Instances.{Instances}
 use Rattle.sanctions.specs.declared.sanction.Sanction.{Sanction}
+use Rattle.sanctions.proofs.InstanceLaws.{instances-positive}
 use Rattle.sanctions.proofs.PenaltyBounds.{penalty-bound}
 use Rattle.conduct.proofs.SumLaws.{cell-amount}
 use Rattle.conduct.proofs.PartyLaws.{fields-run, together-fields, leader-le, leader-together}
@@ -136,21 +137,17 @@ module _ (format : Format) (u r p e groups leaders masks : List ℕ) (acc : Acce
   unfolding withheldAmount caseIn eventsIn
   amount-is i l = sum-same mostHours _ _ (λ h m. hour-energy-is (positivePart 32) i h l m)
 
-  some : (k i : ℕ) → instances c k i ≡ 0 → ⊥
-  unfolding instances
-  some k i z = omega arith
-
   withheld-is : (i : ℕ) → i < n → withheldRow format p e groups masks i ≡ row (withheldMultiplier c i) (N3 c i) (N2 c i) (withheldPenaltyOf c i)
   unfolding withheldRow instanceRow noSanction withheldMultiplier N3 N2 withheldPenaltyOf
   withheld-is i l =
-      rw (instances-are i l, amount-is i l) (go (isInstance c i) (instances c 2 i) (instances c 1 i) (withheldAmount c i) (some 2 i))
+      rw (instances-are i l, amount-is i l) (go (isInstance c i) (instances c 2 i) (instances c 1 i) (withheldAmount c i) (instances-positive c 2 i))
     where
-      go : (b : Bool) (x y z : ℕ) → (x ≡ 0 → ⊥)
+      go : (b : Bool) (x y z : ℕ) → 1 ≤ x
           → cond (eqb (cond b x 0) 0) (row 0 0 0 0)
           (row (ladder (cond b x 0) (cond b y 0)) (cond b x 0) (cond b y 0) (withheldPenalty (ladder (cond b x 0) (cond b y 0)) z))
           ≡ row (cond b (ladder x y) 0) (cond b x 0) (cond b y 0) (withheldPenalty (cond b (ladder x y) 0) z)
-      go true x y z ne = rw (ne-eqb x 0 ne)
-      go false x y z ne = ap (row 0 0 0) (sym (no-multiplier z))
+      go true x y z l = rw (ne-eqb x 0 (λ e. omega arith))
+      go false x y z l = ap (row 0 0 0) (sym (no-multiplier z))
 
   no-instance : (i : ℕ) → eqb (eventsIn format e .kind i) 1 ≡ false → (N3 c i ≡ 0) × (N2 c i ≡ 0)
   unfolding N3 N2 isInstance caseIn

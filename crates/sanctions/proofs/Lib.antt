@@ -1,4 +1,5 @@
 pub mod PenaltyBounds
+pub mod InstanceLaws
 pub mod TableLaws
 pub mod PartyLaws
 pub mod PriorLaws

@@ -4,12 +4,13 @@ use mathlib.Core.Bool.{Bool, cond, _&&_}
 use mathlib.Core.Path.{_≡_, _∙_}
 use native.Mathlib.Nat.{mul-le-mul, mul-le-mul-right, sub-le}
 use native.Mathlib.Omega.{arith}
-use lib.Dec.{T, ltb, leb, eqb, eqb→eq}
+use lib.Dec.{T, ltb, eqb, eqb→eq}
 use Rattle.binary.specs.Bounded.{sumTo}
 use Rattle.binary.specs.Word.{positivePart, negativePart}
 use Rattle.binary.proofs.Implies.{cond-bound, and-left}
 use Rattle.binary.proofs.BoundedLaws.{sum-bound}
 use Rattle.tariff.specs.SanctionRules.{cents, ladder, withheldPenalty, dispatchPenalty, fuelCharge, fuelPenalty}
+use Rattle.tariff.proofs.LadderLaws.{ladder-halves}
 use Rattle.tariff.specs.Ranges.{highestCapability, highestPrice, highestRevenue, highestEnergy, highestPriceChange, highestFuelMoney}
 use Rattle.casefile.specs.Layout.{mostHours, mostEvents}
 use Rattle.casefile.specs.Case.{Case}
@@ -41,8 +42,7 @@ abbrev dayTcc : ℕ
 dayTcc = mostEvents * highestFuelMoney
 
 ladder-bound : (n k : ℕ) → ladder n k ≤ 6
-unfolding ladder
-ladder-bound n k = cond-bound (leb 4 k) (λ _. omega arith) (λ _. cond-bound (leb 3 n) (λ _. omega arith) (λ _. omega arith))
+ladder-bound = ladder-halves (λ m. m ≤ 6) (omega arith) (omega arith) (omega arith) (omega arith)
 
 after-bound : (prior : Bool) → fuelMultiplierAfter prior ≤ 6
 unfolding fuelMultiplierAfter

@@ -9,6 +9,7 @@ use Rattle.binary.specs.Bounded.{sumTo, countTo, anyTo}
 use Rattle.binary.specs.Integers.{signed, sumℤTo}
 use Rattle.binary.specs.Lists.{Bytes}
 use Rattle.binary.specs.Word.{positivePart, negativePart}
+use Rattle.tariff.specs.Ladder.{InstancesInRange, AsPrinted}
 use Rattle.tariff.specs.SanctionRules.{periodCounts, ladder, withheldPenalty, dispatchPenalty, fuelDayCounts, fuelPenalty}
 use Rattle.casefile.specs.Case.{Violation, Case}
 use Rattle.casefile.specs.Decode.{decode}
@@ -164,6 +165,23 @@ penalty c i =
 
 unfoldable pub totalPenalty : Case → ℕ
 totalPenalty c = sumTo (c .events .count) (penalty c)
+
+-- ---- instances and the ladder
+
+-- 1 ≤ N2 ≤ N3 ≤ 456, so that exactly one case of the ladder holds, and the row has its multiplier
+pub record ByLadder (c : Case) (i : ℕ) : Type 0 where
+  pub range : InstancesInRange (N3 c i) (N2 c i)
+  pub printed : AsPrinted (N3 c i) (N2 c i)
+  pub on-row : multiplier c i ≡ ladder (N3 c i) (N2 c i)
+
+-- this holds for every instance of every accepted case
+abbrev pub InstancesByLadder : Type 0
+InstancesByLadder =
+    (file correction : List ℕ) (rowsLength i : ℕ)
+    → refusal file correction rowsLength ≡ 0
+    → i < decode file .events .count
+    → isInstance (decode file) i ≡ true
+    → ByLadder (decode file) i
 
 -- ---- M by the whole file
 

@@ -1,3 +1,4 @@
 pub mod ComparisonLaws
 pub mod PercentLaws
 pub mod RuleLaws
+pub mod LadderLaws

@@ -1,5 +1,5 @@
--- The tests, the ladder and the penalties on plain numbers are monotone: a worse a, a larger sum, count or multiplier keeps a
--- flag and lowers no figure.
+-- The tests, windows and penalties on plain numbers are monotone: a worse a, a larger sum, a longer window or a larger multiplier
+-- keeps a flag and lowers no figure.
 use Prim.Native.Nat.{ℕ, _+_, _-_, _*_, _/_, _≤_, _<_}
 use mathlib.Core.Bool.{Bool, true, false, cond, _&&_}
 use mathlib.Core.Logic.{_≢_}
@@ -9,11 +9,11 @@ use native.Mathlib.Omega.{arith}
 use borrow.Author.Tests.{ltb-true, ltb-false}
 use lib.Dec.{T, ltb, leb, eqb, ltb→lt, lt→ltb, leb→le, eqb→eq}
 use Rattle.binary.specs.Word.{positivePart}
-use Rattle.binary.proofs.Implies.{_⇒_, mono, and-given, or-mono, and-right}
+use Rattle.binary.proofs.Implies.{_⇒_, mono, leb-mono, and-given, or-mono, and-right}
 use Rattle.tariff.specs.Threshold.{thresholdOf}
 use Rattle.tariff.specs.declared.threshold.Threshold.{Threshold}
 use Rattle.tariff.specs.ConductTests.{exceeds, increase, lowerTest, constrainedTest, percentTest, timeTest, minimumComparison, maximumTest, bidTest, withheldTest, dispatchTest}
-use Rattle.tariff.specs.SanctionRules.{cents, ladder, withheldPenalty, dispatchPenalty, fuelCharge, fuelPenalty}
+use Rattle.tariff.specs.SanctionRules.{cents, periodCounts, withheldPenalty, dispatchPenalty, fuelCharge, fuelPenalty}
 
 -- ---- conduct tests
 
@@ -86,20 +86,6 @@ unfolding cents
 cents-mono parts x y p h =
     le-div-iff-mul-le p .1 (omega (arith, div-mul-le-self (x + parts / 2) parts))
 
-pub ladder-mono : {n n′ k k′ : ℕ} → n ≤ n′ → k ≤ k′ → ladder n k ≤ ladder n′ k′
-unfolding ladder
-ladder-mono {n} {n′} {k} {k′} f g = go (leb 4 k) (leb 4 k′) (leb 3 n) (leb 3 n′) (search mono) (search mono)
-  where
-    go : (p p′ q q′ : Bool) → p ⇒ p′ → q ⇒ q′ → cond p 6 (cond q 4 2) ≤ cond p′ 6 (cond q′ 4 2)
-    go true true q q′ f g = omega arith
-    go true false q q′ f g = absurd (f .give tt)
-    go false true true q′ f g = omega arith
-    go false true false q′ f g = omega arith
-    go false false true true f g = omega arith
-    go false false true false f g = absurd (g .give tt)
-    go false false false true f g = omega arith
-    go false false false false f g = omega arith
-
 pub withheld-penalty-mono : (m m′ x x′ : ℕ) → m ≤ m′ → x ≤ x′ → withheldPenalty m x ≤ withheldPenalty m′ x′
 unfolding withheldPenalty
 withheld-penalty-mono m m′ x x′ f g = cents-mono 20 _ _ (omega arith) (mul-le-mul f g)
@@ -130,3 +116,8 @@ fuel-penalty-mono M M′ gain loss T f g =
     go x y h false false p q = cents-mono 20 x y (omega arith) h
 
 -- ---- windows
+
+-- a period in the shorter window is in the longer one
+pub period-wider : {k k′ : ℕ} → k ≤ k′ → (p q : ℕ) → periodCounts k p q ⇒ periodCounts k′ p q
+unfolding periodCounts
+period-wider f p q = and-given (leb q p) (λ _. leb-mono p (omega arith))

@@ -1,7 +1,7 @@
 -- Multipliers in halves and penalties in cents, on plain numbers (docs/RULES.md, S; tariff 23.4.3).
 use Prim.Native.Nat.{ℕ, _+_, _-_, _*_, _/_}
 use mathlib.Core.Bool.{Bool, cond, _&&_}
-use lib.Dec.{ltb, leb}
+use lib.Dec.{ltb, leb, eqb}
 
 -- rounded once, at the end, half a cent up (S16): x is in that many parts of a cent
 unfoldable pub cents : (parts x : ℕ) → ℕ
@@ -11,9 +11,17 @@ cents parts x = (x + parts / 2) / parts
 unfoldable pub periodCounts : (k p q : ℕ) → Bool
 periodCounts k p q = leb q p && leb p (q + k)
 
--- the multiplier in halves
+-- the multiplier of an instance in halves (S5): the four cases in the tariff's order, and 0 where none of them holds
 unfoldable pub ladder : (N3 N2 : ℕ) → ℕ
-ladder N3 N2 = cond (leb 4 N2) 6 (cond (leb 3 N3) 4 2)
+ladder N3 N2 =
+    -- 23.4.3.4.1: the first instance
+    cond (eqb N3 1) 2
+    -- 23.4.3.4.2: the second
+    (cond (eqb N3 2) 2
+    -- 23.4.3.4.3: the third or a later one in three periods, at most the third in two
+    (cond (leb 3 N3 && leb N2 3) 4
+    -- 23.4.3.4.4: the fourth or a later one in two periods
+    (cond (leb 4 N2) 6 0)))
 
 -- amount is the sum over flagged hours of a × (b, or 0 if negative), in tenths of a cent
 unfoldable pub withheldPenalty : (multiplier amount : ℕ) → ℕ

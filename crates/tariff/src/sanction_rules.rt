@@ -22,17 +22,23 @@ pub fn period_counts(k: u8, own: u16, period: u16) -> bool
     (period <= own) & ((own as u32) <= (period as u32) + (k as u32))
 }
 
-// The multiplier of an instance.
+// The multiplier of an instance; 0 where none of the four cases holds.
 pub fn ladder(n3: u32, n2: u32) -> u8
     ensures { λ r. ⌜ r ≡ ladder n3 n2 ⌝ }
 {
+    if n3 == 1 {
+        return 2; // 23.4.3.4.1
+    }
+    if n3 == 2 {
+        return 2; // 23.4.3.4.2
+    }
+    if (3 <= n3) & (n2 <= 3) {
+        return 4; // 23.4.3.4.3
+    }
     if 4 <= n2 {
-        return 6;
+        return 6; // 23.4.3.4.4
     }
-    if 3 <= n3 {
-        return 4;
-    }
-    2
+    0
 }
 
 // amount is the sum over flagged hours of a × (b, or 0 if negative).

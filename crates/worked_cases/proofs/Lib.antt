@@ -1,5 +1,5 @@
 pub mod Refusals
 pub mod MixedSettlements
 pub mod Settlements
-pub mod FuelMultipliers
+pub mod Multipliers
 pub mod Workings

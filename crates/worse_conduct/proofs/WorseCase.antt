@@ -17,9 +17,11 @@ use Rattle.casefile.specs.Lookup.{unitOf, groupOf, referenceOf}
 use Rattle.conduct.specs.Flags.{tight, together, sumTogether, timeBid, timeTotal, bidFlag, groupCapability, groupSum, withheldFlag, dispatchFlag, fuelFlag, flagged, flagMask}
 use Rattle.sanctions.specs.Penalties.{flaggedWithImpact, isInstance, countsHere, countsPast, instances, withheldMultiplier, withheldAmount, withheldPenaltyOf, dispatchMultiplier, dispatchRevenue, dispatchPenaltyOf, energyPart, gain, loss, tccChange, lowestUnit, countsFuel, pastFuel, fuelStands, fuelMultiplierAfter, fuelPenaltyUnder, priorFuel, fuelMultiplier, fuelPenaltyOf, multiplier, penalty, totalPenalty}
 use Rattle.sanctions.proofs.PenaltyBounds.{same-kind}
+use Rattle.sanctions.proofs.InstanceLaws.{instances-positive}
 use Rattle.sanctions.proofs.EnergyLaws.{loss-at-most}
 use Rattle.worse_conduct.specs.Promise.{EnergyNotNegative}
-use Rattle.tariff.proofs.RuleLaws.{increase-mono, bid-mono, withheld-mono, dispatch-mono, ladder-mono, withheld-penalty-mono, dispatch-penalty-mono, fuel-penalty-mono}
+use Rattle.tariff.proofs.LadderLaws.{ladder-mono}
+use Rattle.tariff.proofs.RuleLaws.{increase-mono, bid-mono, withheld-mono, dispatch-mono, withheld-penalty-mono, dispatch-penalty-mono, fuel-penalty-mono}
 
 -- what the changes do to the cells' a: no MW of kinds 1 and 2 is lowered, fuel is left, no bid is moved back
 pub record WorseAmounts (e : Events) (a a′ : ℕ → ℕ → ℕ) : Type 0 where
@@ -113,7 +115,7 @@ module _ (u : Units) (r : References) (p p′ : Past) (e : Events) (a a′ : ℕ
 
   withheld-multiplier : (i : ℕ) → withheldMultiplier c i ≤ withheldMultiplier c′ i
   unfolding withheldMultiplier
-  withheld-multiplier i = count-le (instance-kept i) (ladder-mono (instances-worse 2 i) (instances-worse 1 i))
+  withheld-multiplier i = count-le (instance-kept i) (ladder-mono (instances-positive c 2 i) (instances-worse 2 i) (instances-worse 1 i))
 
   withheld-amount : (i : ℕ) → 1 ≤ e .kind i → e .kind i ≤ 2 → withheldAmount c i ≤ withheldAmount c′ i
   unfolding withheldAmount
