@@ -2,19 +2,28 @@
 use Prim.Native.Nat.{ℕ, _*_}
 use mathlib.Core.Bool.{Bool, false, not, _||_}
 use mathlib.Core.List.{List}
+use mathlib.Core.Path.{_≡_}
 use lib.Dec.{ltb, eqb}
 use lib.ListN.{length, getD}
 use Rattle.binary.specs.Bounded.{anyTo, sumTo}
 use Rattle.binary.specs.Word.{positivePart, negativePart, within}
 use Rattle.tariff.specs.Ranges.{highestCapability, highestPrice, highestRevenue, highestDay, fewestInstances, mostInstances, fewestPeriodsBack, mostPeriodsBack, highestE, highestT, lowestFuelMultiplier, highestFuelMultiplier}
+use Rattle.tariff.specs.Ladder.{InstancesInRange, AsPrinted}
 use Rattle.tariff.specs.SanctionRules.{ladder, withheldPenalty, dispatchPenalty, fuelPenalty, fuelDayCounts, periodCounts}
 use Rattle.tariff.specs.DefaultBidRules.{dayHours}
-use Rattle.calls.specs.Answers.{Answer, answer, bit}
+use Rattle.calls.specs.Answers.{Answer, refused, given, answer, bit}
 
 -- N2 is at most N3
+unfoldable pub badInstances : (N3 N2 : ℕ) → Bool
+badInstances N3 N2 = ltb N3 fewestInstances || ltb mostInstances N3 || ltb N2 fewestInstances || ltb N3 N2
+
 unfoldable pub multiplierAnswer : (N3 N2 : ℕ) → Answer
-multiplierAnswer N3 N2 =
-    answer false (ltb N3 fewestInstances || ltb mostInstances N3 || ltb N2 fewestInstances || ltb N3 N2) (ladder N3 N2)
+multiplierAnswer N3 N2 = answer false (badInstances N3 N2) (ladder N3 N2)
+
+-- in range the call gives the halves of the one case that holds, and out of it 10
+pub record AnsweredAsPrinted (N3 N2 : ℕ) : Type 0 where
+  pub in-range : InstancesInRange N3 N2 → (multiplierAnswer N3 N2 ≡ given (ladder N3 N2)) × AsPrinted N3 N2
+  pub out-of-range : ¬ InstancesInRange N3 N2 → multiplierAnswer N3 N2 ≡ refused 10
 
 -- in halves, what the ladder gives, or 0 for no instance
 unfoldable pub badMultiplier : (multiplier : ℕ) → Bool

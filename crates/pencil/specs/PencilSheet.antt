@@ -13,7 +13,7 @@ use Rattle.tariff.specs.DefaultBidRules.{between, spanned, spanMask}
 use Rattle.calls.specs.Answers.{given, bit, answer, timesGiven, timeAnswered}
 use Rattle.calls.specs.OutOfRange.{badReference, badBid, badUnit}
 use Rattle.test_calls.specs.ConductCalls.{increaseTotal, bidAnswer, timesAnswer, withheldAnswer}
-use Rattle.penalty_calls.specs.SanctionCalls.{badMultiplier, badHour, badHours, amountAt, badFuel, multiplierAnswer, withheldPenaltyAnswer, fuelPenaltyAnswer}
+use Rattle.penalty_calls.specs.SanctionCalls.{badInstances, badMultiplier, badHour, badHours, amountAt, badFuel, multiplierAnswer, withheldPenaltyAnswer, fuelPenaltyAnswer}
 use Rattle.bid_calls.specs.DefaultBidCalls.{spanAnswer}
 
 -- the hours from the first to the last, as a mask
@@ -51,7 +51,7 @@ pub record Pencil : Type 0 where
   pub fuel-loss-three : fuelPenaltyAnswer (2 ^ 64 - 10000000) 2000000 3 ≡ given 500000
 
 pub pencil : Pencil
-unfolding sumTo anyTo firstTo lastTo maskTo bitOf positivePart negativePart within referenceInRange bidInRange thresholdOf increase lowerTest constrainedTest percentTest timeTest maximumTest bidTest unitLimit groupLimit withheldTest cents ladder withheldPenalty fuelCharge fuelPenalty between spanned spanMask bit answer timeAnswered badReference badBid badUnit badMultiplier badHour badHours amountAt badFuel increaseTotal bidAnswer timesAnswer withheldAnswer multiplierAnswer withheldPenaltyAnswer fuelPenaltyAnswer spanAnswer
+unfolding sumTo anyTo firstTo lastTo maskTo bitOf positivePart negativePart within referenceInRange bidInRange thresholdOf increase lowerTest constrainedTest percentTest timeTest maximumTest bidTest unitLimit groupLimit withheldTest cents ladder withheldPenalty fuelCharge fuelPenalty between spanned spanMask bit answer timeAnswered badReference badBid badUnit badInstances badMultiplier badHour badHours amountAt badFuel increaseTotal bidAnswer timesAnswer withheldAnswer multiplierAnswer withheldPenaltyAnswer fuelPenaltyAnswer spanAnswer
 pencil =
     record {
       withheld-500 = refl;
