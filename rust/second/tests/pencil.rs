@@ -63,6 +63,38 @@ fn multipliers_of_n3_and_n2() {
     assert_eq!(calls::multiplier(456, 456), Ok(6));
 }
 
+/// The cases of request 3 in the tariff's order, each with whether it holds and its halves.
+fn printed_cases(n3: u16, n2: u16) -> [(bool, u8); 4] {
+    [
+        (n3 == 1, 2),            // 23.4.3.4.1
+        (n3 == 2, 2),            // 23.4.3.4.2
+        (n3 >= 3 && n2 <= 3, 4), // 23.4.3.4.3
+        (n2 >= 4, 6),            // 23.4.3.4.4
+    ]
+}
+
+#[test]
+fn exactly_one_printed_case_holds() {
+    let mut held = [0; 4];
+    for n3 in 1..=456 {
+        for n2 in 1..=n3 {
+            let cases = printed_cases(n3, n2);
+            let holding: Vec<usize> = (0..4).filter(|&case| cases[case].0).collect();
+            let [case] = holding[..] else {
+                panic!("N3 {n3}, N2 {n2}: of the cases from 0 {holding:?} hold");
+            };
+            assert_eq!(
+                calls::multiplier(n3, n2),
+                Ok(cases[case].1),
+                "N3 {n3}, N2 {n2}"
+            );
+            held[case] += 1;
+        }
+    }
+    // 454 N3 with three N2 each; N2 from 4 to N3 for N3 from 4 to 456.
+    assert_eq!(held, [1, 2, 3 * 454, 453 * 454 / 2]);
+}
+
 #[test]
 fn a_fourth_instance_is_counted_over_two_periods() {
     // One entry two periods before and two in the own period: N3 4, N2 3.
