@@ -1,5 +1,5 @@
--- A unit found by its number, and a reference by its unit and component. Numbers and references strictly rise (limits 6 to 8),
--- so that the last match is the only one.
+-- A unit found by its number, a reference by its unit and component, and events together. Numbers and references strictly rise
+-- (limits 6 to 8), so that the last match is the only one.
 use Prim.Native.Nat.{ℕ, _+_, _*_, _^_}
 use mathlib.Core.Bool.{Bool, cond, _&&_, _||_}
 use mathlib.Core.List.{List}
@@ -26,6 +26,12 @@ unitOf c i = placeOf (c .units) (c .events .unit i)
 
 unfoldable pub groupOf : Case → ℕ → ℕ
 groupOf c i = c .units .group (unitOf c i)
+
+-- event j is of event i's kind, day, market and group (docs/RULES.md, K15); for kind 3 that is a party-day
+unfoldable pub together : Case → (i j : ℕ) → Bool
+together c i j =
+    eqb (c .events .kind j) (c .events .kind i) && eqb (c .events .day j) (c .events .day i)
+    && eqb (c .events .market j) (c .events .market i) && eqb (groupOf c j) (groupOf c i)
 
 -- reference j is of this unit and component
 unfoldable pub isReference : References → (unit component j : ℕ) → Bool

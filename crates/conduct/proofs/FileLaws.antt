@@ -7,26 +7,26 @@ use native.Mathlib.Omega.{arith}
 use borrow.Author.Tests.{eqb-true}
 use lib.Dec.{eqb}
 use lib.ListN.{length, getD}
-use Rattle.casefile.specs.declared.layout.Format.{Format}
 use Rattle.binary.specs.Bounded.{maskTo}
 use Rattle.binary.specs.Lists.{Bytes, Holds}
 use Rattle.binary.proofs.Implies.{and-l, and-r}
 use Rattle.binary.proofs.BoundedLaws.{sum-same}
 use Rattle.binary.proofs.MaskLaws.{mask-same}
 use Rattle.tariff.specs.ConductTests.{increase}
+use Rattle.casefile.specs.declared.layout.Format.{Format}
 use Rattle.casefile.specs.Layout.{sectionCount, mostHours, headerWidth, mostPast, mostEvents, longestFile}
 use Rattle.casefile.specs.Decode.{formatIn, sectionOf, HasSection, unitsIn, referencesIn, pastIn, eventsIn, caseIn, decode}
-use Rattle.casefile.specs.Lookup.{unitOf, groupOf, referenceOf, bidLevel}
+use Rattle.casefile.specs.Lookup.{unitOf, groupOf, referenceOf, bidLevel, together}
 use Rattle.casefile.proofs.RecordLaws.{count-is}
 use Rattle.limits.proofs.LookupLaws.{events-place}
 use Rattle.limits.specs.Refusal.{eventsListed}
 use Rattle.limits.specs.StageChecked.{AcceptedFile}
 use Rattle.limits.proofs.AcceptedLaws as case
-use Rattle.conduct.specs.Flags.{tight, together, sumTogether, timeBid, timeTotal, bidFlag, groupCapability, groupSum, withheldFlag, dispatchFlag, fuelFlag, flagged, flagMask}
-use Rattle.conduct.specs.StageParties.{RunsTogether, leaderOf}
+use Rattle.party_runs.specs.StageParties.{RunsTogether, leaderOf}
+use Rattle.party_runs.proofs.PartyLaws.{accepted-runs, unit-sections, group-sections, leader-sections}
+use Rattle.conduct.specs.Flags.{tight, sumTogether, timeBid, timeTotal, bidFlag, groupCapability, groupSum, withheldFlag, dispatchFlag, fuelFlag, flagged, flagMask}
 use Rattle.conduct.specs.StageTime.{BidsInOrder}
 use Rattle.conduct.specs.StageFlags.{timeTotalIn, bidFlagIn, flaggedIn, flagMaskIn, Led}
-use Rattle.conduct.proofs.PartyLaws.{accepted-runs, unit-sections, group-sections, leader-sections}
 use Rattle.conduct.proofs.SumLaws.{cond-given}
 use Rattle.conduct.proofs.TimeLaws.{bids-in-order}
 use Rattle.conduct.proofs.MaskLaws.{hours-are}

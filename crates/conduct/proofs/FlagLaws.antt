@@ -11,19 +11,19 @@ use borrow.Author.Tests.{eqb-true, eqb-false, ne-eqb, ltb-true, ltb-false}
 use lib.Dec.{ltb, eqb}
 use lib.ListN.{length, getD, set}
 use lib.Seq.{getD-set-same, getD-set-other}
-use Rattle.casefile.specs.declared.layout.Format.{Format}
 use Rattle.binary.specs.Bounded.{sumTo, bitOf}
 use Rattle.binary.specs.Lists.{Holds}
 use Rattle.binary.proofs.BoundedLaws.{sum-same}
 use Rattle.binary.proofs.MaskLaws.{mask-same}
+use Rattle.casefile.specs.declared.layout.Format.{Format}
 use Rattle.casefile.specs.Layout.{mostHours}
 use Rattle.casefile.specs.Case.{Case}
 use Rattle.casefile.specs.Decode.{unitsIn, eventsIn, caseIn}
-use Rattle.casefile.specs.Lookup.{unitOf, groupOf}
-use Rattle.conduct.specs.Flags.{together, sumTogether, timeBid, groupCapability, fuelFlag}
-use Rattle.conduct.specs.StageParties.{sameRun, RunEnd, leaderOf}
+use Rattle.casefile.specs.Lookup.{unitOf, groupOf, together}
+use Rattle.party_runs.specs.StageParties.{sameRun, RunEnd, leaderOf}
+use Rattle.party_runs.proofs.PartyLaws.{together-fields, together-sym, together-same, any-together, leader-le, leader-together, leader-same, leader-eqb, fields-run}
+use Rattle.conduct.specs.Flags.{sumTogether, timeBid, groupCapability, fuelFlag}
 use Rattle.conduct.specs.StageFlags.{partyFigure, ledSum, partySum, PartyWithin, HasRow, capabilityOf, listedCapability, timeTotalIn, totalRead, flaggedIn, flagMaskIn, maskIn, Led, memberMask, LeaderFlagged, PartyFlagged, Flagged}
-use Rattle.conduct.proofs.PartyLaws.{together-fields, together-sym, together-same, any-together, leader-le, leader-together, leader-same, leader-eqb, fields-run}
 use Rattle.conduct.proofs.MaskLaws.{hours-are, mask-is}
 use Rattle.conduct.proofs.SumLaws.{capability-is}
 

@@ -10,21 +10,21 @@ use borrow.Author.Tests.{eqb-true, eqb-false, eq-eqb, ne-eqb, ltb-true, ltb-fals
 use lib.Dec.{ltb, eqb}
 use lib.ListN.{length, getD, set, replicate, getD-replicate, List·getD-eq-default, length-replicate}
 use lib.Seq.{getD-set-same, getD-set-other}
-use Rattle.casefile.specs.declared.layout.Format.{Format}
 use Rattle.binary.specs.Bounded.{sumTo, countTo, bitOf}
 use Rattle.binary.specs.Bytes.{u32At}
 use Rattle.binary.specs.Lists.{Bytes}
 use Rattle.binary.proofs.Implies.{same-test}
 use Rattle.binary.proofs.BoundedLaws.{sum-none, sum-more, sum-same, any-count}
+use Rattle.casefile.specs.declared.layout.Format.{Format}
 use Rattle.casefile.specs.Layout.{mostHours, cellWidth}
 use Rattle.casefile.specs.Case.{Case}
 use Rattle.casefile.specs.Decode.{eventsIn, amountsIn, caseIn, cellsFrom, cellsIn}
-use Rattle.casefile.specs.Lookup.{groupOf}
+use Rattle.casefile.specs.Lookup.{groupOf, together}
 use Rattle.casefile.specs.StageRead.{cellOf}
 use Rattle.casefile.proofs.RecordLaws.{value-lt, cells-bytes}
-use Rattle.conduct.specs.Flags.{together, sumTogether, groupSum, groupCapability, fuelFlag}
+use Rattle.party_runs.proofs.PartyLaws.{together-fields}
+use Rattle.conduct.specs.Flags.{sumTogether, groupSum, groupCapability, fuelFlag}
 use Rattle.conduct.specs.StageFlags.{Added, counted, partyFigure, ledSum, PartyWithin, HasRow, capabilityShare, capabilityOf}
-use Rattle.conduct.proofs.PartyLaws.{together-fields}
 
 -- ---- choices and sums
 

@@ -14,8 +14,8 @@ use Rattle.casefile.specs.Case.{Units, Events, Case}
 use Rattle.casefile.specs.Decode.{cellsFrom, unitsIn, eventsIn, caseIn}
 use Rattle.casefile.specs.Lookup.{unitOf}
 use Rattle.limits.specs.Refusal.{eventsListed}
+use Rattle.party_runs.specs.StageParties.{leaderOf, RunEnd}
 use Rattle.conduct.specs.Flags.{tight, sumTogether, timeBid, groupCapability, withheldFlag, dispatchFlag, fuelFlag}
-use Rattle.conduct.specs.StageParties.{leaderOf, RunEnd}
 use Rattle.conduct.specs.StageMasks.{testOf, tightHours, failsAt}
 
 -- ---- rows of sums

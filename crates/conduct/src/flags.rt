@@ -7,16 +7,14 @@ ghost use Rattle.binary.specs.Lists.{Holds};
 ghost use Rattle.casefile.specs.Decode.{eventsIn, caseIn, decode, unitsIn};
 ghost use Rattle.casefile.specs.Lookup.{unitOf, groupOf, bidLevel};
 ghost use Rattle.limits.specs.StageChecked.{AcceptedFile};
+ghost use Rattle.party_runs.specs.StageParties.{RunsTogether, RunEnd, leaderOf};
 ghost use Rattle.conduct.specs.Flags.{flagMask};
-ghost use Rattle.conduct.specs.StageParties.{RunsTogether, RunEnd, leaderOf};
 ghost use Rattle.conduct.specs.StageMasks.{SmallRow};
 ghost use Rattle.conduct.specs.StageFlags.{flagMaskIn, maskIn, memberMask, Led, EndCarried, bidMask, LeaderFlagged, PartyFlagged};
 ghost use Rattle.conduct.specs.StageTime.{BidsInOrder};
 use crate::masks::failing_hours;
 use crate::masks::test_of;
 use crate::masks::tight_hours;
-use crate::parties::find_parties;
-use crate::parties::run_end;
 use crate::sums::listed_capability;
 use crate::sums::party_sums;
 use crate::time::bid_totals;
@@ -27,6 +25,8 @@ use casefile::header::format_of;
 use casefile::header::section;
 use casefile::layout;
 use casefile::layout::Format;
+use party_runs::parties::find_parties;
+use party_runs::parties::run_end;
 
 // The flagged hours of event i, whose unit stands at that place; sums are those that its test reads.
 fn event_mask(

@@ -11,12 +11,12 @@ use Rattle.binary.proofs.Implies.{and-l, and-r}
 use Rattle.binary.proofs.BoundedLaws.{any-true, last-holds}
 use Rattle.casefile.specs.Case.{Case}
 use Rattle.casefile.specs.Decode.{formatIn, sectionOf, caseIn, decode}
+use Rattle.casefile.specs.Lookup.{together}
 use Rattle.limits.specs.Refusal.{orderFine}
 use Rattle.limits.specs.StageChecked.{AcceptedFile}
 use Rattle.limits.proofs.LookupLaws.{last-below}
-use Rattle.conduct.specs.Flags.{together}
-use Rattle.conduct.specs.StageParties.{leaderOf}
-use Rattle.conduct.proofs.PartyLaws.{together-fields, leader-le, leader-together, leader-same}
+use Rattle.party_runs.specs.StageParties.{leaderOf}
+use Rattle.party_runs.proofs.PartyLaws.{together-fields, leader-le, leader-together, leader-same}
 use Rattle.sanctions.specs.Penalties.{lowestUnit}
 use Rattle.sanctions.specs.StageFound.{Accepted}
 use Rattle.sanctions.proofs.PartyLaws.{lowest-leader}

@@ -25,9 +25,9 @@ use Rattle.limits.specs.Refusal.{refusal, mostRows}
 use Rattle.limits.specs.StageChecked.{AcceptedFile}
 use Rattle.limits.proofs.AcceptedLaws as case
 use Rattle.limits.proofs.SectionLaws.{cell-ranges, amount-bound}
+use Rattle.party_runs.specs.StageParties.{leaderOf}
+use Rattle.party_runs.proofs.PartyLaws.{leader-together}
 use Rattle.conduct.specs.Flags.{flagged}
-use Rattle.conduct.specs.StageParties.{leaderOf}
-use Rattle.conduct.proofs.PartyLaws.{leader-together}
 use Rattle.sanctions.specs.Penalties.{flaggedWithImpact, isInstance, instances, withheldMultiplier, withheldAmount, withheldPenaltyOf, dispatchMultiplier, dispatchRevenue, dispatchPenaltyOf, gain, loss, tccChange, lowestUnit, fuelMultiplierAfter, fuelPenaltyUnder, fuelMultiplier, fuelPenaltyOf, multiplier, penalty}
 use Rattle.penalty_terms.specs.declared.penalty_working.PenaltyWorking.{PenaltyWorking}
 use Rattle.penalty_terms.specs.PenaltyWorking.{bearer, penaltyWorkingAt, refusedPenalty, penaltyWorkingOf}

@@ -17,14 +17,14 @@ use Rattle.tariff.specs.Ranges.{highestFuelMoney, highestEnergy, highestPriceCh
 use Rattle.casefile.specs.Layout.{mostHours, mostUnits}
 use Rattle.casefile.specs.Case.{Case}
 use Rattle.casefile.specs.Decode.{formatIn, sectionOf, eventsIn, caseIn, decode}
-use Rattle.casefile.specs.Lookup.{isListed, unitOf}
+use Rattle.casefile.specs.Lookup.{isListed, unitOf, together}
 use Rattle.limits.specs.Refusal.{eventListed, eventsListed, orderFine, refusal}
 use Rattle.limits.proofs.AcceptedLaws as case
 use Rattle.limits.proofs.LookupLaws.{listed-place, listed-number}
 use Rattle.limits.proofs.RangeLaws.{numbers-in-order}
 use Rattle.limits.proofs.SectionLaws.{units-in-order, cell-ranges}
-use Rattle.conduct.specs.Flags.{together, sumTogether, fuelFlag}
-use Rattle.conduct.proofs.PartyLaws.{together-fields}
+use Rattle.party_runs.proofs.PartyLaws.{together-fields}
+use Rattle.conduct.specs.Flags.{sumTogether, fuelFlag}
 use Rattle.sanctions.specs.Penalties.{energyPart, gain, loss, tccChange}
 
 -- ---- figures of events whose places rise

@@ -17,12 +17,12 @@ use Rattle.casefile.specs.declared.layout.Format.{Format}
 use Rattle.casefile.specs.Layout.{mostHours}
 use Rattle.casefile.specs.Case.{Case}
 use Rattle.casefile.specs.Decode.{formatIn, sectionOf, cellsFrom, eventsIn, caseIn, decode}
+use Rattle.casefile.proofs.RecordLaws.{kind-in}
 use Rattle.limits.specs.Refusal.{refusal, mostRows}
 use Rattle.limits.specs.StageChecked.{AcceptedFile}
-use Rattle.casefile.proofs.RecordLaws.{kind-in}
+use Rattle.party_runs.specs.StageParties.{leaderOf}
+use Rattle.party_runs.proofs.PartyLaws.{accepted-runs, leader-le}
 use Rattle.conduct.specs.Flags.{flagged}
-use Rattle.conduct.specs.StageParties.{leaderOf}
-use Rattle.conduct.proofs.PartyLaws.{accepted-runs, leader-le}
 use Rattle.sanctions.specs.declared.sanction.Sanction.{Sanction}
 use Rattle.sanctions.specs.Penalties.{gain, loss, tccChange, fuelMultiplier, multiplier, penalty, withheldAmount, dispatchRevenue}
 use Rattle.sanctions.specs.StageFound.{Accepted, FoundMasks, Sound}

@@ -14,7 +14,8 @@ use Rattle.penalty_calls.specs.SanctionCalls.{withheldPenaltyAnswer, dispatchPe
 use Rattle.casefile.specs.Layout.{mostHours}
 use Rattle.casefile.specs.Case.{Case}
 use Rattle.casefile.specs.Decode.{decode}
-use Rattle.conduct.specs.Flags.{together, flagged}
+use Rattle.casefile.specs.Lookup.{together}
+use Rattle.conduct.specs.Flags.{flagged}
 use Rattle.sanctions.specs.Penalties.{N3, N2, lowestUnit, multiplier, penalty}
 use Rattle.penalty_terms.specs.declared.penalty_working.PenaltyWorking.{PenaltyWorking}
 use Rattle.penalty_terms.specs.PenaltyWorking.{penaltyWorkingOf}

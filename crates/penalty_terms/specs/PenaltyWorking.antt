@@ -11,8 +11,9 @@ use Rattle.tariff.specs.SanctionRules.{fuelCharge, leastCharge}
 use Rattle.casefile.specs.Layout.{mostHours}
 use Rattle.casefile.specs.Case.{Case}
 use Rattle.casefile.specs.Decode.{decode}
+use Rattle.casefile.specs.Lookup.{together}
 use Rattle.limits.specs.Refusal.{refusal, mostRows}
-use Rattle.conduct.specs.Flags.{together, flagged}
+use Rattle.conduct.specs.Flags.{flagged}
 use Rattle.sanctions.specs.Penalties.{N3, N2, withheldAmount, dispatchRevenue, gain, loss, tccChange, lowestUnit, fuelMultiplier, multiplier, penalty}
 use Rattle.penalty_terms.specs.declared.penalty_working.PenaltyWorking.{PenaltyWorking}
 

@@ -9,7 +9,8 @@ use Rattle.binary.specs.Integers.{signed, sumℤTo, _≤ℤ_}
 use Rattle.binary.specs.Word.{positivePart, negativePart}
 use Rattle.binary.proofs.IntegerLaws.{less-plus, less-times, less-where, less-sum, at-least}
 use Rattle.casefile.specs.Case.{Case}
-use Rattle.conduct.specs.Flags.{together, sumTogether, fuelFlag}
+use Rattle.casefile.specs.Lookup.{together}
+use Rattle.conduct.specs.Flags.{sumTogether, fuelFlag}
 use Rattle.sanctions.specs.Penalties.{partyDaySum, E, energyPart, gain, loss}
 
 -- ten times one sum and another, in one sum

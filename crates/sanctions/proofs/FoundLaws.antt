@@ -14,6 +14,7 @@ use Rattle.binary.specs.Word.{positivePart, negativePart}
 use Rattle.binary.proofs.Implies.{and-l, and-r}
 use Rattle.binary.proofs.BoundedLaws.{sum-more, sum-same, sum-bound, count-same, any-same}
 use Rattle.binary.proofs.MaskLaws.{bit-mask, mask-any}
+use Rattle.binary.proofs.ListLaws.{holds-more}
 use Rattle.tariff.specs.SanctionRules.{cents, ladder, withheldPenalty}
 use Rattle.casefile.specs.declared.layout.Format.{Format}
 use Rattle.casefile.specs.Layout.{mostHours, mostEvents}
@@ -21,9 +22,10 @@ use Rattle.casefile.specs.Case.{Case}
 use Rattle.casefile.specs.Decode.{pastIn, eventsIn, caseIn, cellsFrom, cellsIn}
 use Rattle.casefile.specs.Lookup.{groupOf}
 use Rattle.casefile.specs.StageRead.{cellOf}
-use Rattle.binary.proofs.ListLaws.{holds-more}
+use Rattle.party_runs.specs.StageParties.{RunsTogether, leaderOf}
+use Rattle.party_runs.proofs.PartyLaws.{fields-run, together-fields, leader-le, leader-together}
 use Rattle.conduct.specs.Flags.{sumTogether, fuelFlag, flagged, flagMask}
-use Rattle.conduct.specs.StageParties.{RunsTogether, leaderOf}
+use Rattle.conduct.proofs.SumLaws.{cell-amount}
 use Rattle.sanctions.specs.Penalties.{flaggedWithImpact, isInstance, countsHere, countsPast, instances, N3, N2, withheldMultiplier, withheldAmount, withheldPenaltyOf, dispatchMultiplier, dispatchRevenue, dispatchPenaltyOf, energyPart, gain, loss, tccChange, lowestUnit, pastFuel, fuelMultiplierAfter, fuelPenaltyUnder, fuelMultiplier, fuelPenaltyOf, multiplier, penalty, countsFuelHere}
 use Rattle.sanctions.specs.StageFound.{Accepted, FoundMasks, Sound, highestPenalty}
 use Rattle.sanctions.specs.StageTables.{hourEnergy, hourRevenue, withImpact, instanceAt, instanceOf, rowCounts, entryOf, entryCounts, instancesHere, instancesPast, instancesAt, noSanction, instanceRow, withheldRow, dispatchRow, energyIn, ledBy, energyAt, tccAt, partyDay, fuelRowCounts, fuelEntryCounts, multiplierAt, partyPenalty, fuelRow, rowAt, sanctionOf}
@@ -31,8 +33,6 @@ use Rattle.sanctions.specs.declared.instances.Instances.{Instances}
 use Rattle.sanctions.specs.declared.sanction.Sanction.{Sanction}
 use Rattle.sanctions.proofs.InstanceLaws.{instances-positive}
 use Rattle.sanctions.proofs.PenaltyBounds.{penalty-bound}
-use Rattle.conduct.proofs.SumLaws.{cell-amount}
-use Rattle.conduct.proofs.PartyLaws.{fields-run, together-fields, leader-le, leader-together}
 use Rattle.sanctions.proofs.PartyLaws.{leads, lowest-leader}
 use Rattle.sanctions.proofs.PriorLaws.{prior-rows}
 use Rattle.sanctions.proofs.AcceptedLaws.{bare-component, ranges}

@@ -10,11 +10,11 @@ use borrow.Author.Tests.{eqb-true, eqb-false, lt-ltb, ltb-true, ltb-false}
 use Rattle.binary.specs.Bounded.{anyTo}
 use Rattle.binary.proofs.BoundedLaws.{any-true, any-false}
 use Rattle.casefile.specs.Case.{Case}
+use Rattle.casefile.specs.Lookup.{together}
 use Rattle.limits.specs.Refusal.{orderFine}
 use Rattle.limits.proofs.SectionLaws.{units-in-order}
-use Rattle.conduct.specs.Flags.{together}
-use Rattle.conduct.specs.StageParties.{leaderOf}
-use Rattle.conduct.proofs.PartyLaws.{SameParty, together-fields, together-sym, leader-le, leader-together, leader-first, leader-eqb}
+use Rattle.party_runs.specs.StageParties.{leaderOf}
+use Rattle.party_runs.proofs.PartyLaws.{SameParty, together-fields, together-sym, leader-le, leader-together, leader-first, leader-eqb}
 use Rattle.sanctions.specs.Penalties.{lowestUnit}
 
 -- a test does not both hold and fail

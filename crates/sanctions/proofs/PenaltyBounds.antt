@@ -14,7 +14,8 @@ use Rattle.tariff.proofs.LadderLaws.{ladder-halves}
 use Rattle.tariff.specs.Ranges.{highestCapability, highestPrice, highestRevenue, highestEnergy, highestPriceChange, highestFuelMoney}
 use Rattle.casefile.specs.Layout.{mostHours, mostEvents}
 use Rattle.casefile.specs.Case.{Case}
-use Rattle.conduct.specs.Flags.{together, sumTogether, fuelFlag, flagged}
+use Rattle.casefile.specs.Lookup.{together}
+use Rattle.conduct.specs.Flags.{sumTogether, fuelFlag, flagged}
 use Rattle.sanctions.specs.Penalties.{flaggedWithImpact, isInstance, instances, withheldMultiplier, withheldAmount, withheldPenaltyOf, dispatchMultiplier, dispatchRevenue, dispatchPenaltyOf, energyPart, gain, loss, tccChange, lowestUnit, fuelMultiplierAfter, fuelPenaltyUnder, fuelMultiplier, fuelPenaltyOf, multiplier, penalty}
 use Rattle.sanctions.specs.StageFound.{highestPenalty}
 

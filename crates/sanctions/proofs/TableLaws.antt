@@ -17,8 +17,8 @@ use Rattle.binary.proofs.WordLaws.{positive-lt, negative-le}
 use Rattle.casefile.specs.declared.layout.Format.{Format}
 use Rattle.casefile.specs.Layout.{mostHours, mostEvents}
 use Rattle.casefile.specs.Decode.{eventsIn, cellsFrom}
-use Rattle.conduct.specs.StageParties.{sameRun, RunEnd}
-use Rattle.conduct.proofs.PartyLaws.{run-fields}
+use Rattle.party_runs.specs.StageParties.{sameRun, RunEnd}
+use Rattle.party_runs.proofs.PartyLaws.{run-fields}
 use Rattle.sanctions.specs.Penalties.{fuelMultiplierAfter}
 use Rattle.sanctions.specs.StageFound.{highestAmount, SmallAmounts, Sound}
 use Rattle.sanctions.specs.StageTables.{hourEnergy, energyIn, ledBy, energyAt, tccAt, partyShare, partyDay}

@@ -13,9 +13,9 @@ use Rattle.tariff.specs.Ladder.{InstancesInRange, AsPrinted}
 use Rattle.tariff.specs.SanctionRules.{periodCounts, ladder, withheldPenalty, dispatchPenalty, fuelDayCounts, fuelPenalty}
 use Rattle.casefile.specs.Case.{Violation, Case}
 use Rattle.casefile.specs.Decode.{decode}
-use Rattle.casefile.specs.Lookup.{groupOf}
+use Rattle.casefile.specs.Lookup.{groupOf, together}
 use Rattle.limits.specs.Refusal.{refusal}
-use Rattle.conduct.specs.Flags.{together, sumTogether, fuelFlag, flagged}
+use Rattle.conduct.specs.Flags.{sumTogether, fuelFlag, flagged}
 
 -- impact 1 and a flagged hour
 unfoldable pub flaggedWithImpact : Case → ℕ → Bool

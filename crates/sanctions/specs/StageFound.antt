@@ -11,10 +11,10 @@ use Rattle.casefile.specs.Layout.{mostHours, mostPast, mostEvents}
 use Rattle.casefile.specs.Case.{Case}
 use Rattle.casefile.specs.Decode.{cellsFrom, unitsIn, pastIn, eventsIn}
 use Rattle.casefile.specs.Lookup.{groupOf}
-use Rattle.limits.specs.Refusal.{unitsFine, eventsFine, orderFine, eventsListed, amountsFine}
 use Rattle.casefile.specs.StageRead.{cellOf}
+use Rattle.limits.specs.Refusal.{unitsFine, eventsFine, orderFine, eventsListed, amountsFine}
+use Rattle.party_runs.specs.StageParties.{sameRun, RunsTogether, leaderOf}
 use Rattle.conduct.specs.Flags.{flagMask}
-use Rattle.conduct.specs.StageParties.{sameRun, RunsTogether, leaderOf}
 
 -- the limits that penalties lean on: 5, 6 and 10 to 13
 pub record Accepted (format : Format) (units past events : List ℕ) : Type 0 where

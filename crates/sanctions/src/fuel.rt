@@ -24,7 +24,7 @@ use casefile::layout;
 use casefile::layout::Format;
 use casefile::past::entry_at;
 use casefile::past::entry_count;
-use conduct::parties::run_end;
+use party_runs::parties::run_end;
 use tariff::sanction_rules::fuel_day_counts;
 use tariff::sanction_rules::fuel_penalty;
 

@@ -12,7 +12,8 @@ use Rattle.casefile.specs.Layout.{mostHours, mostEvents, rowWidth}
 use Rattle.casefile.specs.Decode.{formatIn, sectionOf, eventsIn, caseIn, decode}
 use Rattle.limits.specs.Refusal.{eventsFine}
 use Rattle.limits.proofs.AcceptedLaws as case
-use Rattle.conduct.proofs.PartyLaws.{accepted-runs}
+use Rattle.limits.specs.StageChecked.{AcceptedFile}
+use Rattle.party_runs.proofs.PartyLaws.{accepted-runs}
 use Rattle.sanctions.specs.declared.sanction.Sanction.{Sanction}
 use Rattle.sanctions.specs.Penalties.{penalty, totalPenalty}
 use Rattle.sanctions.specs.StageFound.{Sound}
@@ -20,7 +21,6 @@ use Rattle.sanctions.specs.StageTables.{rowAt}
 use Rattle.sanctions.proofs.AcceptedLaws as sanctions
 use Rattle.sanctions.proofs.FoundLaws as sanctions-found
 use Rattle.sanctions.proofs.FoundLaws.{SanctionTurn}
-use Rattle.limits.specs.StageChecked.{AcceptedFile}
 use Rattle.default_bids.specs.StageFigures.{mitigatedBy, bidBy, makeUpBy}
 use Rattle.settlement.specs.declared.rows.Row.{Row}
 use Rattle.settlement.specs.StageRow.{writtenRow, rowBy, tableRow}

@@ -8,32 +8,32 @@ use lib.ListN.{replicate}
 use Rattle.binary.specs.Bounded.{sumTo, countTo, anyTo, allTo, firstTo, lastTo, maskTo, bitOf}
 use Rattle.binary.specs.Bytes.{valueAt, bytesOf}
 use Rattle.binary.specs.Word.{positivePart, negativePart, within}
+use Rattle.binary.specs.Lists.{joinTo, listTo}
 use Rattle.tariff.specs.Ranges.{referenceInRange, bidInRange}
 use Rattle.tariff.specs.Threshold.{thresholdOf}
 use Rattle.tariff.specs.ConductTests.{increase, lowerTest, constrainedTest, percentTest, timeTest, maximumTest, bidTest, unitLimit, groupLimit, withheldTest, dispatchTest}
 use Rattle.tariff.specs.SanctionRules.{cents, periodCounts, ladder, withheldPenalty, dispatchPenalty, fuelDayCounts, fuelCharge, fuelPenalty}
 use Rattle.tariff.specs.DefaultBidRules.{between, spanned, atMost, lesser, greater, defaultBid, restores, excess, hourMakeUp, makeUp}
-use Rattle.casefile.specs.Layout.{firstWidths, widthsOf}
-use Rattle.casefile.specs.Decode.{formatIn, caseIn, offsetOf, lengthOf, sectionOf, recordAt, unitsIn, referencesIn, violationIn, pastIn, cellsFrom, cellsIn, eventsIn, amountsIn, decode, unitSpareFine, referenceSpareFine, entrySpareFine}
-use Rattle.casefile.specs.Lookup.{referenceKey, isUnit, isListed, placeOf, unitOf, groupOf, isReference, hasReference, levelOf, correctReferences, correctIn, referenceOf, readsCorrect, bidLevel}
-use Rattle.limits.specs.Refusal.{lengthFine, versionFine, sectionsFine, pairsFine, sizeFine, sizesFine, recordNumbersFine, unitNumbersFine, referenceNumbersFine, eventNumbersFine, numbersFine, rises, unitFieldsFine, unitFine, unitsFine, referenceFieldsFine, referenceFine, referencesFine, correctionFine, violationFine, entryFine, pastFine, maskFine, quantitiesFine, fieldsFine, cellFine, hourFine, eventFine, eventsFine, eventKey, orderFine, eventListed, eventsListed, withinCapability, amountFine, amountsFine, referenceFound, referencesFound, rowsFine, refusal}
-use Rattle.casefile.specs.File.{headed, fileIn}
-use Rattle.worked_cases.specs.Files.{fileOf, unitBytes, referenceBytes, entryBytes, units}
-use Rattle.conduct.specs.Flags.{tight, together, sumTogether, timeBid, timeTotal, bidFlag, groupCapability, groupSum, withheldFlag, dispatchFlag, fuelFlag, flagged}
-use Rattle.sanctions.specs.Penalties.{flaggedWithImpact, isInstance, countsHere, countsPast, instances, N3, N2, withheldMultiplier, withheldAmount, withheldPenaltyOf, dispatchMultiplier, dispatchRevenue, dispatchPenaltyOf, energyPart, gain, loss, tccChange, lowestUnit, countsFuel, pastFuel, fuelStands, fuelMultiplierAfter, fuelPenaltyUnder, priorFuel, fuelMultiplier, fuelPenaltyOf, multiplier, penalty}
-use Rattle.default_bids.specs.Mitigation.{hit, mitigated, mitigatedMask, correctOf, makeUpTenths, makeUpOf, bidInForce}
-use Rattle.binary.specs.Lists.{joinTo, listTo}
-use Rattle.worked_cases.specs.Cases.{tightUnit, cellBytes, eventOf, bidReferences, bidEvents, bids, minimumGeneration, areaUnits, pastInstances, sanctionedEvents, sanctioned}
-use Rattle.penalty_terms.specs.PenaltyWorking.{bearer, chargeOf, hourTerm, hourLoss, penaltyWorkingAt, refusedPenalty, penaltyWorkingOf}
-use Rattle.counted_instances.specs.CountedInstances.{countedHere, countedPast, byteOf, listBytes, countedLength, countedByte, instancesAnswer, instancesOut, bitsFrom}
-use Rattle.make_up_terms.specs.MakeUpWorking.{correctRead, restored, energyBid, hourTenths, makeUpWorkingAt, refusedMakeUp, makeUpWorkingOf}
 use Rattle.calls.specs.Answers.{given}
 use Rattle.penalty_calls.specs.SanctionCalls.{withheldPenaltyAnswer, dispatchPenaltyAnswer, fuelPenaltyAnswer}
+use Rattle.casefile.specs.Layout.{firstWidths, widthsOf}
+use Rattle.casefile.specs.Decode.{formatIn, caseIn, offsetOf, lengthOf, sectionOf, recordAt, unitsIn, referencesIn, violationIn, pastIn, cellsFrom, cellsIn, eventsIn, amountsIn, decode, unitSpareFine, referenceSpareFine, entrySpareFine}
+use Rattle.casefile.specs.Lookup.{referenceKey, isUnit, isListed, placeOf, unitOf, groupOf, isReference, hasReference, levelOf, correctReferences, correctIn, referenceOf, readsCorrect, bidLevel, together}
+use Rattle.casefile.specs.File.{headed, fileIn}
+use Rattle.limits.specs.Refusal.{lengthFine, versionFine, sectionsFine, pairsFine, sizeFine, sizesFine, recordNumbersFine, unitNumbersFine, referenceNumbersFine, eventNumbersFine, numbersFine, rises, unitFieldsFine, unitFine, unitsFine, referenceFieldsFine, referenceFine, referencesFine, correctionFine, violationFine, entryFine, pastFine, maskFine, quantitiesFine, fieldsFine, cellFine, hourFine, eventFine, eventsFine, eventKey, orderFine, eventListed, eventsListed, withinCapability, amountFine, amountsFine, referenceFound, referencesFound, rowsFine, refusal}
+use Rattle.conduct.specs.Flags.{tight, sumTogether, timeBid, timeTotal, bidFlag, groupCapability, groupSum, withheldFlag, dispatchFlag, fuelFlag, flagged}
+use Rattle.sanctions.specs.Penalties.{flaggedWithImpact, isInstance, countsHere, countsPast, instances, N3, N2, withheldMultiplier, withheldAmount, withheldPenaltyOf, dispatchMultiplier, dispatchRevenue, dispatchPenaltyOf, energyPart, gain, loss, tccChange, lowestUnit, countsFuel, pastFuel, fuelStands, fuelMultiplierAfter, fuelPenaltyUnder, priorFuel, fuelMultiplier, fuelPenaltyOf, multiplier, penalty}
+use Rattle.default_bids.specs.Mitigation.{hit, mitigated, mitigatedMask, correctOf, makeUpTenths, makeUpOf, bidInForce}
+use Rattle.penalty_terms.specs.PenaltyWorking.{bearer, chargeOf, hourTerm, hourLoss, penaltyWorkingAt, refusedPenalty, penaltyWorkingOf}
 use Rattle.penalty_terms.specs.declared.penalty_working.PenaltyWorking.{PenaltyWorking}
 use Rattle.penalty_terms.specs.ByCalls.{flaggedAmount, flaggedRevenue, signedWord}
 use Rattle.penalty_terms.proofs.CallLaws.{by-calls}
+use Rattle.counted_instances.specs.CountedInstances.{countedHere, countedPast, byteOf, listBytes, countedLength, countedByte, instancesAnswer, instancesOut, bitsFrom}
 use Rattle.counted_instances.proofs.CountLaws.{counts-agree}
+use Rattle.make_up_terms.specs.MakeUpWorking.{correctRead, restored, energyBid, hourTenths, makeUpWorkingAt, refusedMakeUp, makeUpWorkingOf}
 use Rattle.make_up_terms.proofs.ByTermsLaws.{by-terms}
+use Rattle.worked_cases.specs.Files.{fileOf, unitBytes, referenceBytes, entryBytes, units}
+use Rattle.worked_cases.specs.Cases.{tightUnit, cellBytes, eventOf, bidReferences, bidEvents, bids, minimumGeneration, areaUnits, pastInstances, sanctionedEvents, sanctioned}
 
 -- a working of kind 1 or 2
 abbrev terms : (kind multiplier n3 n2 row amount revenue penalty : ℕ) (hours : List ℕ) → PenaltyWorking

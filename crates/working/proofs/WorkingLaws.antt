@@ -7,24 +7,24 @@ use native.Mathlib.Omega.{arith}
 use borrow.Author.Tests.{ltb-true, eqb-true, eq-eqb, ne-eqb}
 use lib.Dec.{ltb, eqb}
 use lib.ListN.{getD}
-use Rattle.casefile.specs.declared.layout.Format.{Format}
 use Rattle.binary.specs.Bounded.{bitOf}
 use Rattle.binary.specs.Lists.{Holds}
 use Rattle.binary.proofs.Implies.{and-l, and-r}
 use Rattle.binary.proofs.BoundedLaws.{sum-same}
 use Rattle.binary.proofs.MaskLaws.{bit-mask}
+use Rattle.tariff.specs.StageSums.{highestSum}
+use Rattle.casefile.specs.declared.layout.Format.{Format}
 use Rattle.casefile.specs.Layout.{mostHours}
 use Rattle.casefile.specs.Case.{Case}
 use Rattle.casefile.specs.Decode.{formatIn, sectionOf, eventsIn, caseIn, decode}
-use Rattle.casefile.specs.Lookup.{unitOf, groupOf, bidLevel}
-use Rattle.limits.specs.Refusal.{refusal, mostRows}
+use Rattle.casefile.specs.Lookup.{unitOf, groupOf, bidLevel, together}
 use Rattle.casefile.proofs.RecordLaws.{count-is}
+use Rattle.limits.specs.Refusal.{refusal, mostRows}
 use Rattle.limits.specs.StageChecked.{AcceptedFile}
-use Rattle.conduct.specs.Flags.{together, sumTogether, timeBid, timeTotal, groupCapability, groupSum, flagged, flagMask}
-use Rattle.conduct.specs.StageParties.{leaderOf}
-use Rattle.tariff.specs.StageSums.{highestSum}
+use Rattle.party_runs.specs.StageParties.{leaderOf}
+use Rattle.party_runs.proofs.PartyLaws.{together-fields, leader-le, leader-eqb}
+use Rattle.conduct.specs.Flags.{sumTogether, timeBid, timeTotal, groupCapability, groupSum, flagged, flagMask}
 use Rattle.conduct.specs.StageFlags.{HasRow, partyFigure, ledSum, partySum, listedCapability, timeTotalIn, totalRead, Led}
-use Rattle.conduct.proofs.PartyLaws.{together-fields, leader-le, leader-eqb}
 use Rattle.conduct.proofs.SumLaws.{cond-le, cond-given, sum-amounts}
 use Rattle.conduct.proofs.FileLaws.{total-is, file-led}
 use Rattle.sanctions.specs.declared.instances.Instances.{Instances}

@@ -12,16 +12,16 @@ use Rattle.binary.specs.Word.{positivePart, negativePart}
 use Rattle.binary.proofs.Implies.{_⇒_, mono, keep, and-given, or-mono, ltb-mono, cond-mono, cond-le, cond-same, count-le, choice-le, and-left, and-right, T→true, true→T}
 use Rattle.binary.proofs.BoundedLaws.{sum-mono, sum-same, count-mono, any-mono, any-count}
 use Rattle.binary.proofs.MaskLaws.{bit-mask, bit-past, mask-lt}
+use Rattle.tariff.proofs.LadderLaws.{ladder-mono}
+use Rattle.tariff.proofs.RuleLaws.{increase-mono, bid-mono, withheld-mono, dispatch-mono, withheld-penalty-mono, dispatch-penalty-mono, fuel-penalty-mono}
 use Rattle.casefile.specs.Case.{Units, References, Violation, Past, Events, Case}
-use Rattle.casefile.specs.Lookup.{unitOf, groupOf, referenceOf}
-use Rattle.conduct.specs.Flags.{tight, together, sumTogether, timeBid, timeTotal, bidFlag, groupCapability, groupSum, withheldFlag, dispatchFlag, fuelFlag, flagged, flagMask}
+use Rattle.casefile.specs.Lookup.{unitOf, groupOf, referenceOf, together}
+use Rattle.conduct.specs.Flags.{tight, sumTogether, timeBid, timeTotal, bidFlag, groupCapability, groupSum, withheldFlag, dispatchFlag, fuelFlag, flagged, flagMask}
 use Rattle.sanctions.specs.Penalties.{flaggedWithImpact, isInstance, countsHere, countsPast, instances, withheldMultiplier, withheldAmount, withheldPenaltyOf, dispatchMultiplier, dispatchRevenue, dispatchPenaltyOf, energyPart, gain, loss, tccChange, lowestUnit, countsFuel, pastFuel, fuelStands, fuelMultiplierAfter, fuelPenaltyUnder, priorFuel, fuelMultiplier, fuelPenaltyOf, multiplier, penalty, totalPenalty}
 use Rattle.sanctions.proofs.PenaltyBounds.{same-kind}
 use Rattle.sanctions.proofs.InstanceLaws.{instances-positive}
 use Rattle.sanctions.proofs.EnergyLaws.{loss-at-most}
 use Rattle.worse_conduct.specs.Promise.{EnergyNotNegative}
-use Rattle.tariff.proofs.LadderLaws.{ladder-mono}
-use Rattle.tariff.proofs.RuleLaws.{increase-mono, bid-mono, withheld-mono, dispatch-mono, withheld-penalty-mono, dispatch-penalty-mono, fuel-penalty-mono}
 
 -- what the changes do to the cells' a: no MW of kinds 1 and 2 is lowered, fuel is left, no bid is moved back
 pub record WorseAmounts (e : Events) (a a′ : ℕ → ℕ → ℕ) : Type 0 where

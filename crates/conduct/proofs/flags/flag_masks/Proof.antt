@@ -3,12 +3,12 @@ use mathlib.Core.List.{[]}
 use mathlib.Core.Path.{_≡_}
 use native.Mathlib.Omega.{arith}
 use Rattle.casefile.specs.Decode.{eventsIn, caseIn}
+use Rattle.party_runs.proofs.PartyLaws.{run-end-next}
+use Rattle.party_runs.proofs.StageLaws.{place-in}
 use Rattle.conduct.specs.StageTime.{totalBefore}
 use Rattle.conduct.specs.StageFlags.{HasRow, EndCarried, bidMask, Flagged}
-use Rattle.conduct.proofs.PartyLaws.{run-end-next}
 use Rattle.conduct.proofs.TimeLaws.{small-totals, totals-first, totals-next}
 use Rattle.conduct.proofs.FlagLaws.{flags-none, flags-turn, bid-flags, flags-all}
-use Rattle.conduct.proofs.StageLaws.{place-in}
 use Rattle.conduct.proofs.flags.flag_masks.Statement.{statement}
 use Rattle.conduct.proofs.flags.flag_masks.Tie as tie
 

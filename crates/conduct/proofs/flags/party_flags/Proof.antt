@@ -7,8 +7,8 @@ use native.Mathlib.Omega.{arith}
 use lib.ListN.{length, length-set}
 use Rattle.casefile.specs.Layout.{mostEvents}
 use Rattle.casefile.specs.Decode.{eventsIn, caseIn}
+use Rattle.party_runs.proofs.StageLaws.{place-in}
 use Rattle.conduct.specs.StageFlags.{PartyWithin, PartyFlagged, flagMaskIn}
-use Rattle.conduct.proofs.StageLaws.{place-in}
 use Rattle.conduct.proofs.FlagLaws.{PartyFound, party-within, party-row, own-flags, member-flags, party-first, party-more, party-pass, party-all}
 use Rattle.conduct.proofs.flags.party_flags.Statement.{statement}
 use Rattle.conduct.proofs.flags.party_flags.Tie as tie

@@ -8,7 +8,7 @@ use Rattle.binary.proofs.ListLaws.{fill-none, fill-more, list-at}
 use Rattle.casefile.specs.Layout.{mostEvents}
 use Rattle.casefile.specs.Decode.{eventsIn, decode}
 use Rattle.casefile.proofs.RecordLaws.{count-is}
-use Rattle.conduct.specs.StageParties.{leaderOf}
+use Rattle.party_runs.specs.StageParties.{leaderOf}
 use Rattle.conduct.proofs.FileLaws.{has-section, header-long, file-few}
 use Rattle.sanctions.specs.StageFound.{FoundMasks}
 use Rattle.counted_instances.specs.CountedInstances.{countedLength}

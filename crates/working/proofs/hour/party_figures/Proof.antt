@@ -4,10 +4,10 @@ use mathlib.Core.Path.{_∙_}
 use borrow.Author.Needs.{needs}
 use native.Mathlib.Omega.{arith}
 use Rattle.casefile.specs.Decode.{eventsIn}
-use Rattle.conduct.specs.StageFlags.{Led}
-use Rattle.conduct.proofs.StageLaws.{place-in}
-use Rattle.conduct.proofs.FlagLaws.{party-within}
 use Rattle.casefile.proofs.RecordLaws.{count-is, kind-of}
+use Rattle.party_runs.proofs.StageLaws.{place-in}
+use Rattle.conduct.specs.StageFlags.{Led}
+use Rattle.conduct.proofs.FlagLaws.{party-within}
 use Rattle.conduct.proofs.FileLaws.{has-section, header-long, file-runs}
 use Rattle.working.proofs.WorkingLaws.{sums-are, leader-below, led-sum, listed-is, found-led}
 use Rattle.working.proofs.hour.party_figures.Statement.{statement}

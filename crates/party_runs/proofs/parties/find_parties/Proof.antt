@@ -1,9 +1,9 @@
 use mathlib.Core.List.{[]}
 use mathlib.Core.Path.{_∙_}
 use borrow.Author.Needs.{needs}
-use Rattle.conduct.proofs.StageLaws.{leader-in}
-use Rattle.conduct.proofs.parties.find_parties.Statement.{statement}
-use Rattle.conduct.proofs.parties.find_parties.Tie as tie
+use Rattle.party_runs.proofs.StageLaws.{leader-in}
+use Rattle.party_runs.proofs.parties.find_parties.Statement.{statement}
+use Rattle.party_runs.proofs.parties.find_parties.Tie as tie
 
 pub find-parties-spec : {M : Type 1} → statement M
 find-parties-spec =

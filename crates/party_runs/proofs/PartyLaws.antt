@@ -9,19 +9,18 @@ use native.Mathlib.Nat.{zero-add, le-refl, eq-or-lt-of-le}
 use native.Mathlib.Omega.{arith}
 use borrow.Author.Tests.{eqb-true, eq-eqb, ne-eqb}
 use lib.Dec.{eqb}
-use Rattle.casefile.specs.declared.layout.Format.{Format}
 use Rattle.binary.specs.Bounded.{anyTo}
 use Rattle.binary.specs.Lists.{firstFrom, Bytes}
 use Rattle.binary.proofs.Implies.{and-l, and-r, same-test}
 use Rattle.binary.proofs.BoundedLaws.{any-same}
 use Rattle.binary.proofs.ListLaws.{from-le, from-holds, from-passed}
+use Rattle.casefile.specs.declared.layout.Format.{Format}
 use Rattle.casefile.specs.Case.{Events, Case}
 use Rattle.casefile.specs.Decode.{formatIn, sectionOf, eventsIn, caseIn, decode}
-use Rattle.casefile.specs.Lookup.{unitOf, groupOf}
+use Rattle.casefile.specs.Lookup.{unitOf, groupOf, together}
 use Rattle.limits.specs.Refusal.{refusal}
 use Rattle.limits.proofs.RunLaws.{runs-together}
-use Rattle.conduct.specs.Flags.{together}
-use Rattle.conduct.specs.StageParties.{sameRun, RunsTogether, RunStart, RunEnd, leaderOf}
+use Rattle.party_runs.specs.StageParties.{sameRun, RunsTogether, RunStart, RunEnd, leaderOf}
 
 -- ---- runs
 

@@ -1,9 +1,9 @@
 use borrow.Author.Needs.{needs}
 use native.Mathlib.Omega.{arith}
 use Rattle.casefile.specs.Decode.{eventsIn}
-use Rattle.conduct.proofs.PartyLaws.{run-turn}
-use Rattle.conduct.proofs.parties.run_start.Statement.{statement}
-use Rattle.conduct.proofs.parties.run_start.Tie as tie
+use Rattle.party_runs.proofs.PartyLaws.{run-turn}
+use Rattle.party_runs.proofs.parties.run_start.Statement.{statement}
+use Rattle.party_runs.proofs.parties.run_start.Tie as tie
 
 pub run-start-spec : {M : Type 1} → statement M
 run-start-spec =

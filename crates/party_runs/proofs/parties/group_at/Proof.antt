@@ -1,7 +1,7 @@
 use borrow.Author.Needs.{needs}
 use Rattle.casefile.specs.StageRead.{unitAt}
-use Rattle.conduct.proofs.parties.group_at.Statement.{statement}
-use Rattle.conduct.proofs.parties.group_at.Tie as tie
+use Rattle.party_runs.proofs.parties.group_at.Statement.{statement}
+use Rattle.party_runs.proofs.parties.group_at.Tie as tie
 
 pub group-at-spec : {M : Type 1} → statement M
 unfolding unitAt

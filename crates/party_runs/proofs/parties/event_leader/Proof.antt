@@ -1,8 +1,8 @@
 use borrow.Author.Needs.{needs}
 use Rattle.casefile.specs.StageRead.{eventAt}
-use Rattle.conduct.proofs.StageLaws.{leader-bid, leader-from}
-use Rattle.conduct.proofs.parties.event_leader.Statement.{statement}
-use Rattle.conduct.proofs.parties.event_leader.Tie as tie
+use Rattle.party_runs.proofs.StageLaws.{leader-bid, leader-from}
+use Rattle.party_runs.proofs.parties.event_leader.Statement.{statement}
+use Rattle.party_runs.proofs.parties.event_leader.Tie as tie
 
 pub event-leader-spec : {M : Type 1} → statement M
 unfolding eventAt

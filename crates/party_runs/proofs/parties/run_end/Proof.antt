@@ -5,10 +5,10 @@ use borrow.Author.Needs.{needs}
 use borrow.Author.Tests.{not-true, not-false}
 use native.Mathlib.Omega.{arith}
 use Rattle.casefile.specs.Decode.{eventsIn}
-use Rattle.conduct.specs.StageParties.{sameRun}
-use Rattle.conduct.proofs.PartyLaws.{run-here, run-on, run-ended, run-last}
-use Rattle.conduct.proofs.parties.run_end.Statement.{statement}
-use Rattle.conduct.proofs.parties.run_end.Tie as tie
+use Rattle.party_runs.specs.StageParties.{sameRun}
+use Rattle.party_runs.proofs.PartyLaws.{run-here, run-on, run-ended, run-last}
+use Rattle.party_runs.proofs.parties.run_end.Statement.{statement}
+use Rattle.party_runs.proofs.parties.run_end.Tie as tie
 
 abbrev Inv-loop : tie.InvT-loop
 Inv-loop format events i n end₀ end = (i < end) × (end ≤ eventsIn format events .count) × (sameRun (eventsIn format events) i (end - 1) ≡ true)

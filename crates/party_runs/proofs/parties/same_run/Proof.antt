@@ -1,8 +1,8 @@
 use borrow.Author.Needs.{needs}
 use Rattle.casefile.specs.StageRead.{eventAt}
-use Rattle.conduct.specs.StageParties.{sameRun}
-use Rattle.conduct.proofs.parties.same_run.Statement.{statement}
-use Rattle.conduct.proofs.parties.same_run.Tie as tie
+use Rattle.party_runs.specs.StageParties.{sameRun}
+use Rattle.party_runs.proofs.parties.same_run.Statement.{statement}
+use Rattle.party_runs.proofs.parties.same_run.Tie as tie
 
 pub same-run-spec : {M : Type 1} → statement M
 unfolding eventAt sameRun

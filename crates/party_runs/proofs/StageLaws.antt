@@ -9,16 +9,15 @@ use native.Mathlib.Omega.{arith}
 use borrow.Author.Tests.{ne-eqb}
 use lib.Dec.{eqb}
 use lib.ListN.{getD}
-use Rattle.casefile.specs.declared.layout.Format.{Format}
 use Rattle.binary.specs.Lists.{firstFrom, Holds}
 use Rattle.binary.proofs.ListLaws.{from-next}
+use Rattle.casefile.specs.declared.layout.Format.{Format}
 use Rattle.casefile.specs.Case.{Events}
 use Rattle.casefile.specs.Decode.{unitsIn, eventsIn, caseIn}
-use Rattle.casefile.specs.Lookup.{unitOf, groupOf}
+use Rattle.casefile.specs.Lookup.{unitOf, groupOf, together}
 use Rattle.limits.specs.Refusal.{eventsListed}
 use Rattle.limits.proofs.LookupLaws.{events-place}
-use Rattle.conduct.specs.Flags.{together}
-use Rattle.conduct.specs.StageParties.{sameRun, RunStart, leaderOf, sameGroup, leaderIn}
+use Rattle.party_runs.specs.StageParties.{sameRun, RunStart, leaderOf, sameGroup, leaderIn}
 
 -- ---- places and groups
 

@@ -5,13 +5,13 @@ use borrow.Author.Needs.{needs}
 use native.Mathlib.Omega.{arith}
 use lib.ListN.{length, length-set}
 use Rattle.binary.specs.Lists.{Holds}
+use Rattle.binary.proofs.ListLaws.{holds-more}
 use Rattle.casefile.specs.Layout.{mostEvents}
 use Rattle.casefile.specs.Decode.{eventsIn, caseIn}
 use Rattle.casefile.specs.Lookup.{groupOf}
-use Rattle.binary.proofs.ListLaws.{holds-more}
-use Rattle.conduct.proofs.StageLaws.{place-in, group-in}
-use Rattle.conduct.proofs.parties.party_groups.Statement.{statement}
-use Rattle.conduct.proofs.parties.party_groups.Tie as tie
+use Rattle.party_runs.proofs.StageLaws.{place-in, group-in}
+use Rattle.party_runs.proofs.parties.party_groups.Statement.{statement}
+use Rattle.party_runs.proofs.parties.party_groups.Tie as tie
 
 abbrev Inv-loop : tie.InvT-loop
 Inv-loop format units events places n table₀ i₀ table i =

@@ -8,7 +8,7 @@ ghost use Rattle.casefile.specs.Layout.{mostEvents};
 ghost use Rattle.casefile.specs.Decode.{unitsIn, eventsIn, caseIn};
 ghost use Rattle.casefile.specs.Lookup.{unitOf, groupOf};
 ghost use Rattle.limits.specs.Refusal.{eventsListed};
-ghost use Rattle.conduct.specs.StageParties.{sameRun, RunsTogether, RunStart, RunEnd, leaderOf, sameGroup, leaderIn};
+ghost use Rattle.party_runs.specs.StageParties.{sameRun, RunsTogether, RunStart, RunEnd, leaderOf, sameGroup, leaderIn};
 use binary::numbers::choose_usize;
 use casefile::events::event_at;
 use casefile::events::event_count;

@@ -7,7 +7,7 @@ use lib.Dec.{eqb}
 use lib.ListN.{getD}
 use Rattle.binary.specs.Lists.{firstFrom}
 use Rattle.casefile.specs.Case.{Events, Case}
-use Rattle.conduct.specs.Flags.{together}
+use Rattle.casefile.specs.Lookup.{together}
 
 -- ---- runs
 

@@ -1,0 +1,2 @@
+pub mod PartyLaws
+pub mod StageLaws
