@@ -6,7 +6,7 @@ use lib.Dec.{ltb}
 use lib.ListN.{getD}
 use Rattle.casefile.specs.declared.layout.Format.{Format}
 use Rattle.casefile.specs.Decode.{pastIn, eventsIn}
-use Rattle.sanctions.specs.StageTables.{instanceAt, rowCounts, entryCounts}
+use Rattle.instance_counts.specs.StageInstances.{instanceAt, rowCounts, entryCounts}
 use Rattle.counted_instances.specs.CountedInstances.{byteOf, eventBytes, listBytes}
 
 -- event j is counted by event i, k periods back

@@ -20,11 +20,11 @@ use casefile::layout;
 use casefile::layout::Format;
 use casefile::past::entry_count;
 use conduct::flags::find_flags;
-use sanctions::instances::entry_period;
-use sanctions::instances::is_entry;
-use sanctions::instances::is_instance;
-use sanctions::instances::is_instance_of;
-use sanctions::instances::period_of;
+use instance_counts::instances::entry_period;
+use instance_counts::instances::is_entry;
+use instance_counts::instances::is_instance;
+use instance_counts::instances::is_instance_of;
+use instance_counts::instances::period_of;
 use tariff::sanction_rules::period_counts;
 
 // A bit for each event and one for each past entry, in whole bytes; the lists of N3, then those of N2.

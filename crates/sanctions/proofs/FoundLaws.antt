@@ -26,10 +26,11 @@ use Rattle.party_runs.specs.StageParties.{RunsTogether, leaderOf}
 use Rattle.party_runs.proofs.PartyLaws.{fields-run, together-fields, leader-le, leader-together}
 use Rattle.conduct.specs.Flags.{sumTogether, fuelFlag, flagged, flagMask}
 use Rattle.conduct.proofs.SumLaws.{cell-amount}
+use Rattle.instance_counts.specs.StageInstances.{withImpact, instanceAt, instanceOf, rowCounts, entryOf, entryCounts, instancesHere, instancesPast, instancesAt}
+use Rattle.instance_counts.specs.declared.instances.Instances.{Instances}
 use Rattle.sanctions.specs.Penalties.{flaggedWithImpact, isInstance, countsHere, countsPast, instances, N3, N2, withheldMultiplier, withheldAmount, withheldPenaltyOf, dispatchMultiplier, dispatchRevenue, dispatchPenaltyOf, energyPart, gain, loss, tccChange, lowestUnit, pastFuel, fuelMultiplierAfter, fuelPenaltyUnder, fuelMultiplier, fuelPenaltyOf, multiplier, penalty, countsFuelHere}
 use Rattle.sanctions.specs.StageFound.{Accepted, FoundMasks, Sound, highestPenalty}
-use Rattle.sanctions.specs.StageTables.{hourEnergy, hourRevenue, withImpact, instanceAt, instanceOf, rowCounts, entryOf, entryCounts, instancesHere, instancesPast, instancesAt, noSanction, instanceRow, withheldRow, dispatchRow, energyIn, ledBy, energyAt, tccAt, partyDay, fuelRowCounts, fuelEntryCounts, multiplierAt, partyPenalty, fuelRow, rowAt, sanctionOf}
-use Rattle.sanctions.specs.declared.instances.Instances.{Instances}
+use Rattle.sanctions.specs.StageTables.{hourEnergy, hourRevenue, noSanction, instanceRow, withheldRow, dispatchRow, energyIn, ledBy, energyAt, tccAt, partyDay, fuelRowCounts, fuelEntryCounts, multiplierAt, partyPenalty, fuelRow, rowAt, sanctionOf}
 use Rattle.sanctions.specs.declared.sanction.Sanction.{Sanction}
 use Rattle.sanctions.proofs.InstanceLaws.{instances-positive}
 use Rattle.sanctions.proofs.PenaltyBounds.{penalty-bound}

@@ -6,7 +6,6 @@ ghost use Rattle.binary.specs.Bounded.{sumTo};
 ghost use Rattle.casefile.specs.Decode.{eventsIn};
 ghost use Rattle.casefile.specs.Layout.{mostHours, cellWidth, mostEvents};
 ghost use Rattle.sanctions.specs.StageTables.{hourRevenue, dispatchRow};
-use crate::instances::with_impact;
 use crate::sanction::Sanction;
 use binary::masks::bit_of;
 use binary::numbers::choose_u32;
@@ -14,6 +13,7 @@ use casefile::cells::cell_at;
 use casefile::events::event_cells;
 use casefile::layout;
 use casefile::layout::Format;
+use instance_counts::instances::with_impact;
 use tariff::sanction_rules::dispatch_penalty;
 
 // The added revenue, where the mask has the hour.

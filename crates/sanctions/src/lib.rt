@@ -1,7 +1,6 @@
 // Multipliers and penalties of the events of a case.
 pub mod dispatch;
 pub mod fuel;
-pub mod instances;
 pub mod penalties;
 pub mod sanction;
 pub mod withheld;

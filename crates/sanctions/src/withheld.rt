@@ -8,7 +8,6 @@ ghost use Rattle.casefile.specs.Decode.{eventsIn, pastIn, cellsFrom};
 ghost use Rattle.casefile.specs.Layout.{mostHours, cellWidth, mostPast, mostEvents};
 ghost use Rattle.sanctions.specs.StageFound.{SmallAmounts};
 ghost use Rattle.sanctions.specs.StageTables.{hourEnergy, withheldRow};
-use crate::instances::instances_at;
 use crate::sanction::Sanction;
 use binary::masks::bit_of;
 use binary::numbers::choose_u64;
@@ -18,6 +17,7 @@ use casefile::cells::cell_at;
 use casefile::events::event_cells;
 use casefile::layout;
 use casefile::layout::Format;
+use instance_counts::instances::instances_at;
 use tariff::sanction_rules::ladder;
 use tariff::sanction_rules::withheld_penalty;
 

@@ -27,9 +27,9 @@ use Rattle.conduct.specs.Flags.{sumTogether, timeBid, timeTotal, groupCapabilit
 use Rattle.conduct.specs.StageFlags.{HasRow, partyFigure, ledSum, partySum, listedCapability, timeTotalIn, totalRead, Led}
 use Rattle.conduct.proofs.SumLaws.{cond-le, cond-given, sum-amounts}
 use Rattle.conduct.proofs.FileLaws.{total-is, file-led}
-use Rattle.sanctions.specs.declared.instances.Instances.{Instances}
+use Rattle.instance_counts.specs.declared.instances.Instances.{Instances}
+use Rattle.instance_counts.specs.StageInstances.{instancesAt}
 use Rattle.sanctions.specs.StageFound.{Accepted, FoundMasks}
-use Rattle.sanctions.specs.StageTables.{instancesAt}
 use Rattle.sanctions.proofs.AcceptedLaws as sanctions
 use Rattle.sanctions.proofs.FoundLaws.{instances-are}
 use Rattle.working.specs.declared.figures.Sums.{Sums}

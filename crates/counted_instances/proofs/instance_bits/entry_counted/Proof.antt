@@ -2,7 +2,7 @@ use borrow.Author.Needs.{needs}
 use borrow.Author.Tests.{lt-ltb, le-ltb}
 use native.Mathlib.Omega.{arith}
 use Rattle.casefile.specs.StageRead.{eventAt}
-use Rattle.sanctions.specs.StageTables.{entryCounts}
+use Rattle.instance_counts.specs.StageInstances.{entryCounts}
 use Rattle.counted_instances.specs.StageCounted.{entryCounted}
 use Rattle.counted_instances.proofs.instance_bits.entry_counted.Statement.{statement}
 use Rattle.counted_instances.proofs.instance_bits.entry_counted.Tie as tie

@@ -5,9 +5,9 @@ use native.Mathlib.Omega.{arith}
 use Rattle.binary.specs.Bounded.{countTo}
 use Rattle.binary.proofs.BoundedLaws.{count-none, count-more}
 use Rattle.casefile.specs.Decode.{pastIn}
-use Rattle.sanctions.specs.StageTables.{entryCounts, instancesPast}
-use Rattle.sanctions.proofs.instances.instances_past.Statement.{statement}
-use Rattle.sanctions.proofs.instances.instances_past.Tie as tie
+use Rattle.instance_counts.specs.StageInstances.{entryCounts, instancesPast}
+use Rattle.instance_counts.proofs.instances.instances_past.Statement.{statement}
+use Rattle.instance_counts.proofs.instances.instances_past.Tie as tie
 
 abbrev Inv-loop : tie.InvT-loop
 Inv-loop past group market period n three₀ two₀ j₀ three two j =

@@ -1,8 +1,8 @@
 use borrow.Author.Needs.{needs}
 use Rattle.casefile.specs.StageRead.{eventAt}
-use Rattle.sanctions.specs.StageTables.{withImpact}
-use Rattle.sanctions.proofs.instances.with_impact.Statement.{statement}
-use Rattle.sanctions.proofs.instances.with_impact.Tie as tie
+use Rattle.instance_counts.specs.StageInstances.{withImpact}
+use Rattle.instance_counts.proofs.instances.with_impact.Statement.{statement}
+use Rattle.instance_counts.proofs.instances.with_impact.Tie as tie
 
 pub with-impact-spec : {M : Type 1} → statement M
 unfolding eventAt withImpact

@@ -4,7 +4,7 @@ ghost use mathlib.Core.Bool.{cond};
 ghost use Prim.Native.Nat.{_≤_, _<_};
 ghost use Rattle.casefile.specs.Layout.{mostEvents, mostPast};
 ghost use Rattle.casefile.specs.Decode.{pastIn, eventsIn};
-ghost use Rattle.sanctions.specs.StageTables.{withImpact, instanceAt, instanceOf, entryOf, instancesHere, instancesPast, instancesAt};
+ghost use Rattle.instance_counts.specs.StageInstances.{withImpact, instanceAt, instanceOf, entryOf, instancesHere, instancesPast, instancesAt};
 use casefile::events::event_at;
 use casefile::layout;
 use casefile::layout::Format;

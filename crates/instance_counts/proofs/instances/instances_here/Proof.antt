@@ -6,9 +6,9 @@ use Rattle.casefile.specs.declared.layout.Format.{Format}
 use Rattle.casefile.specs.Case.{Events}
 use Rattle.casefile.specs.Decode.{eventsIn}
 use Rattle.casefile.proofs.RecordLaws.{first-widths, events-by-widths}
-use Rattle.sanctions.specs.StageTables.{withImpact, instanceAt, instanceOf, rowCounts, instancesHere}
-use Rattle.sanctions.proofs.instances.instances_here.Statement.{statement}
-use Rattle.sanctions.proofs.instances.instances_here.Tie as tie
+use Rattle.instance_counts.specs.StageInstances.{withImpact, instanceAt, instanceOf, rowCounts, instancesHere}
+use Rattle.instance_counts.proofs.instances.instances_here.Statement.{statement}
+use Rattle.instance_counts.proofs.instances.instances_here.Tie as tie
 
 -- a format is its version
 abbrev of-version : ℕ → Format

@@ -1,8 +1,8 @@
 use borrow.Author.Needs.{needs}
 use Rattle.casefile.specs.StageRead.{entryAt}
-use Rattle.sanctions.specs.StageTables.{entryOf}
-use Rattle.sanctions.proofs.instances.is_entry.Statement.{statement}
-use Rattle.sanctions.proofs.instances.is_entry.Tie as tie
+use Rattle.instance_counts.specs.StageInstances.{entryOf}
+use Rattle.instance_counts.proofs.instances.is_entry.Statement.{statement}
+use Rattle.instance_counts.proofs.instances.is_entry.Tie as tie
 
 pub is-entry-spec : {M : Type 1} → statement M
 unfolding entryAt entryOf

@@ -1,7 +1,7 @@
 use borrow.Author.Needs.{needs}
 use Rattle.casefile.specs.StageRead.{eventAt}
-use Rattle.sanctions.proofs.instances.period_of.Statement.{statement}
-use Rattle.sanctions.proofs.instances.period_of.Tie as tie
+use Rattle.instance_counts.proofs.instances.period_of.Statement.{statement}
+use Rattle.instance_counts.proofs.instances.period_of.Tie as tie
 
 pub period-of-spec : {M : Type 1} → statement M
 unfolding eventAt

@@ -1,7 +1,7 @@
 use borrow.Author.Needs.{needs}
 use Rattle.casefile.specs.StageRead.{entryAt}
-use Rattle.sanctions.proofs.instances.entry_period.Statement.{statement}
-use Rattle.sanctions.proofs.instances.entry_period.Tie as tie
+use Rattle.instance_counts.proofs.instances.entry_period.Statement.{statement}
+use Rattle.instance_counts.proofs.instances.entry_period.Tie as tie
 
 pub entry-period-spec : {M : Type 1} → statement M
 unfolding entryAt

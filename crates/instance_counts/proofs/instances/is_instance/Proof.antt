@@ -1,8 +1,8 @@
 use borrow.Author.Needs.{needs}
 use Rattle.casefile.specs.StageRead.{eventAt}
-use Rattle.sanctions.specs.StageTables.{instanceAt}
-use Rattle.sanctions.proofs.instances.is_instance.Statement.{statement}
-use Rattle.sanctions.proofs.instances.is_instance.Tie as tie
+use Rattle.instance_counts.specs.StageInstances.{instanceAt}
+use Rattle.instance_counts.proofs.instances.is_instance.Statement.{statement}
+use Rattle.instance_counts.proofs.instances.is_instance.Tie as tie
 
 pub is-instance-spec : {M : Type 1} → statement M
 unfolding eventAt instanceAt

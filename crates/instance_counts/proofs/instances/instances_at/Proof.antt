@@ -6,9 +6,9 @@ use native.Mathlib.Omega.{arith}
 use Rattle.binary.proofs.BoundedLaws.{count-bound}
 use Rattle.casefile.specs.Decode.{pastIn}
 use Rattle.casefile.specs.StageRead.{eventAt}
-use Rattle.sanctions.specs.StageTables.{instancesHere, instancesPast, instancesAt}
-use Rattle.sanctions.proofs.instances.instances_at.Statement.{statement}
-use Rattle.sanctions.proofs.instances.instances_at.Tie as tie
+use Rattle.instance_counts.specs.StageInstances.{instancesHere, instancesPast, instancesAt}
+use Rattle.instance_counts.proofs.instances.instances_at.Statement.{statement}
+use Rattle.instance_counts.proofs.instances.instances_at.Tie as tie
 
 here : (c : tie.After-instances-here)
     → let i = c .before .before .before .before .before .before .before .args .i in

@@ -1,8 +1,8 @@
 use borrow.Author.Needs.{needs}
 use Rattle.casefile.specs.StageRead.{eventAt}
-use Rattle.sanctions.specs.StageTables.{instanceOf}
-use Rattle.sanctions.proofs.instances.is_instance_of.Statement.{statement}
-use Rattle.sanctions.proofs.instances.is_instance_of.Tie as tie
+use Rattle.instance_counts.specs.StageInstances.{instanceOf}
+use Rattle.instance_counts.proofs.instances.is_instance_of.Statement.{statement}
+use Rattle.instance_counts.proofs.instances.is_instance_of.Tie as tie
 
 pub is-instance-of-spec : {M : Type 1} → statement M
 unfolding eventAt instanceOf

@@ -4,9 +4,9 @@ use borrow.Author.Needs.{needs}
 use native.Mathlib.Omega.{arith}
 use Rattle.binary.specs.Bounded.{countTo}
 use Rattle.binary.proofs.BoundedLaws.{count-none, count-more}
-use Rattle.sanctions.specs.StageTables.{rowCounts, instancesHere}
-use Rattle.sanctions.proofs.instances.counted_here.Statement.{statement}
-use Rattle.sanctions.proofs.instances.counted_here.Tie as tie
+use Rattle.instance_counts.specs.StageInstances.{rowCounts, instancesHere}
+use Rattle.instance_counts.proofs.instances.counted_here.Statement.{statement}
+use Rattle.instance_counts.proofs.instances.counted_here.Tie as tie
 
 abbrev Inv-loop : tie.InvT-loop
 Inv-loop format events groups masks group market period i three₀ two₀ j₀ three two j =
