@@ -6,7 +6,7 @@ use native.Mathlib.Omega.{arith}
 use borrow.Author.Tests.{lt-ltb, le-ltb}
 use lib.ListN.{length, length-append}
 use lib.Seq.{length-sets}
-use Rattle.settlement.proofs.WriteLaws.{sets-append}
+use Rattle.case_rows.proofs.WriteLaws.{sets-append}
 use Rattle.report.specs.Decimal.{field, decimalTo, decimalTo-none, decimalTo-one, decimalTo-more}
 use Rattle.report.specs.StagePut.{Put}
 

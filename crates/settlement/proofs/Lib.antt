@@ -1,4 +1,2 @@
 pub mod RowLaws
-pub mod WriteLaws
-pub mod RowsLaws
 pub mod SettleLaws

@@ -24,12 +24,12 @@ use Rattle.sanctions.specs.StageTables.{sanctionOf}
 use Rattle.default_bids.specs.Mitigation.{mitigatedMask, bidInForce, makeUpOf, totalMakeUp}
 use Rattle.default_bids.specs.StageFigures.{mitigatedBy, bidBy}
 use Rattle.default_bids.proofs.FigureLaws.{mitigated-by, bids-by, make-up-by}
-use Rattle.settlement.specs.declared.rows.Totals.{Totals}
+use Rattle.case_rows.specs.declared.rows.Totals.{Totals}
+use Rattle.case_rows.specs.StageRow.{wordOf, wordsOf, writtenRow, rowBy}
+use Rattle.case_rows.specs.StageRows.{rowIn, rowsIn, totalsIn}
 use Rattle.settlement.specs.Row.{bidBytes, rowOf, rowsOf}
 use Rattle.settlement.specs.Settled.{SettlementAnswer, refusedAnswer, answerOfSettlement, settlementOf, accepted, answerOf, rowsAfter}
 use Rattle.settlement.specs.declared.settle.Settlement.the-variants as settlement
-use Rattle.settlement.specs.StageRow.{wordOf, wordsOf, writtenRow, rowBy}
-use Rattle.settlement.specs.StageRows.{rowIn, rowsIn, totalsIn}
 
 -- the number of a refusal that is not 0
 pub refused-answer : (f k : List ℕ) (n number : ℕ) → number ≡ refusal f k n → (number ≡ 0 → ⊥) → refusedAnswer number ≡ answerOf f k n

@@ -1,4 +1,2 @@
 pub mod Row
 pub mod Settled
-pub mod StageRow
-pub mod StageRows

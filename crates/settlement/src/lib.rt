@@ -1,3 +1,2 @@
 // The settlement of a case into rows.
-pub mod rows;
 pub mod settle;

@@ -3,12 +3,12 @@ use mathlib.Core.Path.{_≡_, _∙_, refl}
 use borrow.Author.Needs.{needs}
 use native.Mathlib.Omega.{arith}
 use lib.Seq.{sets, length-sets}
-use Rattle.casefile.specs.Layout.{bidsOffset, mostHours}
 use Rattle.binary.specs.Lists.{joinTo}
-use Rattle.settlement.specs.StageRow.{wordOf, wordsOf}
-use Rattle.settlement.proofs.WriteLaws.{words-more}
-use Rattle.settlement.proofs.rows.write_bids.Statement.{statement}
-use Rattle.settlement.proofs.rows.write_bids.Tie as tie
+use Rattle.casefile.specs.Layout.{bidsOffset, mostHours}
+use Rattle.case_rows.specs.StageRow.{wordOf, wordsOf}
+use Rattle.case_rows.proofs.WriteLaws.{words-more}
+use Rattle.case_rows.proofs.rows.write_bids.Statement.{statement}
+use Rattle.case_rows.proofs.rows.write_bids.Tie as tie
 
 abbrev Inv-loop : tie.InvT-loop
 Inv-loop row₀ bids h₀ row h = (h ≤ mostHours) × (row ≡ sets row₀ bidsOffset (joinTo h (wordOf bids)))

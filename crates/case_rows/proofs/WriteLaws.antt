@@ -11,8 +11,8 @@ use Rattle.binary.specs.Lists.{joinTo}
 use Rattle.binary.proofs.ByteLaws.{bytes-length}
 use Rattle.binary.proofs.ListLaws.{join-more, join-length}
 use Rattle.casefile.specs.Layout.{bidsOffset, mostHours}
-use Rattle.settlement.specs.StageRow.{wordOf, wordsOf, writtenRow}
-use Rattle.settlement.specs.declared.rows.Row.{Row}
+use Rattle.case_rows.specs.StageRow.{wordOf, wordsOf, writtenRow}
+use Rattle.case_rows.specs.declared.rows.Row.{Row}
 
 -- a run of stores after another
 pub sets-append : (vs ws l : List ℕ) (i : ℕ) → sets (sets l i vs) (i + length vs) ws ≡ sets l i (vs ++ ws)

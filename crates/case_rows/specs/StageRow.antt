@@ -9,7 +9,7 @@ use Rattle.casefile.specs.Layout.{mostHours}
 use Rattle.casefile.specs.Decode.{eventsIn}
 use Rattle.sanctions.specs.declared.sanction.Sanction.{Sanction}
 use Rattle.default_bids.specs.StageFigures.{mitigatedBy, bidBy, makeUpBy}
-use Rattle.settlement.specs.declared.rows.Row.{Row}
+use Rattle.case_rows.specs.declared.rows.Row.{Row}
 
 -- the bid of hour h
 unfoldable pub wordOf : (bids : List ℕ) → ℕ → List ℕ

@@ -11,9 +11,9 @@ use Rattle.conduct.specs.Flags.{flagMask}
 use Rattle.sanctions.specs.Penalties.{totalPenalty}
 use Rattle.sanctions.specs.StageFound.{FoundMasks}
 use Rattle.sanctions.specs.StageTables.{sanctionOf}
-use Rattle.settlement.specs.declared.rows.Row.{Row}
-use Rattle.settlement.specs.declared.rows.Totals.{Totals}
-use Rattle.settlement.specs.StageRow.{writtenRow, rowBy}
+use Rattle.case_rows.specs.declared.rows.Row.{Row}
+use Rattle.case_rows.specs.declared.rows.Totals.{Totals}
+use Rattle.case_rows.specs.StageRow.{writtenRow, rowBy}
 
 -- of each event its unit's place, its group, the first event of its party and its flag mask
 pub record FoundFlags (file places groups leaders masks : List ℕ) : Type 0 where

@@ -11,17 +11,17 @@ use Rattle.binary.proofs.BoundedLaws.{sum-none}
 use Rattle.binary.proofs.ListLaws.{join-none, join-part}
 use Rattle.casefile.specs.Layout.{bidsOffset, rowWidth, mostHours, mostEvents}
 use Rattle.casefile.specs.Decode.{formatIn, sectionOf, decode}
+use Rattle.casefile.proofs.RecordLaws.{count-is}
+use Rattle.conduct.proofs.FileLaws.{has-section, past-few, file-place}
 use Rattle.sanctions.specs.Penalties.{penalty}
 use Rattle.sanctions.proofs.FoundLaws.{SanctionTurn}
 use Rattle.default_bids.specs.StageFigures.{highestMakeUp}
-use Rattle.settlement.specs.StageRow.{writtenRow}
-use Rattle.settlement.specs.StageRows.{rowIn}
-use Rattle.casefile.proofs.RecordLaws.{count-is}
-use Rattle.conduct.proofs.FileLaws.{has-section, past-few, file-place}
-use Rattle.settlement.proofs.RowsLaws.{few, fine, sound, turn, row-is, penalty-by, due-more, rows-all}
-use Rattle.settlement.proofs.WriteLaws.{row-bytes-length}
-use Rattle.settlement.proofs.rows.settle_rows.Statement.{statement}
-use Rattle.settlement.proofs.rows.settle_rows.Tie as tie
+use Rattle.case_rows.specs.StageRow.{writtenRow}
+use Rattle.case_rows.specs.StageRows.{rowIn}
+use Rattle.case_rows.proofs.RowsLaws.{few, fine, sound, turn, row-is, penalty-by, due-more, rows-all}
+use Rattle.case_rows.proofs.WriteLaws.{row-bytes-length}
+use Rattle.case_rows.proofs.rows.settle_rows.Statement.{statement}
+use Rattle.case_rows.proofs.rows.settle_rows.Tie as tie
 
 abbrev Inv-loop : tie.InvT-loop
 Inv-loop file places levels corrects groups leaders masks rows₀ format units past events n penalties₀ total₀ due₀ i₀ rows penalties total due i =

@@ -22,9 +22,9 @@ use Rattle.sanctions.proofs.AcceptedLaws as sanctions
 use Rattle.sanctions.proofs.FoundLaws as sanctions-found
 use Rattle.sanctions.proofs.FoundLaws.{SanctionTurn}
 use Rattle.default_bids.specs.StageFigures.{mitigatedBy, bidBy, makeUpBy}
-use Rattle.settlement.specs.declared.rows.Row.{Row}
-use Rattle.settlement.specs.StageRow.{writtenRow, rowBy, tableRow}
-use Rattle.settlement.specs.StageRows.{FoundFlags, rowIn, rowsIn, totalsIn}
+use Rattle.case_rows.specs.declared.rows.Row.{Row}
+use Rattle.case_rows.specs.StageRow.{writtenRow, rowBy, tableRow}
+use Rattle.case_rows.specs.StageRows.{FoundFlags, rowIn, rowsIn, totalsIn}
 
 module _ (f : List ℕ) (acc : AcceptedFile f) where
   pub few : decode f .events .count ≤ mostEvents

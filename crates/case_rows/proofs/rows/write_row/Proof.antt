@@ -1,9 +1,9 @@
 use mathlib.Core.Path.{_∙_, ap, sym}
 use borrow.Author.Needs.{needs}
 use lib.ListN.{length}
-use Rattle.settlement.proofs.WriteLaws.{row-stored, row-bytes-length}
-use Rattle.settlement.proofs.rows.write_row.Statement.{statement}
-use Rattle.settlement.proofs.rows.write_row.Tie as tie
+use Rattle.case_rows.proofs.WriteLaws.{row-stored, row-bytes-length}
+use Rattle.case_rows.proofs.rows.write_row.Statement.{statement}
+use Rattle.case_rows.proofs.rows.write_row.Tie as tie
 
 bids-requires : tie.Need-write-bids-requires
 bids-requires c κs =

@@ -1,8 +1,8 @@
 use borrow.Author.Needs.{needs}
-use Rattle.settlement.specs.StageRow.{tableRow}
-use Rattle.settlement.proofs.RowsLaws.{row-made}
-use Rattle.settlement.proofs.rows.row_of.Statement.{statement}
-use Rattle.settlement.proofs.rows.row_of.Tie as tie
+use Rattle.case_rows.specs.StageRow.{tableRow}
+use Rattle.case_rows.proofs.RowsLaws.{row-made}
+use Rattle.case_rows.proofs.rows.row_of.Statement.{statement}
+use Rattle.case_rows.proofs.rows.row_of.Tie as tie
 
 pub row-of-spec : {M : Type 1} → statement M
 unfolding tableRow

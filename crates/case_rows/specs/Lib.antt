@@ -1,0 +1,2 @@
+pub mod StageRow
+pub mod StageRows
