@@ -9,18 +9,18 @@ ghost use Rattle.limits.specs.StageLookup.{UnitsInOrder, InOrder};
 ghost use Rattle.limits.specs.Refusal.{eventNumbersFine, refusal};
 ghost use Rattle.limits.specs.StageRefusal.{eventsRefusal};
 ghost use Rattle.limits.specs.StageChecked.{HandedOn};
-ghost use Rattle.case_check.specs.StageFound.{Found};
-use crate::event_limits::order_refusal;
-use crate::event_limits::references_found;
-use crate::event_limits::unit_refusal;
+ghost use Rattle.event_check.specs.StageFound.{Found};
 use casefile::events::event_count;
 use casefile::header::format_of;
 use casefile::header::section;
 use casefile::layout;
 use casefile::layout::Format;
+use event_check::event_limits::order_refusal;
+use event_check::event_limits::references_found;
+use event_check::event_limits::unit_refusal;
 use limits::header_limits::header_refusal;
-use limits::record_limits::records_refusal;
 use limits::refusal::unless;
+use record_check::record_limits::records_refusal;
 
 // The number of the first limit that the events break, or 0: then the tables hold what was found of each event.
 fn events_refusal<'a>(

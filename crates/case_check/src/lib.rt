@@ -1,4 +1,2 @@
-// What the events of a case can break, the check of a whole case, and what it hands on.
-pub mod cell_limits;
+// The check of a whole case, and what it hands on.
 pub mod check;
-pub mod event_limits;

@@ -5,7 +5,7 @@ use Rattle.limits.specs.StageRefusal.{headerRefusal, recordsRefusal}
 use Rattle.limits.proofs.RangeLaws.{event-numbers, numbers-in-order, references-in-order, correct-in-order}
 use Rattle.limits.proofs.RefusalLaws.{HeaderFine, RecordsFine, header-fine, records-fine, header-long, has-section, refusal-header, refusal-records, refusal-events}
 use Rattle.limits.proofs.SectionLaws.{events-fit}
-use Rattle.case_check.proofs.CheckedLaws.{handed-on}
+use Rattle.event_check.proofs.CheckedLaws.{handed-on}
 use Rattle.case_check.proofs.check.check_into.Statement.{statement}
 use Rattle.case_check.proofs.check.check_into.Tie as tie
 

@@ -1,0 +1,35 @@
+use Prim.Native.Nat.{_≤_, _-_}
+use mathlib.Core.Path.{_≡_}
+use borrow.Author.Needs.{needs}
+use native.Mathlib.Omega.{arith}
+use Rattle.binary.specs.Bounded.{allTo}
+use Rattle.binary.proofs.BoundedLaws.{all-none, all-more}
+use Rattle.casefile.specs.Layout.{mostHours}
+use Rattle.limits.specs.Refusal.{cellFine}
+use Rattle.event_check.specs.StageReading.{cellFineAt}
+use Rattle.event_check.proofs.cell_limits.bid_cells.Statement.{statement}
+use Rattle.event_check.proofs.cell_limits.bid_cells.Tie as tie
+
+abbrev Inv-loop : tie.InvT-loop
+Inv-loop component cells fine₀ h₀ fine h = (h ≤ mostHours) × (fine ≡ allTo h (cellFineAt 4 component cells))
+
+abbrev μ-loop : tie.MeasureT-loop
+μ-loop component cells fine₀ h₀ fine h = mostHours - h
+
+pub bid-cells-spec : {M : Type 1} → statement M
+unfolding cellFineAt cellFine
+bid-cells-spec =
+    tie.close
+    (tie.spec
+    Inv-loop
+    μ-loop
+    (λ c. (omega arith, all-none _))
+    (λ c κs. search needs)
+    (λ c κs. search needs)
+    (λ c κs. search needs)
+    (λ c. omega arith)
+    (λ c. omega arith)
+    (λ c. (omega arith, rw (c .before .before .before .before .loop .inv .1, c .is-within .ensures, c .before .bid-in-range .ensures, c .before .before .cell-at .ensures, all-more)))
+    (λ c.
+    let e : c .before .loop .h ≡ mostHours = omega arith in
+    rw (c .before .loop .inv .1, e)))
