@@ -28,7 +28,7 @@ use Rattle.worked_cases.specs.Files.{unitBytes, entryBytes, eventBytes, withhel
 use Rattle.worked_cases.specs.Cases.{rowBytes, noBids}
 use Rattle.worse_conduct.specs.Changes.{Change, cell, entry, TakesAll, cellPlace, cellWritten, entryPlace, entryPut, longerPast, laterEvents, headerMoved, apply, applyAll, moreWithheld, lowerBid, movedBid, worseBid, worseAmount}
 use Rattle.worse_conduct.specs.Promise.{EnergyNotNegative, NoSmaller}
-use Rattle.worse_conduct.proofs.Demands.{demand-3}
+use Rattle.demands.proofs.Demands.{demand-3}
 use Rattle.worked_changes.proofs.WorseCases.{run}
 
 unfoldable pub wideUnits : List ℕ

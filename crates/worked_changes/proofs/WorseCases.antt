@@ -34,8 +34,8 @@ use Rattle.worked_cases.specs.Files.{fileOf, unitBytes, referenceBytes, entryBy
 use Rattle.worked_cases.specs.Cases.{minus, at, cellBytes, eventOf, empty, rowBytes, noBids}
 use Rattle.worse_conduct.specs.Changes.{Change, cell, entry, TakesAll, cellPlace, cellWritten, entryPlace, entryPut, longerPast, laterEvents, headerMoved, apply, applyAll, moreWithheld, lowerBid, movedBid, worseBid, worseAmount}
 use Rattle.worse_conduct.specs.Promise.{EnergyNotNegative, NoSmaller}
-use Rattle.worse_conduct.specs.Demands.{Run, NeverCheaper}
-use Rattle.worse_conduct.proofs.Demands.{demand-3}
+use Rattle.demands.specs.Demands.{Run, NeverCheaper}
+use Rattle.demands.proofs.Demands.{demand-3}
 
 -- withheld MW, undelivered MW, fuel of E 4,999,990, an energy bid and a maximum parameter, all of unit 12 and hour 0
 unfoldable pub caseOf : (past : List ℕ) (withheld undelivered bid maximum : ℕ) → List ℕ

@@ -6,4 +6,3 @@ pub mod EntryChange
 pub mod AcceptedCase
 pub mod WorseConduct
 pub mod EachPart
-pub mod Demands

@@ -1,2 +1,1 @@
-// The three demands: specs/Demands has the claims, proofs/ their proofs, and run the calls they are about.
-pub mod run;
+// Worsening changes, and what a list of them never lowers: definitions and their proofs, no code.

@@ -1,5 +1,5 @@
 // The runs of which specs/Demands speaks are those of the call: one run, and the runs before and after a list of changes.
-ghost use Rattle.worse_conduct.specs.Demands.{Run, Demand1, Demand2, Demand3};
+ghost use Rattle.demands.specs.Demands.{Run, Demand1, Demand2, Demand3};
 use settlement::settle::Settlement;
 use settlement::settle::settle;
 

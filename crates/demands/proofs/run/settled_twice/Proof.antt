@@ -1,7 +1,7 @@
 use borrow.Author.Needs.{needs}
-use Rattle.worse_conduct.proofs.Demands.{demand-3}
-use Rattle.worse_conduct.proofs.run.settled_twice.Statement.{statement}
-use Rattle.worse_conduct.proofs.run.settled_twice.Tie as tie
+use Rattle.demands.proofs.Demands.{demand-3}
+use Rattle.demands.proofs.run.settled_twice.Statement.{statement}
+use Rattle.demands.proofs.run.settled_twice.Tie as tie
 
 pub settled-twice-spec : {M : Type 1} → statement M
 settled-twice-spec =

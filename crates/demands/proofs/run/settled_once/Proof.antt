@@ -1,8 +1,8 @@
 use borrow.Author.Needs.{needs}
-use Rattle.worse_conduct.specs.Demands.{Run}
-use Rattle.worse_conduct.proofs.Demands.{demand-1, demand-2}
-use Rattle.worse_conduct.proofs.run.settled_once.Statement.{statement}
-use Rattle.worse_conduct.proofs.run.settled_once.Tie as tie
+use Rattle.demands.specs.Demands.{Run}
+use Rattle.demands.proofs.Demands.{demand-1, demand-2}
+use Rattle.demands.proofs.run.settled_once.Statement.{statement}
+use Rattle.demands.proofs.run.settled_once.Tie as tie
 
 pub settled-once-spec : {M : Type 1} → statement M
 settled-once-spec =

@@ -14,8 +14,8 @@ use Rattle.settlement.specs.Settled.{SettlementAnswer, accepted, answerOf, sett
 use Rattle.settlement.specs.declared.settle.Settlement.{Settlement}
 use Rattle.settlement.specs.declared.settle.Settlement.the-variants as settlement
 use Rattle.settlement.proofs.SettleLaws.{told-answer}
-use Rattle.worse_conduct.specs.Demands.{Run, Demand1, Demand2, Demand3}
 use Rattle.worse_conduct.proofs.WorseConduct.{worse-conduct}
+use Rattle.demands.specs.Demands.{Run, Demand1, Demand2, Demand3}
 
 module _ (file correction rows : List ℕ) (answer : Settlement) (after : List ℕ) (run : Run file correction rows answer after) where
   -- the answer's number and values
