@@ -16,9 +16,9 @@ use Rattle.limits.specs.StageChecked.{AcceptedFile}
 use Rattle.party_runs.proofs.PartyLaws.{accepted-runs}
 use Rattle.sanctions.specs.declared.sanction.Sanction.{Sanction}
 use Rattle.sanctions.specs.Penalties.{penalty, totalPenalty}
-use Rattle.sanctions.specs.StageFound.{Sound}
+use Rattle.sanctions.specs.StageGiven.{Sound}
 use Rattle.sanctions.specs.StageTables.{rowAt}
-use Rattle.sanctions.proofs.AcceptedLaws as sanctions
+use Rattle.sanctions.proofs.AcceptedFigures as sanctions
 use Rattle.sanctions.proofs.FoundLaws as sanctions-found
 use Rattle.sanctions.proofs.FoundLaws.{SanctionTurn}
 use Rattle.default_bids.specs.StageFigures.{mitigatedBy, bidBy, makeUpBy}

@@ -9,7 +9,7 @@ use Rattle.casefile.specs.Decode.{formatIn, sectionOf, decode}
 use Rattle.casefile.specs.Lookup.{unitOf}
 use Rattle.conduct.specs.Flags.{flagMask}
 use Rattle.sanctions.specs.Penalties.{totalPenalty}
-use Rattle.sanctions.specs.StageFound.{FoundMasks}
+use Rattle.sanctions.specs.StageGiven.{FoundMasks}
 use Rattle.sanctions.specs.StageTables.{sanctionOf}
 use Rattle.case_rows.specs.declared.rows.Row.{Row}
 use Rattle.case_rows.specs.declared.rows.Totals.{Totals}

@@ -29,7 +29,7 @@ use Rattle.conduct.specs.StageTime.{BidsInOrder}
 use Rattle.conduct.specs.StageFlags.{timeTotalIn, bidFlagIn, flaggedIn, flagMaskIn, Led}
 use Rattle.conduct.proofs.SumLaws.{cond-given}
 use Rattle.conduct.proofs.TimeLaws.{bids-in-order}
-use Rattle.conduct.proofs.MaskLaws.{hours-are}
+use Rattle.conduct.proofs.HourTestLaws.{hours-are}
 
 -- ---- with the references in place of the levels
 

@@ -24,7 +24,7 @@ use Rattle.party_runs.specs.StageParties.{sameRun, RunEnd, leaderOf}
 use Rattle.party_runs.proofs.PartyLaws.{together-fields, together-sym, together-same, any-together, leader-le, leader-together, leader-same, leader-eqb, fields-run}
 use Rattle.conduct.specs.Flags.{sumTogether, timeBid, groupCapability, fuelFlag}
 use Rattle.conduct.specs.StageFlags.{partyFigure, ledSum, partySum, PartyWithin, HasRow, capabilityOf, listedCapability, timeTotalIn, totalRead, flaggedIn, flagMaskIn, maskIn, Led, memberMask, LeaderFlagged, PartyFlagged, Flagged}
-use Rattle.conduct.proofs.MaskLaws.{hours-are, mask-is}
+use Rattle.conduct.proofs.HourTestLaws.{hours-are, mask-is}
 use Rattle.conduct.proofs.SumLaws.{capability-is}
 
 kind-is : (format : Format) (u e : List ℕ) (i : ℕ) → caseIn format u [] [] e .events .kind i ≡ eventsIn format e .kind i

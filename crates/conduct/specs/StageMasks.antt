@@ -10,9 +10,9 @@ use Rattle.tariff.specs.StageSums.{highestSum}
 use Rattle.casefile.specs.Layout.{mostHours}
 use Rattle.casefile.specs.Case.{Units, Events}
 use Rattle.casefile.specs.StageRead.{cellOf}
-use Rattle.conduct.specs.declared.masks.Bid.{Bid}
-use Rattle.conduct.specs.declared.masks.ConductTest.{ConductTest}
-use Rattle.conduct.specs.declared.masks.ConductTest.the-variants as test
+use Rattle.conduct.specs.declared.hour_tests.Bid.{Bid}
+use Rattle.conduct.specs.declared.hour_tests.ConductTest.{ConductTest}
+use Rattle.conduct.specs.declared.hour_tests.ConductTest.the-variants as test
 
 -- what the test of a bid reads, its unit at that place and its reference level at hand
 unfoldable pub bidOf : Units → Events → (place level i : ℕ) → Bid

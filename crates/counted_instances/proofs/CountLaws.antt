@@ -17,7 +17,7 @@ use Rattle.casefile.specs.Decode.{decode}
 use Rattle.limits.specs.Refusal.{refusal, mostRows}
 use Rattle.limits.proofs.AcceptedLaws as case
 use Rattle.sanctions.specs.Penalties.{isInstance, countsHere, countsPast, instances, N3, N2}
-use Rattle.counted_instances.specs.CountedInstances.{countedHere, countedPast, byteOf, eventBytes, pastBytes, listBytes, countedLength, countedByte, withCounted, instancesAnswer, instancesOut, bitIn, bitsFrom, CountsAgree}
+use Rattle.counted_instances.specs.CountedInstances.{countedHere, countedPast, byteOf, eventListBytes, pastListBytes, listBytes, countedLength, countedByte, withCounted, instancesAnswer, instancesOut, bitIn, bitsFrom, CountsAgree}
 
 -- bit j % 8 of byte j / 8
 bit-byte : (p : ℕ → Bool) (j : ℕ) → bitOf (byteOf p (j / 8)) (j % 8) ≡ p j
@@ -56,33 +56,33 @@ module _ (c : Case) (i : ℕ) (old : List ℕ) where
       let x : j / 8 < bytes = omega arith in
       ap (λ (b : ℕ). bitOf b (j % 8)) (byte-of (start + j / 8) (omega arith) ∙ is (j / 8) x) ∙ bit-byte p j)
 
-  events-3 : (x : ℕ) → x < eventBytes → countedByte c i (0 + x) ≡ byteOf (countedHere c 2 i) x
+  events-3 : (x : ℕ) → x < eventListBytes → countedByte c i (0 + x) ≡ byteOf (countedHere c 2 i) x
   unfolding countedByte
-  events-3 x l = let e : 0 + x ≡ x = omega arith in rw (e, lt-ltb x eventBytes l)
+  events-3 x l = let e : 0 + x ≡ x = omega arith in rw (e, lt-ltb x eventListBytes l)
 
-  past-3 : (x : ℕ) → x < pastBytes → countedByte c i (0 + eventBytes + x) ≡ byteOf (countedPast c 2 i) x
+  past-3 : (x : ℕ) → x < pastListBytes → countedByte c i (0 + eventListBytes + x) ≡ byteOf (countedPast c 2 i) x
   unfolding countedByte
   past-3 x l =
-      rw (le-ltb (0 + eventBytes + x) eventBytes (omega arith), lt-ltb (0 + eventBytes + x) listBytes (omega arith))
+      rw (le-ltb (0 + eventListBytes + x) eventListBytes (omega arith), lt-ltb (0 + eventListBytes + x) listBytes (omega arith))
       (ap (byteOf (countedPast c 2 i)) (omega arith))
 
-  events-2 : (x : ℕ) → x < eventBytes → countedByte c i (listBytes + x) ≡ byteOf (countedHere c 1 i) x
+  events-2 : (x : ℕ) → x < eventListBytes → countedByte c i (listBytes + x) ≡ byteOf (countedHere c 1 i) x
   unfolding countedByte
   events-2 x l =
       rw (
-        le-ltb (listBytes + x) eventBytes (omega arith),
+        le-ltb (listBytes + x) eventListBytes (omega arith),
         le-ltb (listBytes + x) listBytes (omega arith),
-        lt-ltb (listBytes + x) (listBytes + eventBytes) (omega arith),
+        lt-ltb (listBytes + x) (listBytes + eventListBytes) (omega arith),
       )
       (ap (byteOf (countedHere c 1 i)) (omega arith))
 
-  past-2 : (x : ℕ) → x < pastBytes → countedByte c i (listBytes + eventBytes + x) ≡ byteOf (countedPast c 1 i) x
+  past-2 : (x : ℕ) → x < pastListBytes → countedByte c i (listBytes + eventListBytes + x) ≡ byteOf (countedPast c 1 i) x
   unfolding countedByte
   past-2 x l =
       rw (
-        le-ltb (listBytes + eventBytes + x) eventBytes (omega arith),
-        le-ltb (listBytes + eventBytes + x) listBytes (omega arith),
-        le-ltb (listBytes + eventBytes + x) (listBytes + eventBytes) (omega arith),
+        le-ltb (listBytes + eventListBytes + x) eventListBytes (omega arith),
+        le-ltb (listBytes + eventListBytes + x) listBytes (omega arith),
+        le-ltb (listBytes + eventListBytes + x) (listBytes + eventListBytes) (omega arith),
       )
       (ap (byteOf (countedPast c 1 i)) (omega arith))
 
@@ -119,9 +119,9 @@ module _ (c : Case) (i : ℕ) (old : List ℕ) where
       → (bitsFrom (withCounted c i old) 0 ≡ N3 c i - 1) × (bitsFrom (withCounted c i old) listBytes ≡ N2 c i - 1)
   unfolding N3 N2
   counts-written l m = (
-    ap₂ _+_ (list-bits 0 eventBytes mostEvents _ (omega arith) (omega arith) events-3) (list-bits (0 + eventBytes) pastBytes mostPast _ (omega arith) (omega arith) past-3)
+    ap₂ _+_ (list-bits 0 eventListBytes mostEvents _ (omega arith) (omega arith) events-3) (list-bits (0 + eventListBytes) pastListBytes mostPast _ (omega arith) (omega arith) past-3)
         ∙ one-less 2 l m,
-    ap₂ _+_ (list-bits listBytes eventBytes mostEvents _ (omega arith) (omega arith) events-2) (list-bits (listBytes + eventBytes) pastBytes mostPast _ (omega arith) (omega arith) past-2)
+    ap₂ _+_ (list-bits listBytes eventListBytes mostEvents _ (omega arith) (omega arith) events-2) (list-bits (listBytes + eventListBytes) pastListBytes mostPast _ (omega arith) (omega arith) past-2)
         ∙ one-less 1 l m,
   )
 

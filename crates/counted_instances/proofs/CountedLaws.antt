@@ -14,10 +14,10 @@ use Rattle.casefile.specs.declared.layout.Format.{Format}
 use Rattle.casefile.specs.Decode.{formatIn, sectionOf, pastIn, caseIn, decode}
 use Rattle.limits.specs.Refusal.{refusal, mostRows}
 use Rattle.limits.specs.StageChecked.{AcceptedFile}
-use Rattle.sanctions.specs.StageFound.{Accepted, FoundMasks}
-use Rattle.sanctions.proofs.AcceptedLaws as sanctions
+use Rattle.sanctions.specs.StageGiven.{Accepted, FoundMasks}
+use Rattle.sanctions.proofs.AcceptedFigures as sanctions
 use Rattle.sanctions.proofs.FoundLaws as found-laws
-use Rattle.counted_instances.specs.CountedInstances.{countedHere, countedPast, byteOf, eventBytes, listBytes, countedLength, countedByte, withCounted, instancesAnswer, instancesOut}
+use Rattle.counted_instances.specs.CountedInstances.{countedHere, countedPast, byteOf, eventListBytes, listBytes, countedLength, countedByte, withCounted, instancesAnswer, instancesOut}
 use Rattle.counted_instances.specs.StageCounted.{eventCounted, entryCounted, byteIn}
 
 -- the same bits make the same byte
@@ -59,9 +59,9 @@ module _ (f : List ℕ) (acc : AcceptedFile f) (groups leaders masks : List ℕ)
   byte-is b =
       rw (
         byte-same _ _ (event-is 2) b,
-        byte-same _ _ (past-is 2) (b - eventBytes),
+        byte-same _ _ (past-is 2) (b - eventListBytes),
         byte-same _ _ (event-is 1) (b - listBytes),
-        byte-same _ _ (past-is 1) (b - (listBytes + eventBytes)),
+        byte-same _ _ (past-is 1) (b - (listBytes + eventListBytes)),
       )
 
   pub counted-put : (format : Format) (p e out old : List ℕ) → format ≡ formatIn f → p ≡ sectionOf f 2 → e ≡ sectionOf f 3

@@ -26,14 +26,14 @@ unfoldable pub byteOf : (ℕ → Bool) → ℕ → ℕ
 byteOf p b = maskTo 8 (λ t. p (8 * b + t))
 
 -- a bit for each of 200 events and 256 past entries
-abbrev pub eventBytes : ℕ
-eventBytes = 25
+abbrev pub eventListBytes : ℕ
+eventListBytes = 25
 
-abbrev pub pastBytes : ℕ
-pastBytes = 32
+abbrev pub pastListBytes : ℕ
+pastListBytes = 32
 
 abbrev pub listBytes : ℕ
-listBytes = eventBytes + pastBytes
+listBytes = eventListBytes + pastListBytes
 
 -- the lists of N3, then those of N2
 abbrev pub countedLength : ℕ
@@ -41,10 +41,10 @@ countedLength = 2 * listBytes
 
 unfoldable pub countedByte : Case → (i b : ℕ) → ℕ
 countedByte c i b =
-    cond (ltb b eventBytes) (byteOf (countedHere c 2 i) b)
-    (cond (ltb b listBytes) (byteOf (countedPast c 2 i) (b - eventBytes))
-    (cond (ltb b (listBytes + eventBytes)) (byteOf (countedHere c 1 i) (b - listBytes))
-    (byteOf (countedPast c 1 i) (b - (listBytes + eventBytes)))))
+    cond (ltb b eventListBytes) (byteOf (countedHere c 2 i) b)
+    (cond (ltb b listBytes) (byteOf (countedPast c 2 i) (b - eventListBytes))
+    (cond (ltb b (listBytes + eventListBytes)) (byteOf (countedHere c 1 i) (b - listBytes))
+    (byteOf (countedPast c 1 i) (b - (listBytes + eventListBytes)))))
 
 -- the buffer once the lists are written; its bytes beyond them stay
 unfoldable pub withCounted : Case → ℕ → (out : List ℕ) → List ℕ
@@ -69,7 +69,7 @@ bitIn out start j = bitOf (getD out (start + j / 8) 0) (j % 8)
 
 -- the bits of a list of events and of the list of past entries behind it
 abbrev pub bitsFrom : (out : List ℕ) (start : ℕ) → ℕ
-bitsFrom out start = countTo mostEvents (bitIn out start) + countTo mostPast (bitIn out (start + eventBytes))
+bitsFrom out start = countTo mostEvents (bitIn out start) + countTo mostPast (bitIn out (start + eventListBytes))
 
 -- the lists that are written have one bit fewer than N3 and N2 count; of an event that is no instance both are 0, and so are the bits
 abbrev pub CountsAgree : Type 0

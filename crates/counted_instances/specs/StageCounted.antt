@@ -7,7 +7,7 @@ use lib.ListN.{getD}
 use Rattle.casefile.specs.declared.layout.Format.{Format}
 use Rattle.casefile.specs.Decode.{pastIn, eventsIn}
 use Rattle.instance_counts.specs.StageInstances.{instanceAt, rowCounts, entryCounts}
-use Rattle.counted_instances.specs.CountedInstances.{byteOf, eventBytes, listBytes}
+use Rattle.counted_instances.specs.CountedInstances.{byteOf, eventListBytes, listBytes}
 
 -- event j is counted by event i, k periods back
 unfoldable pub eventCounted : Format → (events groups masks : List ℕ) (k i j : ℕ) → Bool
@@ -26,7 +26,7 @@ entryCounted format past events groups masks k i j =
 -- byte b of the lists
 unfoldable pub byteIn : Format → (past events groups masks : List ℕ) (i b : ℕ) → ℕ
 byteIn format past events groups masks i b =
-    cond (ltb b eventBytes) (byteOf (eventCounted format events groups masks 2 i) b)
-    (cond (ltb b listBytes) (byteOf (entryCounted format past events groups masks 2 i) (b - eventBytes))
-    (cond (ltb b (listBytes + eventBytes)) (byteOf (eventCounted format events groups masks 1 i) (b - listBytes))
-    (byteOf (entryCounted format past events groups masks 1 i) (b - (listBytes + eventBytes)))))
+    cond (ltb b eventListBytes) (byteOf (eventCounted format events groups masks 2 i) b)
+    (cond (ltb b listBytes) (byteOf (entryCounted format past events groups masks 2 i) (b - eventListBytes))
+    (cond (ltb b (listBytes + eventListBytes)) (byteOf (eventCounted format events groups masks 1 i) (b - listBytes))
+    (byteOf (entryCounted format past events groups masks 1 i) (b - (listBytes + eventListBytes)))))

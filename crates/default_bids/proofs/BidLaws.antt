@@ -7,19 +7,19 @@ use borrow.Author.Tests.{eqb-true, ne-eqb, not-false}
 use lib.Bits.{bitAnd}
 use lib.Dec.{eqb}
 use lib.ListN.{replicate}
-use Rattle.casefile.specs.declared.layout.Format.{Format}
 use Rattle.binary.specs.Bounded.{maskTo, bitOf}
 use Rattle.binary.specs.Lists.{listTo}
 use Rattle.binary.proofs.Implies.{and-l}
 use Rattle.binary.proofs.MaskLaws.{mask-same, bit-mask, bit-and}
 use Rattle.binary.proofs.ListLaws.{list-same}
 use Rattle.tariff.specs.DefaultBidRules.{lesser, defaultBid, inForce, restores, correctedBid}
+use Rattle.casefile.specs.declared.layout.Format.{Format}
 use Rattle.casefile.specs.Layout.{mostHours}
 use Rattle.casefile.specs.Decode.{unitsIn, eventsIn, amountsIn, cellsFrom}
 use Rattle.casefile.specs.StageRead.{cellOf}
 use Rattle.conduct.specs.StageMasks.{bidOf, tightHours, failsIn, failsAt}
-use Rattle.conduct.specs.declared.masks.ConductTest.the-variants as test
-use Rattle.conduct.proofs.MaskLaws.{tight-bit}
+use Rattle.conduct.specs.declared.hour_tests.ConductTest.the-variants as test
+use Rattle.conduct.proofs.HourTestLaws.{tight-bit}
 use Rattle.conduct.proofs.SumLaws.{cell-amount, zeros-at}
 use Rattle.default_bids.specs.StageFigures.{heldBid, failsWith, bidBy}
 use Rattle.default_bids.proofs.SpanLaws.{no-bit}

@@ -12,10 +12,10 @@ use casefile::events::event_at;
 use casefile::events::event_cells;
 use casefile::layout;
 use casefile::layout::Format;
-use conduct::masks::ConductTest;
-use conduct::masks::bid_of;
-use conduct::masks::failing_hours;
-use conduct::masks::tight_hours;
+use conduct::hour_tests::ConductTest;
+use conduct::hour_tests::bid_of;
+use conduct::hour_tests::failing_hours;
+use conduct::hour_tests::tight_hours;
 use tariff::default_bid_rules::in_force;
 use tariff::default_bid_rules::restores;
 

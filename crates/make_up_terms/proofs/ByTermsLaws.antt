@@ -25,7 +25,7 @@ use Rattle.limits.specs.StageLookup.{readsLevel, correctLevel}
 use Rattle.conduct.specs.Flags.{tight}
 use Rattle.default_bids.specs.Mitigation.{mitigated, correctOf, bidInForce, makeUpTenths, makeUpOf}
 use Rattle.make_up_terms.specs.declared.make_up_working.MakeUpWorking.{MakeUpWorking}
-use Rattle.make_up_terms.specs.MakeUpWorking.{correctRead, restored, energyBid, hourTenths, makeUpWorkingAt, refusedMakeUp, makeUpWorkingOf}
+use Rattle.make_up_terms.specs.MakeUpWorking.{correctRead, restored, energyBid, hourMakeUpTenths, makeUpWorkingAt, refusedMakeUp, makeUpWorkingOf}
 use Rattle.make_up_terms.specs.ByTerms.{MakeUpByTerms, ByTerms}
 use Rattle.make_up_terms.proofs.MakeUpLaws.{energy-reads, correct-read}
 
@@ -42,8 +42,8 @@ no-make-up r c = go (eqb c r)
 
 -- the hours of a bid on energy add to its make-up in tenths; others have none
 tenths-added : (f : List ℕ) (correct : References) (i : ℕ)
-    → sumTo mostHours (hourTenths (decode f) correct i) ≡ cond (energyBid (decode f) i) (makeUpTenths (decode f) correct i) 0
-unfolding hourTenths makeUpTenths decode caseIn eventsIn
+    → sumTo mostHours (hourMakeUpTenths (decode f) correct i) ≡ cond (energyBid (decode f) i) (makeUpTenths (decode f) correct i) 0
+unfolding hourMakeUpTenths makeUpTenths decode caseIn eventsIn
 tenths-added f correct i = go (energyBid (decode f) i) _
   where
     go : (b : Bool) (p : ℕ → ℕ) → sumTo mostHours (λ h. cond b (p h) 0) ≡ cond b (sumTo mostHours p) 0
@@ -111,10 +111,10 @@ module _ (c : Case) (i : ℕ) where
 -- ---- of every working that is given
 
 module _ (f : List ℕ) (correct : References) (i : ℕ) where
-  summed-is : sumTo mostHours (λ h. getD (listTo mostHours (hourTenths (decode f) correct i)) h 0) ≡ cond (energyBid (decode f) i) (makeUpTenths (decode f) correct i) 0
-  summed-is = sum-same mostHours _ _ (λ h m. list-at (hourTenths (decode f) correct i) mostHours h 0 m) ∙ hours-is
+  summed-is : sumTo mostHours (λ h. getD (listTo mostHours (hourMakeUpTenths (decode f) correct i)) h 0) ≡ cond (energyBid (decode f) i) (makeUpTenths (decode f) correct i) 0
+  summed-is = sum-same mostHours _ _ (λ h m. list-at (hourMakeUpTenths (decode f) correct i) mostHours h 0 m) ∙ hours-is
     where
-      hours-is : sumTo mostHours (hourTenths (decode f) correct i) ≡ cond (energyBid (decode f) i) (makeUpTenths (decode f) correct i) 0
+      hours-is : sumTo mostHours (hourMakeUpTenths (decode f) correct i) ≡ cond (energyBid (decode f) i) (makeUpTenths (decode f) correct i) 0
       hours-is = tenths-added f correct i
 
   restored-bit : (h : ℕ) → h < mostHours → bitOf (maskTo (decode f .events .hours i) (restored (decode f) correct i)) h ≡ restored (decode f) correct i h

@@ -28,7 +28,7 @@ use Rattle.default_bids.specs.StageFigures.{mitigatedBy, failsWith, tenthsAt, m
 use Rattle.default_bids.proofs.SpanLaws.{mask-nothing}
 use Rattle.default_bids.proofs.FigureLaws.{restores-none, by-read, mitigated-bit, mitigated-by, tenths-are, make-up-by}
 use Rattle.make_up_terms.specs.declared.make_up_working.MakeUpTerms.{MakeUpTerms}
-use Rattle.make_up_terms.specs.MakeUpWorking.{correctRead, restored, energyBid, hourTenths, makeUpWorkingAt, refusedMakeUp, makeUpWorkingOf}
+use Rattle.make_up_terms.specs.MakeUpWorking.{correctRead, restored, energyBid, hourMakeUpTenths, makeUpWorkingAt, refusedMakeUp, makeUpWorkingOf}
 use Rattle.make_up_terms.specs.StageMakeUp.{restoredIn, restoredBy, termsBy, makeUpWorkingIn}
 
 -- ---- restored hours
@@ -105,18 +105,18 @@ module _ (format : Format) (u r p s : List ℕ) (i : ℕ) where
     correct-is t = e ∙ rw (energy-reads c i t)
 
     hours-bid : energyBid c i ≡ true → (x : ℕ) → x ≡ correctOf c correct i
-        → listTo mostHours (tenthsAt (cellsFrom format s i) x (mitigatedMask c i)) ≡ listTo mostHours (hourTenths c correct i)
-    unfolding tenthsAt cellOf hourTenths caseIn eventsIn amountsIn cellsIn
+        → listTo mostHours (tenthsAt (cellsFrom format s i) x (mitigatedMask c i)) ≡ listTo mostHours (hourMakeUpTenths c correct i)
+    unfolding tenthsAt cellOf hourMakeUpTenths caseIn eventsIn amountsIn cellsIn
     hours-bid t x q = list-same mostHours _ _ (λ h l. rw (t, q, mitigated-bit format u r p s i h l))
 
-    hours-none : energyBid c i ≡ false → replicate mostHours 0 ≡ listTo mostHours (hourTenths c correct i)
-    unfolding hourTenths
+    hours-none : energyBid c i ≡ false → replicate mostHours 0 ≡ listTo mostHours (hourMakeUpTenths c correct i)
+    unfolding hourMakeUpTenths
     hours-none t = zeros ∙ sym (list-same mostHours _ (λ (h : ℕ). 0) (λ h l. rw t))
 
     sum-bid : energyBid c i ≡ true → sumTo mostHours (tenthsAt (cellsFrom format s i) y (mitigatedMask c i)) ≡ makeUpTenths c correct i
     sum-bid t = rw (correct-is t) (tenths-are format u r p s i correct)
 
-    terms-are : termsBy format s i y (mitigatedMask c i) ≡ terms (cond (energyBid c i) (makeUpTenths c correct i) 0) (listTo mostHours (hourTenths c correct i))
+    terms-are : termsBy format s i y (mitigatedMask c i) ≡ terms (cond (energyBid c i) (makeUpTenths c correct i) 0) (listTo mostHours (hourMakeUpTenths c correct i))
     unfolding termsBy energyBid caseIn
     terms-are = go (energyBid c i) refl
       where
@@ -124,7 +124,7 @@ module _ (format : Format) (u r p s : List ℕ) (i : ℕ) where
             → cond b
             (terms (sumTo mostHours (tenthsAt (cellsFrom format s i) y (mitigatedMask c i))) (listTo mostHours (tenthsAt (cellsFrom format s i) y (mitigatedMask c i))))
             (terms 0 (replicate mostHours 0))
-            ≡ terms (cond b (makeUpTenths c correct i) 0) (listTo mostHours (hourTenths c correct i))
+            ≡ terms (cond b (makeUpTenths c correct i) 0) (listTo mostHours (hourMakeUpTenths c correct i))
         go true t = ap₂ terms (sum-bid t) (hours-bid t y (correct-is t))
         go false t = ap (terms 0) (hours-none t)
 

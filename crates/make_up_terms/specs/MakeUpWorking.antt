@@ -37,8 +37,8 @@ unfoldable pub energyBid : Case → ℕ → Bool
 energyBid c i = eqb (c .events .kind i) 4 && eqb (c .events .component i) 0
 
 -- its hour h, in tenths of a cent: m × (the lesser of a and c, less b, or 0 if negative) where the hour is mitigated
-unfoldable pub hourTenths : Case → (correct : References) → (i h : ℕ) → ℕ
-hourTenths c correct i h =
+unfoldable pub hourMakeUpTenths : Case → (correct : References) → (i h : ℕ) → ℕ
+hourMakeUpTenths c correct i h =
     cond (energyBid c i)
     (cond (mitigated c i h) (hourMakeUp (c .a i h) (c .events .b i h) (c .events .m i h) (correctOf c correct i)) 0)
     0
@@ -53,7 +53,7 @@ makeUpWorkingAt c correct i =
       restored = maskTo (c .events .hours i) (restored c correct i);
       tenths = cond (energyBid c i) (makeUpTenths c correct i) 0;
       «make_up» = makeUpOf c correct i;
-      hours = listTo mostHours (hourTenths c correct i);
+      hours = listTo mostHours (hourMakeUpTenths c correct i);
     }
 
 unfoldable pub refusedMakeUp : (number : ℕ) → MakeUpWorking

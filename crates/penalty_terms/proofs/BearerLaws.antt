@@ -18,9 +18,9 @@ use Rattle.limits.proofs.LookupLaws.{last-below}
 use Rattle.party_runs.specs.StageParties.{leaderOf}
 use Rattle.party_runs.proofs.PartyLaws.{together-fields, leader-le, leader-together, leader-same}
 use Rattle.sanctions.specs.Penalties.{lowestUnit}
-use Rattle.sanctions.specs.StageFound.{Accepted}
-use Rattle.sanctions.proofs.PartyLaws.{lowest-leader}
-use Rattle.sanctions.proofs.AcceptedLaws as sanctions
+use Rattle.sanctions.specs.StageGiven.{Accepted}
+use Rattle.sanctions.proofs.LeaderLaws.{lowest-leader}
+use Rattle.sanctions.proofs.AcceptedFigures as sanctions
 use Rattle.penalty_terms.specs.PenaltyWorking.{bearer}
 
 -- of any other event its own

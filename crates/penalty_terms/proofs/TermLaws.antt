@@ -25,10 +25,10 @@ use Rattle.party_runs.proofs.PartyLaws.{accepted-runs, leader-le}
 use Rattle.conduct.specs.Flags.{flagged}
 use Rattle.sanctions.specs.declared.sanction.Sanction.{Sanction}
 use Rattle.sanctions.specs.Penalties.{gain, loss, tccChange, fuelMultiplier, multiplier, penalty, withheldAmount, dispatchRevenue}
-use Rattle.sanctions.specs.StageFound.{Accepted, FoundMasks, Sound}
+use Rattle.sanctions.specs.StageGiven.{Accepted, FoundMasks, Sound}
 use Rattle.sanctions.specs.StageTables.{rowAt, sanctionOf}
 use Rattle.sanctions.proofs.TableLaws.{after-small}
-use Rattle.sanctions.proofs.AcceptedLaws as sanctions
+use Rattle.sanctions.proofs.AcceptedFigures as sanctions
 use Rattle.sanctions.proofs.FoundLaws as found-laws
 use Rattle.penalty_terms.specs.declared.penalty_working.PenaltyWorking.{PenaltyWorking}
 use Rattle.penalty_terms.specs.declared.penalty_working.FuelTerms.{FuelTerms}

@@ -10,7 +10,7 @@ use Rattle.tariff.specs.SanctionRules.{fuelCharge, leastCharge}
 use Rattle.casefile.specs.declared.layout.Format.{Format}
 use Rattle.casefile.specs.Layout.{mostHours}
 use Rattle.casefile.specs.Decode.{eventsIn}
-use Rattle.sanctions.specs.StageFound.{highestAmount}
+use Rattle.sanctions.specs.StageGiven.{highestAmount}
 use Rattle.sanctions.specs.StageTables.{hourEnergy, hourRevenue, partyDay}
 use Rattle.sanctions.specs.declared.fuel.PartyDay.{PartyDay}
 use Rattle.penalty_terms.specs.declared.penalty_working.FuelTerms.{FuelTerms}

@@ -5,7 +5,7 @@ ghost use lib.ListN.{length, getD};
 ghost use Rattle.binary.specs.Bounded.{sumTo};
 ghost use Rattle.binary.specs.Lists.{listTo};
 ghost use Rattle.casefile.specs.Layout.{cellWidth, mostHours};
-ghost use Rattle.sanctions.specs.StageFound.{SmallAmounts};
+ghost use Rattle.sanctions.specs.StageGiven.{SmallAmounts};
 ghost use Rattle.penalty_terms.specs.StageTerms.{termIn, lossIn, highestTerm, SmallTerms, addedIn};
 use casefile::layout;
 use sanctions::dispatch::hour_revenue;

@@ -6,7 +6,7 @@ ghost use Rattle.casefile.specs.Layout.{mostEvents};
 ghost use Rattle.casefile.specs.Decode.{eventsIn, decode};
 ghost use Rattle.casefile.specs.Lookup.{unitOf, bidLevel};
 ghost use Rattle.limits.specs.StageChecked.{AcceptedFile};
-ghost use Rattle.sanctions.specs.StageFound.{FoundMasks, Sound};
+ghost use Rattle.sanctions.specs.StageGiven.{FoundMasks, Sound};
 ghost use Rattle.sanctions.specs.StageTables.{sanctionOf};
 ghost use Rattle.penalty_terms.specs.PenaltyWorking.{penaltyWorkingAt, refusedPenalty, penaltyWorkingOf};
 ghost use Rattle.penalty_terms.specs.StageTerms.{fuelIn};

@@ -27,9 +27,9 @@ rowFields r =
     field (u32At r 0) space ++ field (u32At r 4) space ++ field (byteAt r 24) space ++ field (u64At r 8) space
     ++ field (u64At r 16) lineFeed
 
-unfoldable pub lineOf : Format → Events → (rows : List ℕ) → ℕ → List ℕ
-lineOf format e rows i = eventFields e i ++ rowFields (recordAt (rowWidth format) rows i)
+unfoldable pub listingLine : Format → Events → (rows : List ℕ) → ℕ → List ℕ
+listingLine format e rows i = eventFields e i ++ rowFields (recordAt (rowWidth format) rows i)
 
 -- the lines of the first n events
 unfoldable pub linesTo : Format → (n : ℕ) → Events → (rows : List ℕ) → List ℕ
-linesTo format n e rows = joinTo n (lineOf format e rows)
+linesTo format n e rows = joinTo n (listingLine format e rows)

@@ -29,14 +29,14 @@ use Rattle.conduct.proofs.SumLaws.{cell-amount}
 use Rattle.instance_counts.specs.StageInstances.{withImpact, instanceAt, instanceOf, rowCounts, entryOf, entryCounts, instancesHere, instancesPast, instancesAt}
 use Rattle.instance_counts.specs.declared.instances.Instances.{Instances}
 use Rattle.sanctions.specs.Penalties.{flaggedWithImpact, isInstance, countsHere, countsPast, instances, N3, N2, withheldMultiplier, withheldAmount, withheldPenaltyOf, dispatchMultiplier, dispatchRevenue, dispatchPenaltyOf, energyPart, gain, loss, tccChange, lowestUnit, pastFuel, fuelMultiplierAfter, fuelPenaltyUnder, fuelMultiplier, fuelPenaltyOf, multiplier, penalty, countsFuelHere}
-use Rattle.sanctions.specs.StageFound.{Accepted, FoundMasks, Sound, highestPenalty}
+use Rattle.sanctions.specs.StageGiven.{Accepted, FoundMasks, Sound, highestPenalty}
 use Rattle.sanctions.specs.StageTables.{hourEnergy, hourRevenue, noSanction, instanceRow, withheldRow, dispatchRow, energyIn, ledBy, energyAt, tccAt, partyDay, fuelRowCounts, fuelEntryCounts, multiplierAt, partyPenalty, fuelRow, rowAt, sanctionOf}
 use Rattle.sanctions.specs.declared.sanction.Sanction.{Sanction}
 use Rattle.sanctions.proofs.InstanceLaws.{instances-positive}
 use Rattle.sanctions.proofs.PenaltyBounds.{penalty-bound}
-use Rattle.sanctions.proofs.PartyLaws.{leads, lowest-leader}
+use Rattle.sanctions.proofs.LeaderLaws.{leads, lowest-leader}
 use Rattle.sanctions.proofs.PriorLaws.{prior-rows}
-use Rattle.sanctions.proofs.AcceptedLaws.{bare-component, ranges}
+use Rattle.sanctions.proofs.AcceptedFigures.{bare-component, ranges}
 
 -- b of event i and hour h, read in the part where its cells begin
 cell-price : (format : Format) (e : List ℕ) (i h : ℕ) → cellOf (cellsFrom format e i) h .b ≡ eventsIn format e .b i h

@@ -1,9 +1,9 @@
 pub mod PenaltyBounds
 pub mod InstanceLaws
 pub mod TableLaws
-pub mod PartyLaws
+pub mod LeaderLaws
 pub mod PriorLaws
 pub mod EnergyLaws
-pub mod AcceptedLaws
+pub mod AcceptedFigures
 pub mod FoundLaws
 pub mod WholeFile

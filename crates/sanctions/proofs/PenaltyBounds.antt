@@ -17,7 +17,7 @@ use Rattle.casefile.specs.Case.{Case}
 use Rattle.casefile.specs.Lookup.{together}
 use Rattle.conduct.specs.Flags.{sumTogether, fuelFlag, flagged}
 use Rattle.sanctions.specs.Penalties.{flaggedWithImpact, isInstance, instances, withheldMultiplier, withheldAmount, withheldPenaltyOf, dispatchMultiplier, dispatchRevenue, dispatchPenaltyOf, energyPart, gain, loss, tccChange, lowestUnit, fuelMultiplierAfter, fuelPenaltyUnder, fuelMultiplier, fuelPenaltyOf, multiplier, penalty}
-use Rattle.sanctions.specs.StageFound.{highestPenalty}
+use Rattle.sanctions.specs.StageGiven.{highestPenalty}
 
 -- the ranges of an accepted case that its penalties depend on
 pub record Ranges (c : Case) : Type 0 where

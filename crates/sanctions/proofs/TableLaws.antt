@@ -20,10 +20,10 @@ use Rattle.casefile.specs.Decode.{eventsIn, cellsFrom}
 use Rattle.party_runs.specs.StageParties.{sameRun, RunEnd}
 use Rattle.party_runs.proofs.PartyLaws.{run-fields}
 use Rattle.sanctions.specs.Penalties.{fuelMultiplierAfter}
-use Rattle.sanctions.specs.StageFound.{highestAmount, SmallAmounts, Sound}
+use Rattle.sanctions.specs.StageGiven.{highestAmount, SmallAmounts, Sound}
 use Rattle.sanctions.specs.StageTables.{hourEnergy, energyIn, ledBy, energyAt, tccAt, partyShare, partyDay}
 use Rattle.sanctions.specs.declared.fuel.PartyDay.{PartyDay}
-use Rattle.sanctions.proofs.PartyLaws.{clash}
+use Rattle.sanctions.proofs.LeaderLaws.{clash}
 
 -- the highest part of a signed word, and with it what an hour and an event add to a party-day
 abbrev pub highestPart : ℕ

@@ -1,3 +1,3 @@
 pub mod Penalties
 pub mod StageTables
-pub mod StageFound
+pub mod StageGiven

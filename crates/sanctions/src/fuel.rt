@@ -7,7 +7,7 @@ ghost use Rattle.binary.specs.Word.{positivePart, negativePart};
 ghost use Rattle.casefile.specs.Layout.{cellWidth, mostHours, mostEvents};
 ghost use Rattle.casefile.specs.Decode.{eventsIn, pastIn};
 ghost use Rattle.sanctions.specs.Penalties.{fuelMultiplierAfter};
-ghost use Rattle.sanctions.specs.StageFound.{SmallAmounts, Sound};
+ghost use Rattle.sanctions.specs.StageGiven.{SmallAmounts, Sound};
 ghost use Rattle.sanctions.specs.StageTables.{hourEnergy, energyOf, partyShare, partyDay, fuelRowCounts, fuelEntryCounts, fuelRow};
 use crate::sanction::Sanction;
 use binary::masks::bit_of;

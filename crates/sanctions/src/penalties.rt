@@ -3,7 +3,7 @@ ghost use mathlib.Core.Path.{_≡_};
 ghost use Prim.Native.Nat.{_≤_, _<_};
 ghost use Rattle.casefile.specs.Decode.{eventsIn, pastIn};
 ghost use Rattle.casefile.specs.Layout.{mostPast, mostEvents};
-ghost use Rattle.sanctions.specs.StageFound.{Sound};
+ghost use Rattle.sanctions.specs.StageGiven.{Sound};
 ghost use Rattle.sanctions.specs.StageTables.{rowAt};
 use crate::dispatch::dispatch;
 use crate::fuel::fuel;

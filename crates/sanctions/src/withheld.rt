@@ -6,7 +6,7 @@ ghost use Rattle.binary.specs.Bounded.{sumTo};
 ghost use Rattle.binary.specs.Word.{positivePart};
 ghost use Rattle.casefile.specs.Decode.{eventsIn, pastIn, cellsFrom};
 ghost use Rattle.casefile.specs.Layout.{mostHours, cellWidth, mostPast, mostEvents};
-ghost use Rattle.sanctions.specs.StageFound.{SmallAmounts};
+ghost use Rattle.sanctions.specs.StageGiven.{SmallAmounts};
 ghost use Rattle.sanctions.specs.StageTables.{hourEnergy, withheldRow};
 use crate::sanction::Sanction;
 use binary::masks::bit_of;

@@ -10,7 +10,7 @@ use Rattle.sanctions.specs.Penalties.{totalPenalty}
 use Rattle.default_bids.specs.Mitigation.{totalMakeUp}
 use Rattle.settlement.specs.Row.{rowOf, rowsOf}
 use Rattle.settlement.specs.Settled.{accepted, answerOf, rowsAfter, settled}
-use Rattle.report.specs.Line.{lineOf, linesTo}
+use Rattle.report.specs.Line.{listingLine, linesTo}
 use Rattle.report.specs.Listing.{textOf, listingOf, listedLength, listedOut, listedRows}
 use Rattle.second_version.specs.SecondVersion.{copyRecords, copyReferences, copyOf, BothAccepted, SettlesAlike, ListsAlike}
 use Rattle.second_version.proofs.RecordCopies.{first}
@@ -58,7 +58,7 @@ module _ (f rows : List ℕ) (both : BothAccepted f [] (length rows)) where
       subst (λ (k : List ℕ). answerOf (copyOf f) k (length rows) ≡ answerOf f [] (length rows)) none-copied (answer-same f [] rows both)
 
   text-same : listingOf (copyOf f) rows ≡ listingOf f rows
-  unfolding listingOf textOf linesTo lineOf
+  unfolding listingOf textOf linesTo listingLine
   text-same = rw (answer-none, rows-none, same-case f [] (length rows) both)
 
 pub same-listing : (f rows : List ℕ) → ListsAlike f rows

@@ -29,8 +29,8 @@ use Rattle.conduct.proofs.SumLaws.{cond-le, cond-given, sum-amounts}
 use Rattle.conduct.proofs.FileLaws.{total-is, file-led}
 use Rattle.instance_counts.specs.declared.instances.Instances.{Instances}
 use Rattle.instance_counts.specs.StageInstances.{instancesAt}
-use Rattle.sanctions.specs.StageFound.{Accepted, FoundMasks}
-use Rattle.sanctions.proofs.AcceptedLaws as sanctions
+use Rattle.sanctions.specs.StageGiven.{Accepted, FoundMasks}
+use Rattle.sanctions.proofs.AcceptedFigures as sanctions
 use Rattle.sanctions.proofs.FoundLaws.{instances-are}
 use Rattle.working.specs.declared.figures.Sums.{Sums}
 use Rattle.working.specs.declared.figures.Figures.{Figures}

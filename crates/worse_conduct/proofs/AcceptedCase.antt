@@ -7,7 +7,7 @@ use Rattle.casefile.specs.Layout.{longestFile}
 use Rattle.casefile.specs.Decode.{formatIn, sectionOf, FollowOn, decode}
 use Rattle.limits.specs.Refusal.{refusal}
 use Rattle.limits.proofs.AcceptedLaws as case
-use Rattle.sanctions.proofs.AcceptedLaws as sanctions
+use Rattle.sanctions.proofs.AcceptedFigures as sanctions
 use Rattle.sanctions.proofs.PenaltyBounds.{Ranges}
 
 pub record AcceptedCase (f : List ℕ) : Type 0 where

@@ -10,7 +10,7 @@ use Rattle.casefile.specs.Decode.{eventsIn, decode}
 use Rattle.casefile.proofs.RecordLaws.{count-is}
 use Rattle.party_runs.specs.StageParties.{leaderOf}
 use Rattle.conduct.proofs.FileLaws.{has-section, header-long, file-few}
-use Rattle.sanctions.specs.StageFound.{FoundMasks}
+use Rattle.sanctions.specs.StageGiven.{FoundMasks}
 use Rattle.counted_instances.specs.CountedInstances.{countedLength}
 use Rattle.counted_instances.specs.StageCounted.{byteIn}
 use Rattle.counted_instances.proofs.CountedLaws.{counted-put}

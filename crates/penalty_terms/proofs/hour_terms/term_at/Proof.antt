@@ -4,7 +4,7 @@ use borrow.Author.Needs.{needs}
 use borrow.Author.Tests.{eqb-true, eq-eqb, ne-eqb}
 use native.Mathlib.Omega.{arith}
 use lib.Dec.{eqb}
-use Rattle.sanctions.specs.StageFound.{SmallAmounts}
+use Rattle.sanctions.specs.StageGiven.{SmallAmounts}
 use Rattle.sanctions.proofs.TableLaws.{positive-part, hour-small}
 use Rattle.penalty_terms.specs.StageTerms.{termIn}
 use Rattle.penalty_terms.proofs.TermLaws.{either-kind}

@@ -10,7 +10,7 @@ use Rattle.casefile.proofs.RecordLaws.{count-is}
 use Rattle.conduct.proofs.FileLaws.{has-section, header-long, past-few, file-few}
 use Rattle.sanctions.specs.declared.sanction.Sanction.{Sanction}
 use Rattle.sanctions.specs.Penalties.{penalty}
-use Rattle.sanctions.specs.StageFound.{Sound}
+use Rattle.sanctions.specs.StageGiven.{Sound}
 use Rattle.sanctions.specs.StageTables.{sanctionOf}
 use Rattle.penalty_terms.proofs.TermLaws.{sound, row-found}
 use Rattle.penalty_terms.proofs.penalty_working.row_sanction.Statement.{statement}

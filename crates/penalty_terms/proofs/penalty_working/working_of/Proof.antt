@@ -5,7 +5,7 @@ use Rattle.casefile.specs.Layout.{mostEvents}
 use Rattle.casefile.specs.Decode.{eventsIn, decode}
 use Rattle.casefile.proofs.RecordLaws.{count-is, kind-here, kind-of}
 use Rattle.conduct.proofs.FileLaws.{has-section, header-long, file-few}
-use Rattle.sanctions.specs.StageFound.{Sound}
+use Rattle.sanctions.specs.StageGiven.{Sound}
 use Rattle.penalty_terms.proofs.TermLaws.{sound, row-below, fuel-ready, working-made}
 use Rattle.penalty_terms.proofs.penalty_working.working_of.Statement.{statement}
 use Rattle.penalty_terms.proofs.penalty_working.working_of.Tie as tie

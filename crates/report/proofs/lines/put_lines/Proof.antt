@@ -8,7 +8,7 @@ use Rattle.casefile.specs.Decode.{eventsIn}
 use Rattle.report.specs.StagePut.{Put, eventText}
 use Rattle.report.proofs.PutLaws.{then, nothing, same-text, put-size}
 use Rattle.report.specs.Line.{rowFields, linesTo}
-use Rattle.report.proofs.LineLaws.{lines-none, lines-more, event-text}
+use Rattle.report.proofs.TextLineLaws.{lines-none, lines-more, event-text}
 use Rattle.report.proofs.lines.put_lines.Statement.{statement}
 use Rattle.report.proofs.lines.put_lines.Tie as tie
 

@@ -6,8 +6,8 @@ use Rattle.binary.specs.Bounded.{maskTo}
 use Rattle.binary.proofs.MaskLaws.{MaskTurn, mask-none, mask-turn}
 use Rattle.casefile.specs.Layout.{mostHours}
 use Rattle.conduct.specs.StageMasks.{failsAt}
-use Rattle.conduct.proofs.masks.failing_hours.Statement.{statement}
-use Rattle.conduct.proofs.masks.failing_hours.Tie as tie
+use Rattle.conduct.proofs.hour_tests.failing_hours.Statement.{statement}
+use Rattle.conduct.proofs.hour_tests.failing_hours.Tie as tie
 
 abbrev Inv-loop : tie.InvT-loop
 Inv-loop test tight cells sums mask₀ weight₀ h₀ mask weight h = (h ≤ mostHours) × (weight ≡ 2 ^ h) × (mask ≡ maskTo h (failsAt test tight cells sums))

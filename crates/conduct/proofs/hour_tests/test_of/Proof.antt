@@ -4,8 +4,8 @@ use borrow.Author.Tests.{ne-eqb}
 use Rattle.casefile.specs.Decode.{eventsIn}
 use Rattle.casefile.specs.StageRead.{unitAt, eventAt}
 use Rattle.conduct.specs.StageMasks.{testOf}
-use Rattle.conduct.proofs.masks.test_of.Statement.{statement}
-use Rattle.conduct.proofs.masks.test_of.Tie as tie
+use Rattle.conduct.proofs.hour_tests.test_of.Statement.{statement}
+use Rattle.conduct.proofs.hour_tests.test_of.Tie as tie
 
 kind-is : (c : tie.After-event-at) → let a = c .before .before .before .args in c .event-at .result .kind ≡ eventsIn (a .format) (a .events .now) .kind (a .i)
 unfolding eventAt

@@ -1,7 +1,7 @@
 use mathlib.Core.Path.{ap, sym, _∙_}
 use Rattle.conduct.specs.StageMasks.{failsIn}
-use Rattle.conduct.proofs.masks.fails.Statement.{statement}
-use Rattle.conduct.proofs.masks.fails.Tie as tie
+use Rattle.conduct.proofs.hour_tests.fails.Statement.{statement}
+use Rattle.conduct.proofs.hour_tests.fails.Tie as tie
 
 pub fails-spec : {M : Type 1} → statement M
 unfolding failsIn

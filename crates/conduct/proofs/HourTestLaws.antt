@@ -7,18 +7,18 @@ use native.Mathlib.Omega.{arith}
 use borrow.Author.Tests.{eqb-true}
 use lib.Dec.{ltb, eqb}
 use lib.ListN.{getD}
-use Rattle.casefile.specs.declared.layout.Format.{Format}
 use Rattle.binary.specs.Bounded.{maskTo, bitOf}
 use Rattle.binary.proofs.MaskLaws.{mask-same, bit-past}
 use Rattle.tariff.proofs.ComparisonLaws.{bid-total}
+use Rattle.casefile.specs.declared.layout.Format.{Format}
 use Rattle.casefile.specs.Layout.{mostHours}
 use Rattle.casefile.specs.Case.{Case}
 use Rattle.casefile.specs.Decode.{unitsIn, eventsIn, caseIn, cellsFrom}
 use Rattle.casefile.specs.Lookup.{unitOf}
 use Rattle.casefile.specs.StageRead.{cellOf}
-use Rattle.conduct.specs.declared.masks.Bid.{Bid}
-use Rattle.conduct.specs.declared.masks.Withheld.{Withheld}
-use Rattle.conduct.specs.declared.masks.ConductTest.the-variants as test
+use Rattle.conduct.specs.declared.hour_tests.Bid.{Bid}
+use Rattle.conduct.specs.declared.hour_tests.Withheld.{Withheld}
+use Rattle.conduct.specs.declared.hour_tests.ConductTest.the-variants as test
 use Rattle.conduct.specs.Flags.{tight, sumTogether, groupCapability, groupSum, withheldFlag, dispatchFlag, fuelFlag}
 use Rattle.conduct.specs.StageMasks.{bidOf, testOf, tightHours, failsIn, failsAt}
 use Rattle.conduct.specs.StageFlags.{partySum, HasRow, timeTotalIn, totalRead, bidFlagIn, flaggedIn, flagMaskIn, maskIn}

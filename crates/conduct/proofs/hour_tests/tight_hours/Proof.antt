@@ -1,8 +1,8 @@
 use borrow.Author.Needs.{needs}
 use Rattle.casefile.specs.StageRead.{unitAt, eventAt}
 use Rattle.conduct.specs.StageMasks.{tightHours}
-use Rattle.conduct.proofs.masks.tight_hours.Statement.{statement}
-use Rattle.conduct.proofs.masks.tight_hours.Tie as tie
+use Rattle.conduct.proofs.hour_tests.tight_hours.Statement.{statement}
+use Rattle.conduct.proofs.hour_tests.tight_hours.Tie as tie
 
 pub tight-hours-spec : {M : Type 1} → statement M
 unfolding unitAt eventAt tightHours

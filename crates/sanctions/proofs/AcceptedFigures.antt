@@ -12,7 +12,7 @@ use Rattle.casefile.specs.Decode.{formatIn, sectionOf, eventsIn, caseIn, decode
 use Rattle.limits.specs.Refusal.{refusal}
 use Rattle.limits.proofs.AcceptedLaws as case
 use Rattle.limits.proofs.SectionLaws.{event-ranges, cell-ranges, amount-bound}
-use Rattle.sanctions.specs.StageFound.{Accepted}
+use Rattle.sanctions.specs.StageGiven.{Accepted}
 use Rattle.sanctions.proofs.PenaltyBounds.{Ranges}
 
 module _ (format : Format) (u p e : List ℕ) (acc : Accepted format u p e) where
