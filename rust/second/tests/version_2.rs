@@ -1,7 +1,7 @@
 //! Version 2 of the case file: unit numbers of six digits, 17, and the width of a correction.
 //!
-//! That a version 1 file and its version 2 copy give the same is asked of every case of readings.rs,
-//! pencil.rs and refusals.rs, by `common::number` and `common::rows_of`.
+//! That a version 1 file and its version 2 copy give the same is asked of every case of readings,
+//! pencil and refusals, by `common::number` and `common::rows_of`.
 
 mod common;
 

@@ -1,0 +1,8 @@
+//! Small cases worked by hand, for each reading that is open in the words or easy to get wrong.
+
+#[path = "../common/mod.rs"]
+mod common;
+mod conduct;
+mod default_bids;
+mod fuel;
+mod penalties;
