@@ -88,7 +88,7 @@ fn withheld_tests_one_by_one() {
 
 #[test]
 fn group_capability_takes_every_listed_unit_and_the_sum_every_event() {
-    // Units 2 and 3 have no events, unit 3 lies in a Constrained Area: G = 5,000 × 3 = 15,000, so
+    // Unit 3 has no event and lies in a Constrained Area: G = 5,000 × 3 = 15,000, so
     // 20 × S > G from 751. S over 400 (impact 0, unflagged by itself) and 351 is 751.
     let mut case = Case {
         units: vec![

@@ -18,7 +18,7 @@ fn of_rate_20(cells: &[(usize, u32, u32)]) -> Case {
 
 #[test]
 fn dispatch_penalty_is_rounded_once() {
-    // Rate 20: 15 × 20 = 300. Hours 0 and 1 fail with revenue 101 each, hour 2 passes.
+    // Rate 20: 15 × 20 = 300. Hours 0 and 1 fail with revenues 101 and 102, hour 2 passes.
     let mut case = of_rate_20(&[(0, 301, 101), (1, 302, 102), (2, 300, 5_000)]);
     let row = rows_of(&case, &[]).remove(0);
     // 3 × 203 / 2 = 304.5, halves up.
@@ -73,7 +73,7 @@ fn withheld_penalty_sums_the_flagged_hours_and_rounds_once() {
     assert_eq!(penalty(&[(0, 501, 5), (1, 501, 5)]), 501);
 }
 
-/// An instance: alone in its group each unit of 5,000 has G 10,000, and 501 of 5,000 fails.
+/// An instance: 501 of a unit of 5,000 fails, whatever its group has.
 fn fails(day: u32, market: Market, unit: u32, period: u16) -> Event {
     Event::withheld(day, market, unit, &[(0, 501, 20)]).in_period(period)
 }
