@@ -80,7 +80,7 @@ unfolding anyTo
 any-same zero p q h = refl
 any-same (suc n) p q h = ap₂ _||_ (any-same n p q (λ i l. h i (omega arith))) (h n (omega arith))
 
-pub all-same : (n : ℕ) (p q : ℕ → Bool) → ((i : ℕ) → i < n → p i ≡ q i) → allTo n p ≡ allTo n q
+all-same : (n : ℕ) (p q : ℕ → Bool) → ((i : ℕ) → i < n → p i ≡ q i) → allTo n p ≡ allTo n q
 unfolding allTo
 all-same zero p q h = refl
 all-same (suc n) p q h = ap₂ _&&_ (all-same n p q (λ i l. h i (omega arith))) (h n (omega arith))

@@ -24,7 +24,7 @@ unfolding valueAt
 value-one s p = omega arith
 
 -- a number past the first a bytes
-pub value-drop : (w a : ℕ) (s : List ℕ) (p : ℕ) → valueAt w (drop a s) p ≡ valueAt w s (a + p)
+value-drop : (w a : ℕ) (s : List ℕ) (p : ℕ) → valueAt w (drop a s) p ≡ valueAt w s (a + p)
 unfolding valueAt
 value-drop zero a s p = refl
 value-drop (suc w) a s p =
@@ -52,7 +52,7 @@ unfolding bytesOf
 bytes-length zero v = refl
 bytes-length (suc w) v = ap suc (bytes-length w (v / 256))
 
-pub byte-skip : (n : ℕ) (xs ys : List ℕ) (p : ℕ) → length xs ≡ n → byteAt (xs ++ ys) (n + p) ≡ byteAt ys p
+byte-skip : (n : ℕ) (xs ys : List ℕ) (p : ℕ) → length xs ≡ n → byteAt (xs ++ ys) (n + p) ≡ byteAt ys p
 byte-skip n xs ys p e = ap (λ (m : ℕ). byteAt (xs ++ ys) (m + p)) (sym e) ∙ getD-append-add xs ys p 0
 
 pub value-skip : (w n : ℕ) (xs ys : List ℕ) (p : ℕ) → length xs ≡ n → valueAt w (xs ++ ys) (n + p) ≡ valueAt w ys p
@@ -72,7 +72,7 @@ bytes-read (suc w) v ys h =
 
 -- ---- bytes stored
 
-pub sets-other : (vs f : List ℕ) (p j : ℕ) → ((k : ℕ) → k < length vs → j ≢ p + k) → byteAt (sets f p vs) j ≡ byteAt f j
+sets-other : (vs f : List ℕ) (p j : ℕ) → ((k : ℕ) → k < length vs → j ≢ p + k) → byteAt (sets f p vs) j ≡ byteAt f j
 sets-other [] f p j n = refl
 sets-other (v ∷ vs) f p j n =
     sets-other vs (set f p v) (suc p) j (λ k l q. n (suc k) (omega arith) (omega arith))

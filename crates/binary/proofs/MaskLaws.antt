@@ -16,7 +16,7 @@ pub mask-none : (p : ℕ → Bool) → 0 ≡ maskTo 0 p
 unfolding maskTo
 mask-none p = refl
 
-pub mask-more : (n : ℕ) (p : ℕ → Bool) → maskTo (n + 1) p ≡ maskTo n p + cond (p n) (2 ^ n) 0
+mask-more : (n : ℕ) (p : ℕ → Bool) → maskTo (n + 1) p ≡ maskTo n p + cond (p n) (2 ^ n) 0
 unfolding maskTo
 mask-more n p = rw add-one
 

@@ -116,7 +116,7 @@ take-bytes n l b j = go (ltb j n) refl
 drop-bytes : (n : ℕ) (l : List ℕ) → Bytes l → Bytes (drop n l)
 drop-bytes n l b j = rw (getD-drop n l j 0) (b (n + j))
 
-pub record-bytes : (width : ℕ) (s : List ℕ) (i : ℕ) → Bytes s → Bytes (recordAt width s i)
+record-bytes : (width : ℕ) (s : List ℕ) (i : ℕ) → Bytes s → Bytes (recordAt width s i)
 unfolding recordAt
 record-bytes width s i b = take-bytes width (drop (width * i) s) (drop-bytes (width * i) s b)
 

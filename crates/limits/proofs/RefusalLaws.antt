@@ -30,7 +30,7 @@ either-broken j k false b next h = refl
 
 -- ---- the stages
 
-pub header-next : (f : List ℕ) (m : ℕ) → headerRefusal f m ≡ cond (eqb (headerRefusal f 0) 0) m (headerRefusal f 0)
+header-next : (f : List ℕ) (m : ℕ) → headerRefusal f m ≡ cond (eqb (headerRefusal f 0) 0) m (headerRefusal f 0)
 unfolding headerRefusal
 header-next f m = go (lengthFine f) (versionFine f) (sectionsFine f) (pairsFine f) (sizesFine f)
   where
@@ -45,7 +45,7 @@ header-next f m = go (lengthFine f) (versionFine f) (sectionsFine f) (pairsFine 
     go true true true true false = refl
     go true true true true true = refl
 
-pub records-next : (format : Format) (u r k p e : List ℕ) (m : ℕ)
+records-next : (format : Format) (u r k p e : List ℕ) (m : ℕ)
     → recordsRefusal format u r k p e m ≡ cond (eqb (recordsRefusal format u r k p e 0) 0) m (recordsRefusal format u r k p e 0)
 unfolding recordsRefusal
 records-next format u r k p e m =
