@@ -1,0 +1,4 @@
+pub mod MonthLaws
+pub mod TableLaws
+pub mod PeriodLaws
+pub mod DateLaws

@@ -1,0 +1,5 @@
+pub mod Months
+pub mod Periods
+pub mod Dates
+pub mod StageTable
+pub mod StagePeriods

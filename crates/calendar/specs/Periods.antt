@@ -1,0 +1,25 @@
+-- Six months back, and capability periods, by the months of the calendar (docs/RULES.md, K18 and S12).
+use Prim.Native.Nat.{ℕ, _+_, _-_, _/_, min}
+use mathlib.Core.Bool.{Bool, cond, _&&_}
+use lib.Dec.{ltb, leb}
+use Rattle.calendar.specs.Months.{monthLength, monthStart, monthOf, dayOfMonth}
+
+-- day x of month k, or the month's last where it has no such day; the first is 0
+unfoldable pub dayWithin : (k x : ℕ) → ℕ
+dayWithin k x = monthStart k + min x (monthLength k - 1)
+
+-- the same day of the month six months earlier, or day 0 where that is before 2000
+unfoldable pub windowStart : (d : ℕ) → ℕ
+windowStart d = cond (ltb (monthOf d) 6) 0 (dayWithin (monthOf d - 6) (dayOfMonth d))
+
+-- day e is before day d, and not before the first day of its window
+abbrev pub inWindow : (first d e : ℕ) → Bool
+inWindow first d e = ltb e d && leb first e
+
+-- Summer from 1 May, Winter from 1 November; period 0 is the Winter that ends on 30 April 2000
+unfoldable pub periodOf : (d : ℕ) → ℕ
+periodOf d = (monthOf d + 2) / 6
+
+-- the period that the calendar's last day is in
+abbrev pub lastPeriod : ℕ
+lastPeriod = 200
