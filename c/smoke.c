@@ -211,9 +211,11 @@ static uint8_t *larger_case(const uint8_t *shipped) {
     memcpy(past, file + HEADER + 2, 2); /* the group of unit 12 */
     past[2] = 1;
     put16(past + 4, 44);
+    put32(past + 8, 8000);
     memcpy(event, shipped + HEADER + 2 * UNIT, EVENT);
     bids[0] = 4;
     put16(bids + 2, 12);
+    put16(bids + 4, 44);
     put32(bids + 8, 8000);
     put32(bids + 16, 1);
     put32(bids + 24, 9000);
@@ -317,8 +319,12 @@ static void call_rules(void) {
     free(b);
     free(a);
     expect_answer("fuel penalty", attachment_h_fuel_penalty(-10000000, 2000000, 2), 0, 1000000);
-    expect_answer("183 days", attachment_h_fuel_day_counts(8000, 8000 - 183), 0, 1);
-    expect_answer("184 days", attachment_h_fuel_day_counts(8000, 8000 - 184), 0, 0);
+    /* 1 September and 1 March 2021 */
+    expect_answer("six months", attachment_h_fuel_day_counts(7914, 7730), 0, 1);
+    expect_answer("six months and a day", attachment_h_fuel_day_counts(7914, 7729), 0, 0);
+    expect_answer("a day of 2100", attachment_h_fuel_day_counts(36525, 36524), 10, 0);
+    expect_answer("period of 26 November 2021", attachment_h_period_of(8000), 0, 44);
+    expect_answer("period of a day of 2100", attachment_h_period_of(36525), 10, 0);
     expect_answer("two periods before", attachment_h_period_counts(2, 44, 42), 0, 1);
     expect_answer("hour 10, R 8", attachment_h_mitigated_span(1u << 10, 8), 0, 0x3FC00);
     attachment_h_answer bid = attachment_h_bid_in_force(0, -100, 2000, true);

@@ -7,7 +7,7 @@
  * their old two bytes are 0. A correction has the width of its case's references. docs/FORMAT.md has every byte.
  *
  * Refusals. A number of 0 refuses nothing. Otherwise a whole case is refused with the number of what it breaks that is
- * checked first, in the order 1 to 5, 17, 6 to 15:
+ * checked first, in the order 1 to 5, 17, 6 to 10, 18, 19, 11 to 15:
  *
  *    1  the length of the file is outside 36 to 65,000      9  a past entry's field
  *    2  the version is neither 1 nor 2                     10  an event's field
@@ -19,6 +19,8 @@
  *    7  a reference's field, the order, or its unit        15  rows shorter than 128 bytes for each event
  *    8  the same of the correction, its length, or         17  version 2: in a unit, a reference or an event the old
  *       what 17 is, in the correction                          two bytes are not 0, or the number is above 999,999
+ *   18  the day of a past entry or an event is 36,525      19  the capability period of a past entry or an event is
+ *       or later                                               not its day's
  *
  * and a smaller call first with 7 for a reference out of its component's range (skipped where no such component
  * exists), then with 10 for any other argument out of its range; attachment_h_line refuses all of them with 16. The
@@ -279,8 +281,17 @@ attachment_h_answer attachment_h_dispatch_penalty(const uint32_t *b, size_t b_le
  */
 attachment_h_answer attachment_h_fuel_penalty(int64_t e, uint64_t t, uint8_t m);
 
-/* Whether a fuel penalty of day e raises the multiplier of day d: 1 to 183 days before. Days are at most 1,000,000. */
+/*
+ * Whether a fuel penalty of day e raises the multiplier of day d: e is before d, and not before the same day of the
+ * month six months earlier (that month's last day where it has no such day). Days are below 36,525.
+ */
 attachment_h_answer attachment_h_fuel_day_counts(uint32_t d, uint32_t e);
+
+/*
+ * The capability period that a day is in: 0 is the Winter that ends on 30 April 2000, 1 the Summer after it. The day is
+ * below 36,525.
+ */
+attachment_h_answer attachment_h_period_of(uint32_t day);
 
 /* Whether a capability period is the own one or one of the k before it: k is 2 for N3 and 1 for N2. */
 attachment_h_answer attachment_h_period_counts(uint8_t k, uint16_t own, uint16_t period);

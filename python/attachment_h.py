@@ -47,6 +47,8 @@ _OF_A_CASE = {
     14: "an event of kind 4 has no reference r, or no correct reference c where its component reads one",
     15: "the rows buffer has fewer than 128 bytes for each event",
     17: "a version 2 unit, reference or event has an old unit field that is not 0, or a unit number above 999,999",
+    18: "a past entry or an event has a day of 36,525 or later",
+    19: "the capability period of a past entry or an event is not its day's",
 }
 
 # and of a smaller call: docs/RULES.md, C2 and C3
@@ -61,7 +63,7 @@ _OF_AN_EVENT = {10: "the case has no such event"}
 
 
 class Refused(Exception):
-    """A refusal with its number, 1 to 15 and 17 for a case, 7 or 10 for a smaller call, 16 for the line, and what that means."""
+    """A refusal with its number, 1 to 15 and 17 to 19 for a case, 7 or 10 for a smaller call, 16 for the line, and what that means."""
 
     def __init__(self, number, meanings=_OF_A_CASE):
         self.number = number
@@ -238,6 +240,7 @@ _withheld_penalty = _declare("withheld_penalty", _Answer, c_uint8, POINTER(c_uin
 _dispatch_penalty = _declare("dispatch_penalty", _Answer, POINTER(c_uint32), c_size_t)
 _fuel_penalty = _declare("fuel_penalty", _Answer, c_int64, c_uint64, c_uint8)
 _fuel_day_counts = _declare("fuel_day_counts", _Answer, c_uint32, c_uint32)
+_period_of = _declare("period_of", _Answer, c_uint32)
 _period_counts = _declare("period_counts", _Answer, c_uint8, c_uint16, c_uint16)
 _mitigated_span = _declare("mitigated_span", _Answer, c_uint32, c_uint32)
 _bid_in_force = _declare("bid_in_force", _Answer, c_uint8, c_int32, c_uint32, c_bool)
@@ -363,8 +366,13 @@ def fuel_penalty(e, t, m):
 
 
 def fuel_day_counts(day, earlier):
-    """Whether a fuel penalty of an earlier day raises the multiplier of a day."""
+    """Whether a fuel penalty of an earlier day, at most six months back, raises the multiplier of a day."""
     return _fuel_day_counts(day, earlier).figure != 0
+
+
+def period_of(day):
+    """The capability period that a day is in: 0 is the Winter that ends on 30 April 2000."""
+    return _period_of(day).figure
 
 
 def period_counts(back, own, period):

@@ -40,8 +40,8 @@ def case(withheld=501, price=4_000, unit=12):
 def larger():
     """The shipped case with a reference, a past entry and bids of unit 12 beside its event."""
     reference = struct.pack("<HBxI", 12, 0, 2_000)
-    past = SHIPPED[36 + 2 : 36 + 4] + struct.pack("<BBHxxI", 1, 0, 44, 0)  # of the group of unit 12
-    bids = struct.pack("<BBHHBBIIIIIiI276x", 4, 0, 12, 0, 0, 0, 8_000, 0, 1, 0, 9_000, 5_000, 1_000)
+    past = SHIPPED[36 + 2 : 36 + 4] + struct.pack("<BBHxxI", 1, 0, 44, 8_000)  # of the group of unit 12
+    bids = struct.pack("<BBHHBBIIIIIiI276x", 4, 0, 12, 44, 0, 0, 8_000, 0, 1, 0, 9_000, 5_000, 1_000)
     return file_of(1, [SHIPPED[36:EVENT], reference, past, SHIPPED[EVENT:] + bids])
 
 

@@ -2,7 +2,7 @@
 // for both.
 ghost use mathlib.Core.Path.{_≡_};
 ghost use Rattle.test_calls.specs.ConductCalls.{bidAnswer, timesAnswer, withheldAnswer, dispatchAnswer};
-ghost use Rattle.penalty_calls.specs.SanctionCalls.{multiplierAnswer, withheldPenaltyAnswer, dispatchPenaltyAnswer, fuelPenaltyAnswer, fuelDayAnswer, periodAnswer};
+ghost use Rattle.penalty_calls.specs.SanctionCalls.{multiplierAnswer, withheldPenaltyAnswer, dispatchPenaltyAnswer, fuelPenaltyAnswer, fuelDayAnswer, periodOfAnswer, periodAnswer};
 ghost use Rattle.bid_calls.specs.DefaultBidCalls.{spanAnswer, inForceAnswer, correctedInForceAnswer, makeUpAnswer};
 ghost use Rattle.line.specs.LineCall.{lineAnswer};
 ghost use Rattle.api.specs.Exported.{exported, exportedTimes};
@@ -143,6 +143,14 @@ pub extern "C" fn attachment_h_fuel_day_counts(d: u32, e: u32) -> ExportedAnswer
     ensures { λ r. ⌜ r ≡ exported (fuelDayAnswer d e) ⌝ }
 {
     of_verdict(sanction_calls::fuel_day_counts(d, e))
+}
+
+// The capability period of a day.
+#[no_mangle]
+pub extern "C" fn attachment_h_period_of(day: u32) -> ExportedAnswer
+    ensures { λ r. ⌜ r ≡ exported (periodOfAnswer day) ⌝ }
+{
+    of_figure(sanction_calls::period_of(day))
 }
 
 // Whether a period is the own one or one of the k before it: k is 2 for N3 and 1 for N2.

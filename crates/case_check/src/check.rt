@@ -1,29 +1,28 @@
 // The check of a whole case, in the order of the limits.
-ghost use mathlib.Core.Bool.{true};
 ghost use mathlib.Core.Path.{_≡_};
 ghost use Prim.Native.Nat.{_≤_};
 ghost use Rattle.casefile.specs.Layout.{mostEvents};
 ghost use Rattle.casefile.specs.Decode.{eventsIn};
 ghost use Rattle.casefile.specs.Lookup.{correctReferences};
 ghost use Rattle.limits.specs.StageLookup.{UnitsInOrder, InOrder};
-ghost use Rattle.limits.specs.Refusal.{eventNumbersFine, refusal};
-ghost use Rattle.limits.specs.StageRefusal.{eventsRefusal};
+ghost use Rattle.limits.specs.Refusal.{refusal};
+ghost use Rattle.limits.specs.StageRefusal.{foundRefusal};
 ghost use Rattle.limits.specs.StageChecked.{HandedOn};
 ghost use Rattle.event_check.specs.StageFound.{Found};
+use calendar_check::field_limits::fields_refusal;
 use casefile::events::event_count;
 use casefile::header::format_of;
 use casefile::header::section;
 use casefile::layout;
 use casefile::layout::Format;
-use event_check::event_limits::order_refusal;
 use event_check::event_limits::references_found;
 use event_check::event_limits::unit_refusal;
 use limits::header_limits::header_refusal;
 use limits::refusal::unless;
 use record_check::record_limits::records_refusal;
 
-// The number of the first limit that the events break, or 0: then the tables hold what was found of each event.
-fn events_refusal<'a>(
+// The number of the first limit broken by what is found for the events, or 0: then the tables hold what was found of each event.
+fn found_refusal<'a>(
     format: Format,
     units: &[u8],
     references: &'a [u8],
@@ -35,16 +34,12 @@ fn events_refusal<'a>(
     corrects: &mut [u32; layout::MOST_EVENTS],
 ) -> u8
     requires { ⌜ UnitsInOrder format (now units) × InOrder format (now references) × InOrder format (correctReferences (now correction) (now references))
-        × (eventsIn format (now events) .count ≤ mostEvents) × (eventNumbersFine format (now events) ≡ true) ⌝ }
-    ensures { λ r. ⌜ r ≡ eventsRefusal format (now (units .entry)) (now (references .entry)) (correctReferences (now (correction .entry)) (now (references .entry)))
+        × (eventsIn format (now events) .count ≤ mostEvents) ⌝ }
+    ensures { λ r. ⌜ r ≡ foundRefusal format (now (units .entry)) (now (references .entry)) (correctReferences (now (correction .entry)) (now (references .entry)))
         (now (events .entry)) «rows_length» ⌝ }
     ensures { λ r. ⌜ (r ≡ 0 → Found format (now (units .entry)) (now (references .entry)) (correctReferences (now (correction .entry)) (now (references .entry))) (now (events .entry))
         (now (places .exit)) (now (levels .exit)) (now (corrects .exit))) ⌝ }
 {
-    let order = order_refusal(format, events);
-    if order != 0 {
-        return order;
-    }
     let unit = unit_refusal(format, units, events, places);
     if unit != 0 {
         return unit;
@@ -87,7 +82,11 @@ pub fn check_into<'a>(
     if records != 0 {
         return records;
     }
-    events_refusal(
+    let fields = fields_refusal(format, past, events);
+    if fields != 0 {
+        return fields;
+    }
+    found_refusal(
         format,
         units,
         references,

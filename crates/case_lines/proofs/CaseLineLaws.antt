@@ -70,7 +70,7 @@ module _ (f k : List ℕ) (n : ℕ) (ok : refusal f k n ≡ 0) (i h : ℕ) (at :
       let e = eventsIn (formatIn f) (sectionOf f 3) in
       let own = referencesIn (formatIn f) (sectionOf f 1) in
       let correct = referencesIn (formatIn f) (correctReferences k (sectionOf f 1)) in
-      let found = all-at (e .count) i (referenceFound own correct e) (at .event) (accepted.events f k n ok .references-found) in
+      let found = all-at (e .count) i (referenceFound own correct e) (at .event) (accepted.found f k n ok .references-found) in
       found-in-range (formatIn f) (unitsIn (formatIn f) (sectionOf f 0)) (sectionOf f 1) (e .unit i) (e .component i)
       (accepted.records f k n ok .references-fine) (has-level own correct e i found (at .bid))
 
@@ -79,14 +79,14 @@ module _ (f k : List ℕ) (n : ℕ) (ok : refusal f k n ≡ 0) (i h : ℕ) (at :
   bid =
       let e = eventsIn (formatIn f) (sectionOf f 3) in
       let a = amountsIn (formatIn f) (sectionOf f 3) in
-      bid-in-range e a i h (all-at (e .count) i (eventFine e a) (at .event) (accepted.events f k n ok .events-fine)) (at .hour) (at .bid)
+      bid-in-range e a i h (all-at (e .count) i (eventFine e a) (at .event) (accepted.fields f k n ok .events-fine)) (at .hour) (at .bid)
 
   given-line : answerAt (decode f) i h ≡ given (lineAt (decode f) i h)
   unfolding answerAt lineAt decode caseIn unitOf
   given-line =
       let ranges = accepted.event-ranges f k n ok i (at .event) in
       let unit = unit-in-range (formatIn f) (sectionOf f 0) (eventsIn (formatIn f) (sectionOf f 3)) i (accepted.records f k n ok .units-fine)
-      (accepted.events f k n ok .events-listed) (at .event) in
+      (accepted.found f k n ok .events-listed) (at .event) in
       line-given _ _ _ _ _ _ (ranges .component) reference (ranges .market) (unit .0) (unit .1)
 
   flagged-by-line : flagged (decode f) i h

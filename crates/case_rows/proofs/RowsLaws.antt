@@ -33,7 +33,7 @@ module _ (f : List ℕ) (acc : AcceptedFile f) where
   -- the format and the sections, as they are handed on
   module _ (format : Format) (u p e : List ℕ) (ef : format ≡ formatIn f) (eu : u ≡ sectionOf f 0) (ep : p ≡ sectionOf f 2) (ee : e ≡ sectionOf f 3) where
     pub fine : eventsFine format e ≡ true
-    fine = rw (ef, ee) (case.events f (acc .correction) (acc .rowsLength) (acc .accepted) .events-fine)
+    fine = rw (ef, ee) (case.fields f (acc .correction) (acc .rowsLength) (acc .accepted) .events-fine)
 
     module _ (places groups leaders masks : List ℕ) (found : FoundFlags f places groups leaders masks) where
       pub sound : Bytes f → Sound format e leaders

@@ -131,7 +131,7 @@ module _ (f : List ℕ) (a : AcceptedFile f) where
     file-few = rw (ef, ee) few
 
     pub file-listed : eventsListed (unitsIn format u) (eventsIn format e) ≡ true
-    file-listed = rw (ef, eu, ee) (case.events f (a .correction) (a .rowsLength) (a .accepted) .events-listed)
+    file-listed = rw (ef, eu, ee) (case.found f (a .correction) (a .rowsLength) (a .accepted) .events-listed)
 
     pub file-bids : BidsInOrder (eventsIn format e)
     file-bids = rw (ef, ee) (bids-in-order f (a .correction) (a .rowsLength) (a .accepted))
@@ -152,7 +152,7 @@ module _ (f : List ℕ) (a : AcceptedFile f) where
     file-place i place q l =
         rw (q, ef, eu)
         (events-place (unitsIn (formatIn f) (sectionOf f 0)) (eventsIn (formatIn f) (sectionOf f 3)) i
-        (case.events f (a .correction) (a .rowsLength) (a .accepted) .events-listed) l)
+        (case.found f (a .correction) (a .rowsLength) (a .accepted) .events-listed) l)
 
     pub file-places : (places : List ℕ) → Holds (decode f .events .count) places (unitOf (decode f))
         → Holds (eventsIn format e .count) places (unitOf (caseIn format u [] [] e))

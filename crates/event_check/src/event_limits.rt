@@ -1,4 +1,4 @@
-// Events: the reader, and limits 10 to 14.
+// Events: the reader, limits 10 to 14, and what 18 and 19 ask of events.
 ghost use mathlib.Core.Bool.{true, false};
 ghost use mathlib.Core.Path.{_≡_};
 ghost use Prim.Native.Nat.{_<_, _≤_};
@@ -9,11 +9,14 @@ ghost use Rattle.casefile.specs.Decode.{unitsIn, referencesIn, eventsIn, amount
 ghost use Rattle.casefile.specs.Lookup.{hasReference, levelOf, correctReferences, readsCorrect, bidLevel};
 ghost use Rattle.limits.specs.StageLookup.{UnitsInOrder, InOrder, correctLevel};
 ghost use Rattle.limits.specs.Refusal.{eventNumbersFine, quantitiesFine, fieldsFine, eventFine, eventsFine, orderFine, eventsListed, amountFine, amountsFine, referencesFound, unless as unlessOf};
+ghost use Rattle.limits.specs.StageRefusal.{eventsInCalendar};
 ghost use Rattle.event_check.specs.StageReading.{keyOf, numberOf, readEvent};
 ghost use Rattle.event_check.specs.StageFound.{eventPlace, EventLevels};
 use crate::cell_limits::amounts_within;
 use crate::cell_limits::cells_fine;
 use binary::words::is_within;
+use calendar::periods::has_day;
+use calendar::periods::period_days;
 use casefile::events::Event;
 use casefile::events::event_at;
 use casefile::events::event_cells;
@@ -109,12 +112,14 @@ fn event_key(e: Event) -> u64
         + (e.component as u64)
 }
 
-// 10 where an event can't be read, else 11 where one is out of order, else 0.
+// 10 where an event can't be read, else 19 where a day or a period is not the calendar's, else 11 where one is out of order, else 0.
 pub fn order_refusal(format: Format, events: &[u8]) -> u8
     requires { ⌜ eventNumbersFine format (now events) ≡ true ⌝ }
-    ensures { λ r. ⌜ r ≡ unlessOf (eventsFine format (now (events .entry))) 10 (unlessOf (orderFine (eventsIn format (now (events .entry)))) 11 0) ⌝ }
+    ensures { λ r. ⌜ r ≡ unlessOf (eventsFine format (now (events .entry))) 10
+        (unlessOf (eventsInCalendar (eventsIn format (now (events .entry)))) 19 (unlessOf (orderFine (eventsIn format (now (events .entry)))) 11 0)) ⌝ }
 {
     let n = event_count(format, events);
+    let mut dated = true;
     let mut order = 0;
     let mut last = 0;
     let mut i = 0;
@@ -122,12 +127,14 @@ pub fn order_refusal(format: Format, events: &[u8]) -> u8
         let EventRead::Event(e) = read_event(format, events, i) else {
             return 10;
         };
+        let days = period_days(e.period);
+        dated = dated & has_day(days, e.day);
         let key = event_key(e);
         order = unless((i == 0) | (last < key), 11, order);
         last = key;
         i += 1;
     }
-    order
+    unless(dated, 19, order)
 }
 
 // Whether a is within the capability in each hour of event i, where its kind asks that; its unit is at this place.

@@ -10,11 +10,11 @@ use Rattle.casefile.specs.Decode.{formatIn, caseIn, lengthOf, sectionOf, Follow
 use Rattle.casefile.specs.Lookup.{correctReferences}
 use Rattle.limits.specs.StageLookup.{Rising}
 use Rattle.limits.specs.Refusal.{eventKey, rowsFine, refusal}
-use Rattle.limits.specs.StageRefusal.{eventsRefusal}
+use Rattle.limits.specs.StageRefusal.{fieldsRefusal, foundRefusal}
 use Rattle.limits.proofs.RangeLaws.{EventRange}
 use Rattle.limits.proofs.SectionLaws as section
 use Rattle.limits.proofs.RefusalLaws as stages
-use Rattle.limits.proofs.RefusalLaws.{HeaderFine, RecordsFine, EventsFine}
+use Rattle.limits.proofs.RefusalLaws.{HeaderFine, RecordsFine, FieldsFine, FoundFine}
 
 -- ---- an accepted case
 
@@ -22,16 +22,24 @@ module _ (f k : List ℕ) (n : ℕ) (h : refusal f k n ≡ 0) where
   pub header : HeaderFine f
   header = stages.header-fine f _ (sym (stages.in-stages f k n) ∙ h) .0
 
-  records-and-events : RecordsFine (formatIn f) (sectionOf f 0) (sectionOf f 1) k (sectionOf f 2) (sectionOf f 3)
-      × (eventsRefusal (formatIn f) (sectionOf f 0) (sectionOf f 1) (correctReferences k (sectionOf f 1)) (sectionOf f 3) n ≡ 0)
-  records-and-events =
+  records-and-rest : RecordsFine (formatIn f) (sectionOf f 0) (sectionOf f 1) k (sectionOf f 2) (sectionOf f 3)
+      × (fieldsRefusal (formatIn f) (sectionOf f 2) (sectionOf f 3) (foundRefusal (formatIn f) (sectionOf f 0) (sectionOf f 1) (correctReferences k (sectionOf f 1)) (sectionOf f 3) n)
+      ≡ 0)
+  records-and-rest =
       stages.records-fine (formatIn f) (sectionOf f 0) (sectionOf f 1) k (sectionOf f 2) (sectionOf f 3) _ (stages.header-fine f _ (sym (stages.in-stages f k n) ∙ h) .1)
 
   pub records : RecordsFine (formatIn f) (sectionOf f 0) (sectionOf f 1) k (sectionOf f 2) (sectionOf f 3)
-  records = records-and-events .0
+  records = records-and-rest .0
 
-  pub events : EventsFine (formatIn f) (sectionOf f 0) (sectionOf f 1) (correctReferences k (sectionOf f 1)) (sectionOf f 3) n
-  events = stages.events-fine (formatIn f) (sectionOf f 0) (sectionOf f 1) (correctReferences k (sectionOf f 1)) (sectionOf f 3) n (records-and-events .1)
+  fields-and-found : FieldsFine (formatIn f) (sectionOf f 2) (sectionOf f 3)
+      × (foundRefusal (formatIn f) (sectionOf f 0) (sectionOf f 1) (correctReferences k (sectionOf f 1)) (sectionOf f 3) n ≡ 0)
+  fields-and-found = stages.fields-fine (formatIn f) (sectionOf f 2) (sectionOf f 3) _ (records-and-rest .1)
+
+  pub fields : FieldsFine (formatIn f) (sectionOf f 2) (sectionOf f 3)
+  fields = fields-and-found .0
+
+  pub found : FoundFine (formatIn f) (sectionOf f 0) (sectionOf f 1) (correctReferences k (sectionOf f 1)) (sectionOf f 3) n
+  found = stages.found-fine (formatIn f) (sectionOf f 0) (sectionOf f 1) (correctReferences k (sectionOf f 1)) (sectionOf f 3) n (fields-and-found .1)
 
   -- the file
 
@@ -65,11 +73,11 @@ module _ (f k : List ℕ) (n : ℕ) (h : refusal f k n ≡ 0) where
 
   pub event-ranges : (i : ℕ) → i < decode f .events .count → EventRange (decode f .events) i
   unfolding decode caseIn
-  event-ranges i l = section.event-ranges (formatIn f) (sectionOf f 3) (events .events-fine) i l
+  event-ranges i l = section.event-ranges (formatIn f) (sectionOf f 3) (fields .events-fine) i l
 
   pub events-rise : Rising (eventKey (decode f .events)) (decode f .events .count)
   unfolding decode caseIn
-  events-rise i j l m = section.events-rise (eventsIn (formatIn f) (sectionOf f 3)) (events .order-fine) i j l m
+  events-rise i j l m = section.events-rise (eventsIn (formatIn f) (sectionOf f 3)) (fields .order-fine) i j l m
 
   pub days-in-order : (i j : ℕ) → i < j → j < decode f .events .count → decode f .events .unit j < numberLimit
       → decode f .events .day i ≤ decode f .events .day j
@@ -86,4 +94,4 @@ module _ (f k : List ℕ) (n : ℕ) (h : refusal f k n ≡ 0) where
 
   pub rows-long : rowWidth (formatIn f) * decode f .events .count ≤ n
   unfolding decode caseIn rowsFine
-  rows-long = leb-true _ _ (events .rows-fine)
+  rows-long = leb-true _ _ (found .rows-fine)

@@ -10,14 +10,10 @@ use Rattle.casefile.specs.declared.layout.Widths.{Widths}
 use Rattle.casefile.specs.Layout.{firstVersion, firstWidths, widthsOf, oldNumbers}
 use Rattle.casefile.specs.Decode.{formatIn, sectionOf}
 use Rattle.casefile.proofs.RecordLaws.{first-widths}
+use Rattle.limits.proofs.RefusalLaws.{Numbered}
 use Rattle.limits.specs.Refusal.{recordNumbersFine, unitNumbersFine, referenceNumbersFine, eventNumbersFine, numbersFine, Limit, limits, unless, firstBroken, refusal, MeetsAll, DecidedBy}
 
 -- ---- any list of limits
-
--- no limit has the number 0, which is an accepted case's
-abbrev Numbered : List Limit → Type 0
-Numbered [] = Unit {0}
-Numbered (l ∷ ls) = (0 < l .number) × Numbered ls
 
 none-broken : (ls : List Limit) → MeetsAll ls → firstBroken ls 0 ≡ 0
 none-broken [] m = refl
@@ -106,7 +102,7 @@ module _ (f k : List ℕ) (n : ℕ) where
                   lit< tt,
                   (
                     lit< tt,
-                    (lit< tt, (lit< tt, (lit< tt, (lit< tt, (lit< tt, (lit< tt, (lit< tt, tt))))))),
+                    (lit< tt, (lit< tt, (lit< tt, (lit< tt, (lit< tt, (lit< tt, (lit< tt, (lit< tt, (lit< tt, tt))))))))),
                   ),
                 ),
               ),
@@ -151,7 +147,7 @@ module _ (f k : List ℕ) (n : ℕ) where
   unfolding refusal
   first-never-17 v =
       never-number 17 (lit< tt) (limits f k n)
-      (no refl, (no refl, (no refl, (no refl, (no refl, (λ e. numbers-met v, (no refl, (no refl, (no refl, (no refl, (no refl, (no refl, (no refl, (no refl, (no refl, (no refl, tt))))))))))))))))
+      (no refl, (no refl, (no refl, (no refl, (no refl, (λ e. numbers-met v, (no refl, (no refl, (no refl, (no refl, (no refl, (no refl, (no refl, (no refl, (no refl, (no refl, (no refl, (no refl, tt))))))))))))))))))
     where
       no : {m : ℕ} {b : Bool} → eqb m 17 ≡ false → m ≡ 17 → b ≡ true
       no {m} e q = let z : true ≡ false = sym (eq-eqb m 17 q) ∙ e in cc

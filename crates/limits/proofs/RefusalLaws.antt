@@ -1,20 +1,20 @@
 -- The stages of the refusal: a stage that breaks no limit leaves what follows, and one that does is the answer.
 use Prim.Native.Nat.{ℕ, zero, suc, _+_, _≤_, _<_}
 use mathlib.Core.Bool.{Bool, true, false, cond}
-use mathlib.Core.List.{List}
+use mathlib.Core.List.{List, [], _∷_}
 use mathlib.Core.Path.{_≡_, refl}
 use native.Mathlib.Nat.{suc-ne-zero}
 use native.Mathlib.Omega.{arith}
-use lib.Dec.{leb, eqb}
+use lib.Dec.{leb, eqb, lit<}
 use lib.ListN.{length}
 use borrow.Author.Tests.{leb-true, eqb-true, ne-eqb}
 use Rattle.binary.proofs.Implies.{and-l, and-r}
 use Rattle.casefile.specs.declared.layout.Format.{Format}
 use Rattle.casefile.specs.Layout.{sectionCount, headerWidth, longestFile}
-use Rattle.casefile.specs.Decode.{formatIn, offsetOf, lengthOf, sectionOf, FollowOn, HasSection, unitsIn, referencesIn, eventsIn}
+use Rattle.casefile.specs.Decode.{formatIn, offsetOf, lengthOf, sectionOf, FollowOn, HasSection, unitsIn, referencesIn, pastIn, eventsIn}
 use Rattle.casefile.specs.Lookup.{correctReferences}
-use Rattle.limits.specs.Refusal.{lengthFine, versionFine, sectionsFine, pairsFine, sizesFine, numbersFine, unitsFine, referencesFine, correctionFine, pastFine, eventsFine, orderFine, eventsListed, amountsFine, referencesFound, rowsFine, unless, refusal}
-use Rattle.limits.specs.StageRefusal.{headerRefusal, recordsRefusal, eventsRefusal}
+use Rattle.limits.specs.Refusal.{lengthFine, versionFine, sectionsFine, pairsFine, sizesFine, numbersFine, unitsFine, referencesFine, correctionFine, pastFine, eventsFine, daysFine, periodsFine, orderFine, eventsListed, amountsFine, referencesFound, rowsFine, Limit, headerLimits, recordLimits, fieldLimits, unless, firstBroken, refusal}
+use Rattle.limits.specs.StageRefusal.{headerRefusal, recordsRefusal, fieldsRefusal, foundRefusal}
 
 -- ---- one number of the chain
 
@@ -22,7 +22,7 @@ pub passed : (t : Bool) (k m : ℕ) → unless t (suc k) m ≡ 0 → (t ≡ true
 passed true k m h = (refl, h)
 passed false k m h = absurd (suc-ne-zero k h)
 
--- one of two numbers, 10 or 11, 12 or 13, whatever follows
+-- one of two numbers, 12 or 13, whatever follows
 pub either-broken : (j k : ℕ) (a b : Bool) (next : ℕ) → (unless a j (unless b k 0) ≡ 0 → ⊥) → unless a j (unless b k 0) ≡ unless a j (unless b k next)
 either-broken j k true true next h = absurd (h refl)
 either-broken j k true false next h = refl
@@ -30,45 +30,42 @@ either-broken j k false b next h = refl
 
 -- ---- the stages
 
+-- no limit has the number 0, which is an accepted case's
+abbrev pub Numbered : List Limit → Type 0
+Numbered [] = Unit {0}
+Numbered (l ∷ ls) = (0 < l .number) × Numbered ls
+
+one-next : (met : Bool) (number m x y : ℕ) → 0 < number → x ≡ cond (eqb y 0) m y
+    → unless met number x ≡ cond (eqb (unless met number y) 0) m (unless met number y)
+one-next true number m x y p e = e
+one-next false number m x y p e = rw (ne-eqb number 0 (λ z. omega arith))
+
+-- what follows a stage is the answer where the stage breaks no limit
+next-stage : (ls : List Limit) → Numbered ls → (m : ℕ) → firstBroken ls m ≡ cond (eqb (firstBroken ls 0) 0) m (firstBroken ls 0)
+next-stage [] n m = refl
+next-stage (l ∷ ls) n m = one-next (l .met) (l .number) m _ _ (n .0) (next-stage ls (n .1) m)
+
 header-next : (f : List ℕ) (m : ℕ) → headerRefusal f m ≡ cond (eqb (headerRefusal f 0) 0) m (headerRefusal f 0)
 unfolding headerRefusal
-header-next f m = go (lengthFine f) (versionFine f) (sectionsFine f) (pairsFine f) (sizesFine f)
-  where
-    chain : (a b c d e : Bool) (next : ℕ) → ℕ
-    chain a b c d e next = unless a 1 (unless b 2 (unless c 3 (unless d 4 (unless e 5 next))))
-
-    go : (a b c d e : Bool) → chain a b c d e m ≡ cond (eqb (chain a b c d e 0) 0) m (chain a b c d e 0)
-    go false b c d e = refl
-    go true false c d e = refl
-    go true true false d e = refl
-    go true true true false e = refl
-    go true true true true false = refl
-    go true true true true true = refl
+header-next f m = next-stage (headerLimits f) (lit< tt, (lit< tt, (lit< tt, (lit< tt, (lit< tt, tt))))) m
 
 records-next : (format : Format) (u r k p e : List ℕ) (m : ℕ)
     → recordsRefusal format u r k p e m ≡ cond (eqb (recordsRefusal format u r k p e 0) 0) m (recordsRefusal format u r k p e 0)
 unfolding recordsRefusal
-records-next format u r k p e m =
-    go (numbersFine format u r e) (unitsFine format u) (referencesFine format (unitsIn format u) r) (correctionFine format (unitsIn format u) k) (pastFine p)
-  where
-    chain : (a b c d t : Bool) (next : ℕ) → ℕ
-    chain a b c d t next = unless a 17 (unless b 6 (unless c 7 (unless d 8 (unless t 9 next))))
+records-next format u r k p e m = next-stage (recordLimits format u r k p e) (lit< tt, (lit< tt, (lit< tt, (lit< tt, (lit< tt, tt))))) m
 
-    go : (a b c d t : Bool) → chain a b c d t m ≡ cond (eqb (chain a b c d t 0) 0) m (chain a b c d t 0)
-    go false b c d t = refl
-    go true false c d t = refl
-    go true true false d t = refl
-    go true true true false t = refl
-    go true true true true false = refl
-    go true true true true true = refl
+fields-next : (format : Format) (p e : List ℕ) (m : ℕ) → fieldsRefusal format p e m ≡ cond (eqb (fieldsRefusal format p e 0) 0) m (fieldsRefusal format p e 0)
+unfolding fieldsRefusal
+fields-next format p e m = next-stage (fieldLimits format p e) (lit< tt, (lit< tt, (lit< tt, (lit< tt, tt)))) m
 
 -- the limits in their order are those of the stages, one after the other
 pub in-stages : (f k : List ℕ) (n : ℕ)
     → refusal f k n
     ≡ headerRefusal f
     (recordsRefusal (formatIn f) (sectionOf f 0) (sectionOf f 1) k (sectionOf f 2) (sectionOf f 3)
-    (eventsRefusal (formatIn f) (sectionOf f 0) (sectionOf f 1) (correctReferences k (sectionOf f 1)) (sectionOf f 3) n))
-unfolding refusal headerRefusal recordsRefusal eventsRefusal
+    (fieldsRefusal (formatIn f) (sectionOf f 2) (sectionOf f 3)
+    (foundRefusal (formatIn f) (sectionOf f 0) (sectionOf f 1) (correctReferences k (sectionOf f 1)) (sectionOf f 3) n)))
+unfolding refusal headerRefusal recordsRefusal fieldsRefusal foundRefusal
 in-stages f k n = refl
 
 pub refusal-header : (f k : List ℕ) (n h : ℕ) → h ≡ headerRefusal f 0 → (h ≡ 0 → ⊥) → h ≡ refusal f k n
@@ -78,10 +75,14 @@ pub refusal-records : (f k : List ℕ) (n r : ℕ) → headerRefusal f 0 ≡ 0
     → r ≡ recordsRefusal (formatIn f) (sectionOf f 0) (sectionOf f 1) k (sectionOf f 2) (sectionOf f 3) 0 → (r ≡ 0 → ⊥) → r ≡ refusal f k n
 refusal-records f k n r h e ne = rw (in-stages f k n, header-next f, h, records-next (formatIn f) (sectionOf f 0), ← e, ne-eqb r 0 ne)
 
-pub refusal-events : (f k : List ℕ) (n : ℕ) → headerRefusal f 0 ≡ 0
-    → recordsRefusal (formatIn f) (sectionOf f 0) (sectionOf f 1) k (sectionOf f 2) (sectionOf f 3) 0 ≡ 0
-    → eventsRefusal (formatIn f) (sectionOf f 0) (sectionOf f 1) (correctReferences k (sectionOf f 1)) (sectionOf f 3) n ≡ refusal f k n
-refusal-events f k n h r = rw (in-stages f k n, header-next f, h, records-next (formatIn f) (sectionOf f 0), r)
+module _ (f k : List ℕ) (n : ℕ) (h : headerRefusal f 0 ≡ 0) (r : recordsRefusal (formatIn f) (sectionOf f 0) (sectionOf f 1) k (sectionOf f 2) (sectionOf f 3) 0 ≡ 0) where
+  pub refusal-fields : (x : ℕ) → x ≡ fieldsRefusal (formatIn f) (sectionOf f 2) (sectionOf f 3) 0 → (x ≡ 0 → ⊥) → x ≡ refusal f k n
+  refusal-fields x e ne =
+      rw (in-stages f k n, header-next f, h, records-next (formatIn f) (sectionOf f 0), r, fields-next (formatIn f) (sectionOf f 2), ← e, ne-eqb x 0 ne)
+
+  pub refusal-found : fieldsRefusal (formatIn f) (sectionOf f 2) (sectionOf f 3) 0 ≡ 0
+      → foundRefusal (formatIn f) (sectionOf f 0) (sectionOf f 1) (correctReferences k (sectionOf f 1)) (sectionOf f 3) n ≡ refusal f k n
+  refusal-found e = rw (in-stages f k n, header-next f, h, records-next (formatIn f) (sectionOf f 0), r, fields-next (formatIn f) (sectionOf f 2), e)
 
 -- ---- what a stage that breaks no limit says
 
@@ -99,9 +100,13 @@ pub record RecordsFine (format : Format) (units references correction past event
   pub correction-fine : correctionFine format (unitsIn format units) correction ≡ true
   pub past-fine : pastFine past ≡ true
 
-pub record EventsFine (format : Format) (units references correct events : List ℕ) (rowsLength : ℕ) : Type 0 where
+pub record FieldsFine (format : Format) (past events : List ℕ) : Type 0 where
   pub events-fine : eventsFine format events ≡ true
+  pub days-fine : daysFine (pastIn past) (eventsIn format events) ≡ true
+  pub periods-fine : periodsFine (pastIn past) (eventsIn format events) ≡ true
   pub order-fine : orderFine (eventsIn format events) ≡ true
+
+pub record FoundFine (format : Format) (units references correct events : List ℕ) (rowsLength : ℕ) : Type 0 where
   pub events-listed : eventsListed (unitsIn format units) (eventsIn format events) ≡ true
   pub amounts-fine : amountsFine format (unitsIn format units) events ≡ true
   pub references-found : referencesFound (referencesIn format references) (referencesIn format correct) (eventsIn format events) ≡ true
@@ -127,23 +132,23 @@ records-fine format u r k p s m e =
     let p9 = passed (pastFine p) 8 _ (p8 .1) in
     (record { numbers-fine = p17 .0; units-fine = p6 .0; references-fine = p7 .0; correction-fine = p8 .0; past-fine = p9 .0 }, p9 .1)
 
-pub events-fine : (format : Format) (u r c s : List ℕ) (n : ℕ) → eventsRefusal format u r c s n ≡ 0 → EventsFine format u r c s n
-unfolding eventsRefusal
-events-fine format u r c s n e =
+pub fields-fine : (format : Format) (p s : List ℕ) (m : ℕ) → fieldsRefusal format p s m ≡ 0 → FieldsFine format p s × (m ≡ 0)
+unfolding fieldsRefusal
+fields-fine format p s m e =
     let p10 = passed (eventsFine format s) 9 _ e in
-    let p11 = passed (orderFine (eventsIn format s)) 10 _ (p10 .1) in
-    let p12 = passed (eventsListed (unitsIn format u) (eventsIn format s)) 11 _ (p11 .1) in
+    let p18 = passed (daysFine (pastIn p) (eventsIn format s)) 17 _ (p10 .1) in
+    let p19 = passed (periodsFine (pastIn p) (eventsIn format s)) 18 _ (p18 .1) in
+    let p11 = passed (orderFine (eventsIn format s)) 10 _ (p19 .1) in
+    (record { events-fine = p10 .0; days-fine = p18 .0; periods-fine = p19 .0; order-fine = p11 .0 }, p11 .1)
+
+pub found-fine : (format : Format) (u r c s : List ℕ) (n : ℕ) → foundRefusal format u r c s n ≡ 0 → FoundFine format u r c s n
+unfolding foundRefusal
+found-fine format u r c s n e =
+    let p12 = passed (eventsListed (unitsIn format u) (eventsIn format s)) 11 _ e in
     let p13 = passed (amountsFine format (unitsIn format u) s) 12 _ (p12 .1) in
     let p14 = passed (referencesFound (referencesIn format r) (referencesIn format c) (eventsIn format s)) 13 _ (p13 .1) in
     let p15 = passed (rowsFine format (eventsIn format s) n) 14 _ (p14 .1) in
-    record {
-      events-fine = p10 .0;
-      order-fine = p11 .0;
-      events-listed = p12 .0;
-      amounts-fine = p13 .0;
-      references-found = p14 .0;
-      rows-fine = p15 .0;
-    }
+    record { events-listed = p12 .0; amounts-fine = p13 .0; references-found = p14 .0; rows-fine = p15 .0 }
 
 -- ---- the sections of a header that breaks no limit
 

@@ -7,10 +7,12 @@ use lib.Dec.{ltb, leb, eqb}
 use lib.ListN.{length}
 use Rattle.binary.specs.Bounded.{allTo}
 use Rattle.binary.specs.Word.{within}
+use Rattle.calendar.specs.Months.{calendarDays}
+use Rattle.calendar.specs.Periods.{periodOf}
 use Rattle.tariff.specs.Ranges.{highestArea, lowestCapability, highestCapability, highestRate, highestAveragePrice, mostConstrainedHours, highestComponent, referenceInRange, highestMarket, highestDay, lowestKind, highestKind, highestImpact, highestPrice, highestRevenue, highestFuelMoney, highestEnergy, highestPriceChange, mostRunHours, highestMegawatts, bidInRange}
 use Rattle.casefile.specs.declared.layout.Format.{Format}
 use Rattle.casefile.specs.Layout.{firstVersion, secondVersion, sectionCount, headerWidth, longestFile, unitWidth, referenceWidth, pastWidth, eventWidth, mostUnits, mostReferences, mostPast, mostEvents, highestNumber, firstWidths, oldNumbers, rowWidth}
-use Rattle.casefile.specs.Case.{Units, References, Violation, Events}
+use Rattle.casefile.specs.Case.{Units, References, Violation, Past, Events}
 use Rattle.casefile.specs.Decode.{formatIn, sectionsIn, offsetOf, lengthOf, sectionOf, recordAt, unitsIn, referencesIn, pastIn, eventsIn, amountsIn, oldNumber, unitSpareFine, referenceSpareFine, entrySpareFine}
 use Rattle.casefile.specs.Lookup.{isListed, placeOf, referenceKey, hasReference, readsCorrect, correctReferences}
 
@@ -156,6 +158,21 @@ eventFine e a i =
 unfoldable pub eventsFine : Format → List ℕ → Bool
 eventsFine format s = allTo (eventsIn format s .count) (eventFine (eventsIn format s) (amountsIn format s))
 
+-- 18: a day that the calendar has
+unfoldable pub dayFine : (day : ℕ) → Bool
+dayFine day = ltb day calendarDays
+
+unfoldable pub daysFine : Past → Events → Bool
+daysFine p e = allTo (p .count) (λ i. dayFine (p .entry i .day)) && allTo (e .count) (λ i. dayFine (e .day i))
+
+-- 19: a capability period that is its day's
+unfoldable pub periodFine : (day period : ℕ) → Bool
+periodFine day period = eqb period (periodOf day)
+
+unfoldable pub periodsFine : Past → Events → Bool
+periodsFine p e =
+    allTo (p .count) (λ i. periodFine (p .entry i .day) (p .entry i .period)) && allTo (e .count) (λ i. periodFine (e .day i) (e .period i))
+
 -- 11: the order of events: by day, kind, market, unit, component; the unit has 20 bits, which 17 sees to
 unfoldable pub eventKey : Events → ℕ → ℕ
 eventKey e i =
@@ -225,12 +242,19 @@ recordLimits format units references correction past events =
     ∷ limit 9 (pastFine past)
     ∷ []
 
--- 10 to 15, of the events
-abbrev pub eventLimits : Format → (units references correct events : List ℕ) (rowsLength : ℕ) → List Limit
-eventLimits format units references correct events rowsLength =
+-- 10, of the events' fields; 18 and 19, of the days and periods of the past and the events; 11, of the events' order
+abbrev pub fieldLimits : Format → (past events : List ℕ) → List Limit
+fieldLimits format past events =
     limit 10 (eventsFine format events)
+    ∷ limit 18 (daysFine (pastIn past) (eventsIn format events))
+    ∷ limit 19 (periodsFine (pastIn past) (eventsIn format events))
     ∷ limit 11 (orderFine (eventsIn format events))
-    ∷ limit 12 (eventsListed (unitsIn format units) (eventsIn format events))
+    ∷ []
+
+-- 12 to 15, of what is found for the events: units, reference levels and rows
+abbrev pub foundLimits : Format → (units references correct events : List ℕ) (rowsLength : ℕ) → List Limit
+foundLimits format units references correct events rowsLength =
+    limit 12 (eventsListed (unitsIn format units) (eventsIn format events))
     ∷ limit 13 (amountsFine format (unitsIn format units) events)
     ∷ limit 14 (referencesFound (referencesIn format references) (referencesIn format correct) (eventsIn format events))
     ∷ limit 15 (rowsFine format (eventsIn format events) rowsLength)
@@ -241,7 +265,8 @@ abbrev pub limits : (file correction : List ℕ) (rowsLength : ℕ) → List Lim
 limits f k n =
     headerLimits f
     ++ (recordLimits (formatIn f) (sectionOf f 0) (sectionOf f 1) k (sectionOf f 2) (sectionOf f 3)
-    ++ eventLimits (formatIn f) (sectionOf f 0) (sectionOf f 1) (correctReferences k (sectionOf f 1)) (sectionOf f 3) n)
+    ++ (fieldLimits (formatIn f) (sectionOf f 2) (sectionOf f 3)
+    ++ foundLimits (formatIn f) (sectionOf f 0) (sectionOf f 1) (correctReferences k (sectionOf f 1)) (sectionOf f 3) n))
 
 -- ---- the number
 

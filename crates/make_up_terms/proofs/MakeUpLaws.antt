@@ -131,7 +131,7 @@ module _ (format : Format) (u r p s : List ℕ) (i : ℕ) where
 -- ---- an accepted case
 
 pub file-fine : (f : List ℕ) (acc : AcceptedFile f) (format : Format) (e : List ℕ) → format ≡ formatIn f → e ≡ sectionOf f 3 → eventsFine format e ≡ true
-file-fine f acc format e ef ee = rw (ef, ee) (case.events f (acc .correction) (acc .rowsLength) (acc .accepted) .events-fine)
+file-fine f acc format e ef ee = rw (ef, ee) (case.fields f (acc .correction) (acc .rowsLength) (acc .accepted) .events-fine)
 
 -- the whole, from what the functions give
 pub working-made : (f : List ℕ) (y i : ℕ) (format : Format) (u e : List ℕ) (place level flags mitigated restored : ℕ) (t : MakeUpTerms) (due : ℕ)

@@ -1,13 +1,15 @@
--- The smaller calls of multipliers, penalties and windows (docs/RULES.md, C8 to C13): first 10, then the figure.
+-- The smaller calls of multipliers, penalties and windows (docs/RULES.md, C8 to C13 and C26): first 10, then the figure.
 use Prim.Native.Nat.{ℕ, _*_}
 use mathlib.Core.Bool.{Bool, false, not, _||_}
 use mathlib.Core.List.{List}
 use mathlib.Core.Path.{_≡_}
-use lib.Dec.{ltb, eqb}
+use lib.Dec.{ltb, leb, eqb}
 use lib.ListN.{length, getD}
 use Rattle.binary.specs.Bounded.{anyTo, sumTo}
 use Rattle.binary.specs.Word.{positivePart, negativePart, within}
-use Rattle.tariff.specs.Ranges.{highestCapability, highestPrice, highestRevenue, highestDay, fewestInstances, mostInstances, fewestPeriodsBack, mostPeriodsBack, highestE, highestT, lowestFuelMultiplier, highestFuelMultiplier}
+use Rattle.calendar.specs.Months.{calendarDays}
+use Rattle.calendar.specs.Periods.{periodOf}
+use Rattle.tariff.specs.Ranges.{highestCapability, highestPrice, highestRevenue, fewestInstances, mostInstances, fewestPeriodsBack, mostPeriodsBack, highestE, highestT, lowestFuelMultiplier, highestFuelMultiplier}
 use Rattle.tariff.specs.Ladder.{InstancesInRange, AsPrinted}
 use Rattle.tariff.specs.SanctionRules.{ladder, withheldPenalty, dispatchPenalty, fuelPenalty, fuelDayCounts, periodCounts}
 use Rattle.tariff.specs.DefaultBidRules.{dayHours}
@@ -67,8 +69,12 @@ unfoldable pub fuelPenaltyAnswer : (E T M : ℕ) → Answer
 fuelPenaltyAnswer E T M =
     answer false (badFuel E T M) (fuelPenalty M (positivePart 64 E) (negativePart 64 E) T)
 
+-- both days are in the calendar
 unfoldable pub fuelDayAnswer : (d e : ℕ) → Answer
-fuelDayAnswer d e = answer false (ltb highestDay d || ltb highestDay e) (bit (fuelDayCounts d e))
+fuelDayAnswer d e = answer false (leb calendarDays d || leb calendarDays e) (bit (fuelDayCounts d e))
+
+unfoldable pub periodOfAnswer : (d : ℕ) → Answer
+periodOfAnswer d = answer false (leb calendarDays d) (periodOf d)
 
 -- k is how many periods the window looks back
 unfoldable pub periodAnswer : (k p q : ℕ) → Answer

@@ -7,7 +7,7 @@ ghost use Rattle.binary.specs.Bounded.{sumTo};
 ghost use Rattle.tariff.specs.Ranges.{highestCapability, highestPrice, highestRevenue};
 ghost use Rattle.tariff.specs.DefaultBidRules.{dayHours};
 ghost use Rattle.calls.specs.Answers.{verdictOf, figureOf};
-ghost use Rattle.penalty_calls.specs.SanctionCalls.{badHours, amountAt, badRevenues, revenueAt, multiplierAnswer, withheldPenaltyAnswer, dispatchPenaltyAnswer, fuelPenaltyAnswer, fuelDayAnswer, periodAnswer};
+ghost use Rattle.penalty_calls.specs.SanctionCalls.{badHours, amountAt, badRevenues, revenueAt, multiplierAnswer, withheldPenaltyAnswer, dispatchPenaltyAnswer, fuelPenaltyAnswer, fuelDayAnswer, periodOfAnswer, periodAnswer};
 use binary::numbers::product;
 use binary::numbers::wide;
 use binary::words::is_within;
@@ -15,6 +15,8 @@ use binary::words::is_within_u64;
 use binary::words::negative_part_u64;
 use binary::words::positive_part;
 use binary::words::positive_part_u64;
+use calendar::periods;
+use calendar::table;
 use calls::answers::Figure;
 use calls::answers::Verdict;
 use calls::answers::figure_of;
@@ -142,9 +144,23 @@ pub fn fuel_penalty(e: u64, t: u64, m: u8) -> Figure
 pub fn fuel_day_counts(d: u32, e: u32) -> Verdict
     ensures { λ r. ⌜ r ≡ verdictOf (fuelDayAnswer d e) ⌝ }
 {
-    let ten = (ranges::HIGHEST_DAY < d) | (ranges::HIGHEST_DAY < e);
+    let ten = (table::DAYS <= d) | (table::DAYS <= e);
+    if ten {
+        return Verdict::Refused(10);
+    }
     let counts = sanction_rules::fuel_day_counts(d, e);
-    verdict_of(false, ten, counts)
+    verdict_of(false, false, counts)
+}
+
+// The capability period of a day.
+pub fn period_of(day: u32) -> Figure
+    ensures { λ r. ⌜ r ≡ figureOf (periodOfAnswer day) ⌝ }
+{
+    if table::DAYS <= day {
+        return Figure::Refused(10);
+    }
+    let period = periods::period_of(day);
+    Figure::Value(period as u64)
 }
 
 // Whether a period is the own one or one of the k before it: k is 2 for N3 and 1 for N2.

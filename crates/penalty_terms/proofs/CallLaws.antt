@@ -117,13 +117,13 @@ module _ (f k : List ℕ) (n : ℕ) (h : refusal f k n ≡ 0) (i : ℕ) (l : i <
   module _ (kind : c .events .kind i ≡ 1) where
     price : (x : ℕ) → x < mostHours → within 32 highestPrice (c .events .b i x) ≡ true
     unfolding decode caseIn eventsIn
-    price x m = cell-ranges (formatIn f) (sectionOf f 3) (case.events f k n h .events-fine) i x l m .withheld kind
+    price x m = cell-ranges (formatIn f) (sectionOf f 3) (case.fields f k n h .events-fine) i x l m .withheld kind
 
     power : (x : ℕ) → x < mostHours → flaggedAmount c i x ≤ highestCapability
     unfolding flaggedAmount decode caseIn eventsIn
     power x m =
         let a =
-        amount-bound (formatIn f) (sectionOf f 0) (sectionOf f 3) (case.records f k n h .units-fine) (case.events f k n h .events-listed) (case.events f k n h .amounts-fine) i x l m (omega arith) in
+        amount-bound (formatIn f) (sectionOf f 0) (sectionOf f 3) (case.records f k n h .units-fine) (case.found f k n h .events-listed) (case.found f k n h .amounts-fine) i x l m (omega arith) in
         pick (flagged c i x) _ a
       where
         pick : (b : Bool) (a : ℕ) → a ≤ highestCapability → cond b a 0 ≤ highestCapability
@@ -164,7 +164,7 @@ module _ (f k : List ℕ) (n : ℕ) (h : refusal f k n ≡ 0) (i : ℕ) (l : i <
   module _ (kind : c .events .kind i ≡ 2) where
     revenue-small : (x : ℕ) → x < mostHours → flaggedRevenue c i x ≤ highestRevenue
     unfolding flaggedRevenue decode caseIn eventsIn
-    revenue-small x m = pick (flagged c i x) _ (cell-ranges (formatIn f) (sectionOf f 3) (case.events f k n h .events-fine) i x l m .dispatch kind)
+    revenue-small x m = pick (flagged c i x) _ (cell-ranges (formatIn f) (sectionOf f 3) (case.fields f k n h .events-fine) i x l m .dispatch kind)
       where
         pick : (b : Bool) (a : ℕ) → a ≤ highestRevenue → cond b a 0 ≤ highestRevenue
         pick true a q = q

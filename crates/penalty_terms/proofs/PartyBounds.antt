@@ -66,7 +66,7 @@ module _ (f k : List ℕ) (n : ℕ) (h : refusal f k n ≡ 0) where
 
   listed : (j : ℕ) → j < c .events .count → isListed (c .units) (c .events .unit j) ≡ true
   unfolding decode caseIn eventsListed eventListed
-  listed j l = all-at (c .events .count) j (eventListed (c .units) (c .events)) l (case.events f k n h .events-listed)
+  listed j l = all-at (c .events .count) j (eventListed (c .units) (c .events)) l (case.found f k n h .events-listed)
 
   pub place-low : (j : ℕ) → j < c .events .count → unitOf c j < mostUnits
   unfolding unitOf
@@ -96,13 +96,13 @@ module _ (f k : List ℕ) (n : ℕ) (h : refusal f k n ≡ 0) where
 
   ordered : orderFine (c .events) ≡ true
   unfolding decode caseIn
-  ordered = case.events f k n h .order-fine
+  ordered = case.fields f k n h .order-fine
 
   -- the cells of an event of kind 3
   cell : (j : ℕ) → j < c .events .count → c .events .kind j ≡ 3 → (x : ℕ) → x < mostHours
       → (c .a j x ≤ highestEnergy) × (within 32 highestPriceChange (c .events .b j x) ≡ true)
   unfolding decode caseIn eventsIn
-  cell j l kj x m = cell-ranges (formatIn f) (sectionOf f 3) (case.events f k n h .events-fine) j x l m .fuel kj
+  cell j l kj x m = cell-ranges (formatIn f) (sectionOf f 3) (case.fields f k n h .events-fine) j x l m .fuel kj
 
   module _ (i : ℕ) (kind : c .events .kind i ≡ 3) where
     bare : (j : ℕ) → j < c .events .count → together c i j ≡ true → c .events .component j ≡ 0

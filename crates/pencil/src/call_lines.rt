@@ -102,6 +102,11 @@ pub fn fuel_day_counts(d: u32, e: u32) {
     print::counts(sanction_calls::fuel_day_counts(d, e));
 }
 
+pub fn period_of(day: u32) {
+    print::argument(b"  period of day ", day as u64);
+    print::figure(sanction_calls::period_of(day));
+}
+
 pub fn period_counts(k: u8, own: u16, period: u16) {
     print::argument(b"  own period ", own as u64);
     print::argument(b" and ", k as u64);

@@ -113,8 +113,9 @@ pub fn fuel_refusals() {
     call_lines::fuel_penalty(0, 64000000001, 2);
     call_lines::fuel_penalty(0, 0, 1);
     call_lines::fuel_penalty(0, 0, 4);
-    call_lines::fuel_day_counts(1000001, 1000000);
-    call_lines::fuel_day_counts(1000000, 1000001);
+    call_lines::fuel_day_counts(36525, 36524);
+    call_lines::fuel_day_counts(36524, 36525);
+    call_lines::period_of(36525);
     call_lines::period_counts(0, 44, 44);
     call_lines::period_counts(3, 44, 44);
 }

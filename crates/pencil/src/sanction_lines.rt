@@ -48,9 +48,25 @@ fn fuel() {
 
 pub fn windows() {
     call_lines::heading(b"Windows\n");
-    call_lines::fuel_day_counts(1000, 817);
-    call_lines::fuel_day_counts(1000, 816);
-    call_lines::fuel_day_counts(1000, 1000);
+    // 1 September 2021, and 1 March and the day before
+    call_lines::fuel_day_counts(7914, 7730);
+    call_lines::fuel_day_counts(7914, 7729);
+    // 31 and 28 August 2001, and 28 and 26 February
+    call_lines::fuel_day_counts(608, 424);
+    call_lines::fuel_day_counts(605, 424);
+    call_lines::fuel_day_counts(605, 422);
+    // 31 August 2004, and 29 and 28 February
+    call_lines::fuel_day_counts(1704, 1520);
+    call_lines::fuel_day_counts(1704, 1519);
+    // 30 June 2000: the calendar's first day cuts its window
+    call_lines::fuel_day_counts(181, 0);
+    call_lines::fuel_day_counts(0, 0);
+    // 30 April and 1 May 2000, 31 October and 1 November, and 31 December 2099
+    call_lines::period_of(120);
+    call_lines::period_of(121);
+    call_lines::period_of(304);
+    call_lines::period_of(305);
+    call_lines::period_of(36524);
     call_lines::period_counts(2, 44, 42);
     call_lines::period_counts(2, 44, 41);
     call_lines::period_counts(1, 44, 43);

@@ -41,13 +41,15 @@ pub accepted : (f k : List ℕ) (n : ℕ) → refusal f k n ≡ 0 → Accepted (
 unfolding decode caseIn
 accepted f k n h =
     let records = case.records f k n h in
-    let events = case.events f k n h in
+    let fields = case.fields f k n h in
+    let found = case.found f k n h in
     record {
       few-past = case.past-count f k n h;
       few-events = case.events-count f k n h;
       units-fine = records .units-fine;
-      events-fine = events .events-fine;
-      order-fine = events .order-fine;
-      events-listed = events .events-listed;
-      amounts-fine = events .amounts-fine;
+      events-fine = fields .events-fine;
+      days-fine = fields .days-fine;
+      order-fine = fields .order-fine;
+      events-listed = found .events-listed;
+      amounts-fine = found .amounts-fine;
     }

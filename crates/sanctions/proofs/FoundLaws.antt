@@ -22,6 +22,7 @@ use Rattle.casefile.specs.Case.{Case}
 use Rattle.casefile.specs.Decode.{pastIn, eventsIn, caseIn, cellsFrom, cellsIn}
 use Rattle.casefile.specs.Lookup.{groupOf}
 use Rattle.casefile.specs.StageRead.{cellOf}
+use Rattle.limits.proofs.RangeLaws.{event-day}
 use Rattle.party_runs.specs.StageParties.{RunsTogether, leaderOf}
 use Rattle.party_runs.proofs.PartyLaws.{fields-run, together-fields, leader-le, leader-together}
 use Rattle.conduct.specs.Flags.{sumTogether, fuelFlag, flagged, flagMask}
@@ -250,6 +251,7 @@ module _ (format : Format) (u r p e groups leaders masks : List ℕ) (acc : Acce
       record {
         withheld = λ j l k h m. rw (cell-amount format e j h) (ranges format u p e acc r .withheld j h l m k .0);
         fuel = λ j l k h m. rw (cell-amount format e j h) (ranges format u p e acc r .fuel j h l m k .0);
+        days = λ j l k. event-day (pastIn p) (eventsIn format e) (acc .days-fine) j l;
         runs = together;
         led = λ j l.
             let s = together-fields c j _ (leader-together c j) in

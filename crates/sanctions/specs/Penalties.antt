@@ -109,14 +109,14 @@ tccChange c i =
 unfoldable pub lowestUnit : Case → ℕ → Bool
 lowestUnit c i = not (anyTo (c .events .count) (λ j. together c i j && ltb (c .events .unit j) (c .events .unit i)))
 
--- a kind 3 past entry of group g, 1 to 183 days before day d
+-- a kind 3 past entry of group g in the window of day d
 unfoldable pub countsFuel : (d g : ℕ) → Violation → Bool
 countsFuel d g v = eqb (v .kind) 3 && eqb (v .group) g && fuelDayCounts d (v .day)
 
 unfoldable pub pastFuel : Case → (d g : ℕ) → Bool
 pastFuel c d g = anyTo (c .past .count) (λ j. countsFuel d g (c .past .entry j))
 
--- row n is where a fuel penalty of group g, 1 to 183 days before day d, stands
+-- row n is where a fuel penalty of group g in the window of day d, stands
 unfoldable pub fuelStands : Case → (n d g : ℕ) → Bool
 fuelStands c n d g =
     eqb (c .events .kind n) 3 && lowestUnit c n && eqb (groupOf c n) g && fuelDayCounts d (c .events .day n)
@@ -129,7 +129,7 @@ fuelMultiplierAfter prior = cond prior 3 2
 unfoldable pub fuelPenaltyUnder : Case → (i M : ℕ) → ℕ
 fuelPenaltyUnder c i M = fuelPenalty M (gain c i) (loss c i) (tccChange c i)
 
--- a fuel penalty above 0 of group g, 1 to 183 days before day d, stands on one of the first n rows. Events rise by day, so
+-- a fuel penalty above 0 of group g in the window of day d, stands on one of the first n rows. Events rise by day, so
 -- that event i's are all on the rows before it
 unfoldable pub priorFuel : Case → (n d g : ℕ) → Bool
 priorFuel c zero d g = false
@@ -185,7 +185,7 @@ InstancesByLadder =
 
 -- ---- M by the whole file
 
--- row j has a fuel penalty above 0 of group g, 1 to 183 days before day d
+-- row j has a fuel penalty above 0 of group g in the window of day d
 unfoldable pub countsFuelHere : Case → (d g j : ℕ) → Bool
 countsFuelHere c d g j =
     ltb 0 (penalty c j) && eqb (c .events .kind j) 3 && eqb (groupOf c j) g && fuelDayCounts d (c .events .day j)

@@ -103,7 +103,7 @@ partyDay format events leaders mask i n =
       fall = sumTo n (ledBy leaders i (tccAt format (negativePart 32) events));
     }
 
--- row j has a fuel penalty above 0 of this group, 1 to 183 days before
+-- row j has a fuel penalty above 0 of this group, in the day's window
 unfoldable pub fuelRowCounts : Format → (events groups penalties : List ℕ) (day group j : ℕ) → Bool
 fuelRowCounts format events groups penalties day group j =
     ltb 0 (getD penalties j 0) && eqb (eventsIn format events .kind j) 3 && eqb (getD groups j 0) group

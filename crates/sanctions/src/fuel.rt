@@ -4,6 +4,7 @@ ghost use Prim.Native.Nat.{_*_, _≤_, _<_};
 ghost use lib.ListN.{length};
 ghost use Rattle.binary.specs.Bounded.{anyTo};
 ghost use Rattle.binary.specs.Word.{positivePart, negativePart};
+ghost use Rattle.calendar.specs.Periods.{windowStart};
 ghost use Rattle.casefile.specs.Layout.{cellWidth, mostHours, mostEvents};
 ghost use Rattle.casefile.specs.Decode.{eventsIn, pastIn};
 ghost use Rattle.sanctions.specs.Penalties.{fuelMultiplierAfter};
@@ -17,6 +18,8 @@ use binary::numbers::product;
 use binary::numbers::wide;
 use binary::words::negative_part;
 use binary::words::positive_part;
+use calendar::periods::in_window;
+use calendar::periods::window_start;
 use casefile::cells::cell_at;
 use casefile::events::event_at;
 use casefile::events::event_cells;
@@ -25,7 +28,6 @@ use casefile::layout::Format;
 use casefile::past::entry_at;
 use casefile::past::entry_count;
 use party_runs::parties::run_end;
-use tariff::sanction_rules::fuel_day_counts;
 use tariff::sanction_rules::fuel_penalty;
 
 // E is gain less loss.
@@ -142,22 +144,23 @@ pub fn party_day(
     }
 }
 
-// Whether row j has a fuel penalty above 0 of a group, 1 to 183 days before a day.
+// Whether row j has a fuel penalty above 0 of a group, in the window of a day, which begins on the first.
 fn is_prior(
     format: Format,
     events: &[u8],
     groups: &[u16; layout::MOST_EVENTS],
     penalties: &[u64; layout::MOST_EVENTS],
+    first: u32,
     day: u32,
     group: u16,
     j: usize,
 ) -> bool
-    requires { ⌜ (j < eventsIn format (now events) .count) × (j < mostEvents) ⌝ }
+    requires { ⌜ (j < eventsIn format (now events) .count) × (j < mostEvents) × (first ≡ windowStart day) ⌝ }
     ensures { λ r. ⌜ r ≡ fuelRowCounts format (now (events .entry)) (now (groups .entry)) (now (penalties .entry)) day group j ⌝ }
 {
     let event = event_at(format, events, j);
     let kind = event.kind;
-    let near = fuel_day_counts(day, event.day);
+    let near = in_window(first, day, event.day);
     (0 < penalties[j]) & (kind == 3) & (groups[j] == group) & near
 }
 
@@ -167,42 +170,44 @@ fn prior_here(
     events: &[u8],
     groups: &[u16; layout::MOST_EVENTS],
     penalties: &[u64; layout::MOST_EVENTS],
+    first: u32,
     day: u32,
     group: u16,
     i: usize,
 ) -> bool
-    requires { ⌜ (i ≤ eventsIn format (now events) .count) × (i ≤ mostEvents) ⌝ }
+    requires { ⌜ (i ≤ eventsIn format (now events) .count) × (i ≤ mostEvents) × (first ≡ windowStart day) ⌝ }
     ensures { λ r. ⌜ r ≡ anyTo i (fuelRowCounts format (now (events .entry)) (now (groups .entry)) (now (penalties .entry)) day group) ⌝ }
 {
     let mut any = false;
     let mut j = 0;
     while j < i {
-        any = any | is_prior(format, events, groups, penalties, day, group, j);
+        any = any | is_prior(format, events, groups, penalties, first, day, group, j);
         j += 1;
     }
     any
 }
 
-// Whether past entry j is of kind 3 and of a group, 1 to 183 days before a day.
-fn is_prior_entry(past: &[u8], day: u32, group: u16, j: usize) -> bool
-    requires { ⌜ j < pastIn (now past) .count ⌝ }
+// Whether past entry j is of kind 3 and of a group, in the window of a day.
+fn is_prior_entry(past: &[u8], first: u32, day: u32, group: u16, j: usize) -> bool
+    requires { ⌜ (j < pastIn (now past) .count) × (first ≡ windowStart day) ⌝ }
     ensures { λ r. ⌜ r ≡ fuelEntryCounts (now (past .entry)) day group j ⌝ }
 {
     let entry = entry_at(past, j);
     let its_group = entry.group;
     let kind = entry.kind;
-    let near = fuel_day_counts(day, entry.day);
+    let near = in_window(first, day, entry.day);
     (kind == 3) & (its_group == group) & near
 }
 
-fn prior_past(past: &[u8], day: u32, group: u16) -> bool
+fn prior_past(past: &[u8], first: u32, day: u32, group: u16) -> bool
+    requires { ⌜ first ≡ windowStart day ⌝ }
     ensures { λ r. ⌜ r ≡ anyTo (pastIn (now (past .entry)) .count) (fuelEntryCounts (now (past .entry)) day group) ⌝ }
 {
     let n = entry_count(past);
     let mut any = false;
     let mut j = 0;
     while j < n {
-        any = any | is_prior_entry(past, day, group, j);
+        any = any | is_prior_entry(past, first, day, group, j);
         j += 1;
     }
     any
@@ -233,8 +238,9 @@ pub fn fuel(
     let event = event_at(format, events, i);
     let day = event.day;
     let group = groups[i];
-    let here = prior_here(format, events, groups, penalties, day, group, i);
-    let outside = prior_past(past, day, group);
+    let first = window_start(day);
+    let here = prior_here(format, events, groups, penalties, first, day, group, i);
+    let outside = prior_past(past, first, day, group);
     let multiplier = multiplier_after(here | outside);
     let sums = party_day(format, events, leaders, masks[i], i);
     let tcc = difference(sums.rise, sums.fall);

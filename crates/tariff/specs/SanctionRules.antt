@@ -2,6 +2,7 @@
 use Prim.Native.Nat.{ℕ, _+_, _-_, _*_, _/_}
 use mathlib.Core.Bool.{Bool, cond, _&&_}
 use lib.Dec.{ltb, leb, eqb}
+use Rattle.calendar.specs.Periods.{windowStart, inWindow}
 
 -- rounded once, at the end, half a cent up (S16): x is in that many parts of a cent
 unfoldable pub cents : (parts x : ℕ) → ℕ
@@ -31,9 +32,9 @@ withheldPenalty multiplier amount = cents 20 (multiplier * amount)
 unfoldable pub dispatchPenalty : (revenue : ℕ) → ℕ
 dispatchPenalty revenue = cents 2 (3 * revenue)
 
--- the fuel window: day e is 1 to 183 days before day d
+-- the fuel window (S12): day e is before day d, and not before the same day of the month six months earlier
 unfoldable pub fuelDayCounts : (d e : ℕ) → Bool
-fuelDayCounts d e = ltb e d && leb d (e + 183)
+fuelDayCounts d e = inWindow (windowStart d) d e
 
 -- X = M × E + 20 × T in twentieths of a cent, or 0 if negative; E is gain less loss
 unfoldable pub fuelCharge : (M gain loss T : ℕ) → ℕ

@@ -1,8 +1,11 @@
 // Multipliers in halves and penalties in cents (tariff 23.4.3).
 ghost use mathlib.Core.Path.{_≡_};
 ghost use Prim.Native.Nat.{_+_, _≤_, _<_};
+ghost use Rattle.calendar.specs.Months.{calendarDays};
 ghost use Rattle.tariff.specs.SanctionRules.{cents, periodCounts, ladder, withheldPenalty, dispatchPenalty, fuelDayCounts, fuelCharge, fuelPenalty};
 use binary::numbers::difference;
+use calendar::periods::in_window;
+use calendar::periods::window_start;
 
 // $5,000 in twentieths of a cent.
 pub const LEAST_CHARGE: u64 = 10_000_000;
@@ -57,11 +60,12 @@ pub fn dispatch_penalty(revenue: u64) -> u64
     cents(2, 3 * revenue)
 }
 
-// Whether day e is 1 to 183 days before day d.
+// Whether day e is before day d, and not before the same day of the month six months earlier.
 pub fn fuel_day_counts(d: u32, e: u32) -> bool
+    requires { ⌜ d < calendarDays ⌝ }
     ensures { λ r. ⌜ r ≡ fuelDayCounts d e ⌝ }
 {
-    (e < d) & ((d as u64) <= (e as u64) + 183)
+    in_window(window_start(d), d, e)
 }
 
 // X in twentieths of a cent, or 0 if negative, where E is gain less loss.

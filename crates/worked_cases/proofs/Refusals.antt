@@ -8,11 +8,13 @@ use lib.ListN.{replicate}
 use Rattle.binary.specs.Bounded.{anyTo, allTo, lastTo}
 use Rattle.binary.specs.Bytes.{valueAt, bytesOf}
 use Rattle.binary.specs.Word.{positivePart, negativePart, within}
+use Rattle.calendar.specs.Months.{monthLength, monthStart, monthFrom, monthOf}
+use Rattle.calendar.specs.Periods.{periodOf}
 use Rattle.tariff.specs.Ranges.{referenceInRange, bidInRange}
 use Rattle.casefile.specs.Layout.{firstWidths, widthsOf}
 use Rattle.casefile.specs.Decode.{formatIn, offsetOf, lengthOf, sectionOf, recordAt, unitsIn, referencesIn, violationIn, pastIn, cellsFrom, cellsIn, eventsIn, amountsIn, unitSpareFine, referenceSpareFine, entrySpareFine}
 use Rattle.casefile.specs.Lookup.{isUnit, isListed, placeOf, isReference, referenceKey, hasReference, correctReferences, readsCorrect}
-use Rattle.limits.specs.Refusal.{lengthFine, versionFine, sectionsFine, pairsFine, sizeFine, sizesFine, recordNumbersFine, unitNumbersFine, referenceNumbersFine, eventNumbersFine, numbersFine, rises, unitFieldsFine, unitFine, unitsFine, referenceFieldsFine, referenceFine, referencesFine, correctionFine, violationFine, entryFine, pastFine, maskFine, quantitiesFine, fieldsFine, cellFine, hourFine, eventFine, eventsFine, eventKey, orderFine, eventListed, eventsListed, withinCapability, amountFine, amountsFine, referenceFound, referencesFound, rowsFine, refusal, limits, DecidedBy}
+use Rattle.limits.specs.Refusal.{lengthFine, versionFine, sectionsFine, pairsFine, sizeFine, sizesFine, recordNumbersFine, unitNumbersFine, referenceNumbersFine, eventNumbersFine, numbersFine, rises, unitFieldsFine, unitFine, unitsFine, referenceFieldsFine, referenceFine, referencesFine, correctionFine, violationFine, entryFine, pastFine, maskFine, quantitiesFine, fieldsFine, cellFine, hourFine, eventFine, eventsFine, dayFine, daysFine, periodFine, periodsFine, eventKey, orderFine, eventListed, eventsListed, withinCapability, amountFine, amountsFine, referenceFound, referencesFound, rowsFine, refusal, limits, DecidedBy}
 use Rattle.limits.proofs.LimitLaws.{refused-decided}
 use Rattle.casefile.specs.File.{headed, fileIn}
 use Rattle.worked_cases.specs.Files.{fileOf, unitBytes, referenceBytes, entryBytes, eventBytes, units, withheld, listing}
@@ -21,7 +23,7 @@ use Rattle.worked_cases.specs.Files.{fileOf, unitBytes, referenceBytes, 
 pub record Examples : Type 0 where
   pub empty-case : refusal (fileOf [] [] [] []) [] 0 ≡ 0
   pub listing-case : refusal listing [] 128 ≡ 0
-  pub bids-case : refusal (fileOf units (referenceBytes 12 0 2000) (entryBytes 1 3 1 44 7000) (eventBytes 4 0 12 44 0 8000 2500 3000)) (referenceBytes 12 0 2100) 128 ≡ 0
+  pub bids-case : refusal (fileOf units (referenceBytes 12 0 2000) (entryBytes 1 3 1 38 7000) (eventBytes 4 0 12 44 0 8000 2500 3000)) (referenceBytes 12 0 2100) 128 ≡ 0
   pub length-broken : refusal (replicate 35 0) [] 0 ≡ 1
   pub version-broken : refusal (headed 9 4 36 0 0 0 0 []) [] 0 ≡ 2
   pub count-broken : refusal (headed 1 3 36 0 0 0 0 []) [] 0 ≡ 3
@@ -43,7 +45,7 @@ pub record Examples : Type 0 where
   pub reading-first : refusal (fileOf units [] [] (withheld 0 12 501 ++ withheld 0 12 501 ++ withheld 2 12 501)) [] 384 ≡ 10
 
 pub examples : Examples
-unfolding headed fileIn fileOf unitBytes referenceBytes entryBytes eventBytes units withheld listing anyTo allTo lastTo valueAt bytesOf positivePart negativePart within firstWidths widthsOf formatIn offsetOf lengthOf sectionOf recordAt unitsIn referencesIn violationIn pastIn cellsFrom cellsIn eventsIn amountsIn isUnit isListed placeOf isReference hasReference correctReferences lengthFine versionFine sectionsFine pairsFine sizeFine sizesFine recordNumbersFine unitNumbersFine referenceNumbersFine eventNumbersFine numbersFine rises unitFieldsFine unitSpareFine referenceSpareFine entrySpareFine unitFine unitsFine referenceFieldsFine referenceKey referenceFine referencesFine correctionFine violationFine entryFine pastFine maskFine quantitiesFine fieldsFine referenceInRange bidInRange cellFine hourFine eventFine eventsFine eventKey orderFine eventListed eventsListed withinCapability amountFine amountsFine readsCorrect referenceFound referencesFound rowsFine refusal
+unfolding headed fileIn fileOf unitBytes referenceBytes entryBytes eventBytes units withheld listing anyTo allTo lastTo valueAt bytesOf positivePart negativePart within firstWidths widthsOf formatIn offsetOf lengthOf sectionOf recordAt unitsIn referencesIn violationIn pastIn cellsFrom cellsIn eventsIn amountsIn isUnit isListed placeOf isReference hasReference correctReferences lengthFine versionFine sectionsFine pairsFine sizeFine sizesFine recordNumbersFine unitNumbersFine referenceNumbersFine eventNumbersFine numbersFine rises unitFieldsFine unitSpareFine referenceSpareFine entrySpareFine unitFine unitsFine referenceFieldsFine referenceKey referenceFine referencesFine correctionFine violationFine entryFine pastFine maskFine quantitiesFine fieldsFine referenceInRange bidInRange cellFine hourFine eventFine eventsFine monthLength monthStart monthFrom monthOf periodOf dayFine daysFine periodFine periodsFine eventKey orderFine eventListed eventsListed withinCapability amountFine amountsFine readsCorrect referenceFound referencesFound rowsFine refusal
 examples =
     record {
       empty-case = refl;

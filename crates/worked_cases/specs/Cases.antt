@@ -49,7 +49,7 @@ areaUnits = units ++ tightUnit 20 2 8000 100 5000 1000
 
 -- three instances of group 1, of the periods 42, 43 and 44
 unfoldable pub pastInstances : List ℕ
-pastInstances = entryBytes 1 1 0 42 0 ++ entryBytes 1 1 0 43 0 ++ entryBytes 1 1 0 44 0
+pastInstances = entryBytes 1 1 0 42 7700 ++ entryBytes 1 1 0 43 7900 ++ entryBytes 1 1 0 44 7980
 
 -- withheld by units 12 and 13, whose S of hour 1 is over the line; dispatch in a tight hour; a party-day of fuel, and fuel 100
 -- days later
@@ -124,7 +124,7 @@ mixedEvents =
     ++ eventOf 8000 4 0 20 3 0 0 0 0 (at 1 (cellBytes 3001 0 0) empty)
 
 unfoldable pub mixed : List ℕ
-mixed = fileOf areaUnits mixedReferences (entryBytes 1 3 0 44 7900) mixedEvents
+mixed = fileOf areaUnits mixedReferences (entryBytes 1 3 0 43 7900) mixedEvents
 
 -- 2 × 600 × 2,500 twentieths is 150,000 cents; E is 1,001,000, and 3 × E is below 10,000,000
 unfoldable pub mixedRows : List ℕ
@@ -188,11 +188,12 @@ groupRows =
     ++ rowBytes 1 1 0 0 0 0 0 (at 0 1000 (at 1 4000 noBids))
     ++ rowBytes 64 64 0 0 0 0 0 (at 6 1000 noBids)
 
--- past entries on both sides of every window: periods 41 (too early), 42 and 43, the other market; fuel 184 and 183 days before
+-- past entries on both sides of every window: periods 41 (too early), 42 and 43, the other market; fuel on the day before the
+-- window of day 8000 and on its first day
 unfoldable pub windowPast : List ℕ
 windowPast =
-    entryBytes 1 1 0 41 0 ++ entryBytes 1 1 1 44 0 ++ entryBytes 1 1 0 42 0 ++ entryBytes 1 1 0 43 0
-    ++ entryBytes 2 3 1 44 7816 ++ entryBytes 1 3 1 44 7817
+    entryBytes 1 1 0 41 7500 ++ entryBytes 1 1 1 44 7980 ++ entryBytes 1 1 0 42 7700 ++ entryBytes 1 1 0 43 7900
+    ++ entryBytes 2 3 1 43 7815 ++ entryBytes 1 3 1 43 7816
 
 unfoldable pub windowReferences : List ℕ
 windowReferences = referenceBytes 20 0 2000 ++ referenceBytes 20 3 2000

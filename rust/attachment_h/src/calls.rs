@@ -129,10 +129,16 @@ pub fn fuel_penalty(e: i64, t: u64, m: Multiplier) -> Result<Cents, Refused> {
     ffi::attachment_h_fuel_penalty(e, t, m.0).cents()
 }
 
-/// Whether a fuel penalty of the day `earlier` raises the multiplier of `day`: 1 to 183 days before.
-/// Days are at most 1,000,000.
+/// Whether a fuel penalty of the day `earlier` raises the multiplier of `day`: it is before that day,
+/// and not before the same day of the month six months earlier. Days are below 36,525.
 pub fn fuel_day_counts(day: u32, earlier: u32) -> Result<bool, Refused> {
     ffi::attachment_h_fuel_day_counts(day, earlier).verdict()
+}
+
+/// The capability period that a day is in: 0 is the Winter that ends on 30 April 2000. The day is
+/// below 36,525.
+pub fn period_of(day: u32) -> Result<u16, Refused> {
+    ffi::attachment_h_period_of(day).period()
 }
 
 /// Whether a capability period is the own one or one of the `back` before it: 2 for N3, 1 for N2.

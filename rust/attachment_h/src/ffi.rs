@@ -82,6 +82,11 @@ impl Answer {
         Ok(Multiplier(self.figure()? as u8))
     }
 
+    /// A capability period, which is 200 at most.
+    pub fn period(self) -> Result<u16, Refused> {
+        Ok(self.figure()? as u16)
+    }
+
     /// A mask, which stands in the figure as its word.
     pub fn mask(self) -> Result<Mask, Refused> {
         Ok(Mask(self.figure()? as u32))
@@ -213,6 +218,7 @@ unsafe extern "C" {
     pub safe fn attachment_h_multiplier(n3: u32, n2: u32) -> Answer;
     pub safe fn attachment_h_fuel_penalty(e: i64, t: u64, m: u8) -> Answer;
     pub safe fn attachment_h_fuel_day_counts(d: u32, e: u32) -> Answer;
+    pub safe fn attachment_h_period_of(day: u32) -> Answer;
     pub safe fn attachment_h_period_counts(k: u8, own: u16, period: u16) -> Answer;
     pub safe fn attachment_h_mitigated_span(hits: u32, run: u32) -> Answer;
     pub safe fn attachment_h_bid_in_force(

@@ -29,7 +29,7 @@ use std::fmt;
 pub use calls::{
     BidHour, Times, bid_fails, bid_in_force, corrected_bid_in_force, dispatch_fails,
     dispatch_penalty, fuel_day_counts, fuel_penalty, line, make_up, mitigated_span, multiplier,
-    period_counts, times_fail, withheld_fails, withheld_penalty,
+    period_counts, period_of, times_fail, withheld_fails, withheld_penalty,
 };
 use layout::{ROW_BYTES, Section};
 pub use money::{
@@ -40,7 +40,7 @@ pub use numbers::{Cents, Component, Kind, Market, Mask, Multiplier};
 pub use row::Row;
 pub use working::{Comparison, Working, working};
 
-/// A refusal with its number: 1 to 15 and 17 for a case, 7 or 10 for a smaller call, 16 for [`line()`]. A working has
+/// A refusal with its number: 1 to 15 and 17 to 19 for a case, 7 or 10 for a smaller call, 16 for [`line()`]. A working has
 /// 10 also for an event or hour that the case lacks, [`instances_into`] 15 for an `out` that is too short.
 #[derive(Clone, Copy, Debug, PartialEq, Eq, PartialOrd, Ord, Hash)]
 pub struct Refused(
@@ -85,13 +85,16 @@ impl Refused {
             17 => {
                 "a version 2 unit, reference or event has an old unit field that is not 0, or a unit number above 999,999"
             }
+            18 => "a past entry or an event has a day of 36,525 or later",
+            19 => "the capability period of a past entry or an event is not its day's",
             _ => "no limit has this number",
         }
     }
 }
 
 /// Checks a case of either version with its correction (empty for none, else of the case's reference width) and the
-/// length of its rows buffer; refuses with the number of the first limit that it breaks: 17 is checked after 5.
+/// length of its rows buffer; refuses with the number of the first limit that it breaks: 17 is
+/// checked after 5, 18 and 19 after 10.
 pub fn check(file: &[u8], correction: &[u8], rows_length: usize) -> Result<(), Refused> {
     ffi::check(file, correction, rows_length)
 }

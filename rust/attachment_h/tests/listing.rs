@@ -18,7 +18,7 @@ fn shipped(version: Version, numbers: [u32; 2]) -> Vec<u8> {
     let case = Case {
         version,
         units: vec![unit(first, 5_000), unit(second, 15_000)],
-        events: vec![event.in_period(44)],
+        events: vec![event],
         ..Case::default()
     };
     case.to_bytes()

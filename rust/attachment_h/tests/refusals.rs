@@ -84,7 +84,7 @@ fn accepted_cases() {
 
 #[test]
 fn single_faults() {
-    for (version, numbers) in [(Version::One, 15), (Version::Two, 16)] {
+    for (version, numbers) in [(Version::One, 17), (Version::Two, 18)] {
         let mut random = Random::new(102);
         let mut count = Count::default();
         let mut by_number: BTreeMap<u8, usize> = BTreeMap::new();
@@ -127,14 +127,17 @@ fn pairs_of_faults_give_the_number_that_is_checked_first() {
         assert_eq!(pairs.len(), pairs_in(version).len());
         assert!(*fewest > 0);
     }
-    // 17 stands between 5 and 6.
-    let before_17 = |&number: &u8| pairs_in(Version::Two).contains(&(number, 17));
-    assert_eq!(
-        (1..=15).filter(before_17).collect::<Vec<u8>>(),
-        [1, 2, 3, 4, 5]
-    );
-    assert_eq!(pairs_in(Version::Two).len(), 120);
-    assert_eq!(pairs_in(Version::One).len(), 105);
+    // 17 stands between 5 and 6, 18 and 19 between 10 and 11.
+    let before = |later: u8| -> Vec<u8> {
+        let is_before = |&number: &u8| pairs_in(Version::Two).contains(&(number, later));
+        (1..=19).filter(is_before).collect()
+    };
+    assert_eq!(before(17), [1, 2, 3, 4, 5]);
+    assert_eq!(before(18), [1, 2, 3, 4, 5, 6, 7, 8, 9, 10, 17]);
+    assert_eq!(before(19), [1, 2, 3, 4, 5, 6, 7, 8, 9, 10, 17, 18]);
+    assert_eq!(before(11), [1, 2, 3, 4, 5, 6, 7, 8, 9, 10, 17, 18, 19]);
+    assert_eq!(pairs_in(Version::Two).len(), 153);
+    assert_eq!(pairs_in(Version::One).len(), 136);
 }
 
 /// Every two faults of these numbers, put in from the one that is checked last, since the other may break the layout.
@@ -163,7 +166,7 @@ fn random_and_cut_bytes() {
     for version in Version::ALL {
         let mut random = Random::new(104);
         let mut count = Count::default();
-        let mut by_number = [0; 18];
+        let mut by_number = [0; 20];
         let mut add = |input: &Input, what: &str| {
             by_number[usize::from(count.number(input, what))] += 1;
         };
@@ -190,6 +193,7 @@ fn random_and_cut_bytes() {
         }
         println!("{version:?}: {count:?}, random, cut and changed: {by_number:?}");
         assert_eq!(by_number[17] > 0, version == Version::Two);
+        assert!(by_number[18] > 0 && by_number[19] > 0);
     }
 }
 
@@ -216,7 +220,7 @@ fn the_number_of_the_other_version() {
     let mut random = Random::new(105);
     for (version, other) in [(Version::One, Version::Two), (Version::Two, Version::One)] {
         let mut count = Count::default();
-        let mut by_number = [0; 18];
+        let mut by_number = [0; 20];
         for place in 0..1_000 {
             let what = format!("{version:?} as {other:?}, case {place}");
             let mut input = any_case_in(version, &mut random).input();
@@ -236,19 +240,19 @@ fn the_number_of_the_other_version() {
 
 #[test]
 fn every_number_has_a_meaning() {
-    let meanings: Vec<&str> = (1..=17).map(|number| Refused(number).meaning()).collect();
+    let meanings: Vec<&str> = (1..=19).map(|number| Refused(number).meaning()).collect();
     for (place, text) in meanings.iter().enumerate() {
         assert!(!meanings[..place].contains(text));
-        assert_ne!(*text, Refused(18).meaning());
+        assert_ne!(*text, Refused(20).meaning());
     }
-    assert_eq!(Refused(18).meaning(), "no limit has this number");
+    assert_eq!(Refused(20).meaning(), "no limit has this number");
 }
 
 #[test]
 fn python_has_the_same_meanings() {
     let module = concat!(env!("CARGO_MANIFEST_DIR"), "/../../python/attachment_h.py");
     let module = std::fs::read_to_string(module).expect("the module");
-    for number in 1..=17 {
+    for number in 1..=19 {
         let words = format!("{number}: \"{}\"", Refused(number).meaning());
         assert_eq!(module.matches(&words).count(), 1, "{words}");
     }

@@ -19,7 +19,7 @@ use std::slice;
 use attachment_h::check;
 use cases::growth::{CASES, SEED, STEPS, full_cases_in, with_events};
 use cases::{Case, Generated, Input, Version};
-use times::{Calls, Times, proved};
+use times::{Calls, Times, assert_alike, proved};
 
 const ROUNDS: usize = 400;
 
@@ -68,7 +68,7 @@ fn print_tables(version: Version, rounds: usize) {
     let [fewest, .., most] = &steps;
     most.print("in turn");
     println!();
-    println!("the same cases in turn with so many of their events, evenly spread over them");
+    println!("the same cases in turn with so many of their events, evenly spread over each kind's");
     Times::print_head();
     for (events, times) in STEPS.iter().zip(&steps) {
         times.print(&format!("in turn, {events}"));
@@ -97,10 +97,10 @@ fn timed(version: Version) -> Vec<(String, Vec<Generated>)> {
     shapes.chain(steps).collect()
 }
 
-/// The times of a version 2 case and of the same case in version 1.
-fn pair(rounds: usize, cases: &[Generated]) -> [Calls; 2] {
+/// Cases of version 2 and the same cases in version 1.
+fn pair(cases: &[Generated]) -> [Vec<Input>; 2] {
     let through: Vec<Generated> = cases.iter().map(Generated::numbered_through).collect();
-    [cases, &through].map(|cases| proved(rounds, &inputs(cases)))
+    [cases, &through].map(inputs)
 }
 
 /// Cases of version 2 beside the same cases in version 1.
@@ -115,7 +115,10 @@ fn print_pairs(rounds: usize) {
         "case", "check", "of 1", "ratio", "settle", "of 1", "ratio"
     );
     for (name, cases) in timed(Version::Two) {
-        let [two, one] = pair(rounds, &cases);
+        let [two, one] = pair(&cases).map(|inputs| {
+            assert_alike(&inputs);
+            proved(rounds, &inputs)
+        });
         println!(
             "{name:>12} {:>7.2} {:>7.2} {:>6.3} {:>8.2} {:>8.2} {:>6.3}",
             two.check,
@@ -128,6 +131,7 @@ fn print_pairs(rounds: usize) {
     }
 }
 
+/// The times of an archive that may go by other rules than the second implementation.
 fn print_proved(rounds: usize) {
     for (name, cases) in timed(Version::One) {
         let Calls { check, settle } = proved(rounds, &inputs(&cases));
@@ -137,7 +141,7 @@ fn print_proved(rounds: usize) {
         return;
     }
     for (name, cases) in timed(Version::Two) {
-        let [two, one] = pair(rounds, &cases);
+        let [two, one] = pair(&cases).map(|inputs| proved(rounds, &inputs));
         println!(
             "{name}\t{:.4}\t{:.4}\t{:.4}\t{:.4}",
             two.check, two.settle, one.check, one.settle

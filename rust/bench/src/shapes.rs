@@ -8,6 +8,9 @@ use cases::{Case, Component, Event, Generated, Kind, Market, Past, Reference, Un
 /// How many of the generated cases are timed alone.
 const ALONE: usize = 5;
 
+/// The day of a shape's first events, 26 November 2021: its last ones are in the same capability period.
+const FIRST_DAY: u32 = 8_000;
+
 /// Every single case of a version with its name, the generated ones from `full`.
 pub fn all(version: Version, full: &[Generated]) -> Vec<(String, Generated)> {
     let mut shapes: Vec<_> = full[..ALONE]
@@ -57,7 +60,7 @@ fn worked_example(version: Version) -> Generated {
         version,
         units: vec![unit(12, 5_000), unit(13, 15_000)],
         events: vec![Event::withheld(
-            8_000,
+            FIRST_DAY,
             Market::DAY_AHEAD,
             number(version, 12),
             &cells,
@@ -114,7 +117,7 @@ fn one_kind(version: Version, kind: u8, count: u32) -> Generated {
         events: (0..count)
             .map(|i| {
                 let (day, unit, component) = place(i);
-                event(kind, day, number(version, unit), component)
+                event(kind, FIRST_DAY + day, number(version, unit), component)
             })
             .collect(),
     });
@@ -132,7 +135,8 @@ fn mixed(version: Version) -> Generated {
     };
     let of = |i: u32| {
         let unit = number(version, i % units);
-        event((i % 4 + 1) as u8, i / units, unit, (i % 9) as u8)
+        let day = FIRST_DAY + i / units;
+        event((i % 4 + 1) as u8, day, unit, (i % 9) as u8)
     };
     without_correction(Case {
         version,
@@ -157,14 +161,7 @@ fn units_of(version: Version, count: u32, groups: u32) -> Vec<Unit> {
 
 /// Withheld past entries of the first group.
 fn past_of(count: usize) -> Vec<Past> {
-    let entry = Past {
-        group: 0,
-        kind: Kind::WITHHELD,
-        market: Market::DAY_AHEAD,
-        period: 0,
-        day: 0,
-    };
-    vec![entry; count]
+    vec![Past::of_day(0, Kind::WITHHELD, Market::DAY_AHEAD, FIRST_DAY); count]
 }
 
 fn reference(version: Version, place: u32, component: u8) -> Reference {
@@ -196,7 +193,7 @@ fn bids_of_the_last_unit(version: Version) -> Generated {
         before.into_iter().chain(of_the_last).collect()
     };
     let bids = |place: u32| {
-        let (day, component) = (place / 9, (place % 9) as u8);
+        let (day, component) = (FIRST_DAY + place / 9, (place % 9) as u8);
         let unit = number(version, last);
         Event::bids(day, Market::DAY_AHEAD, unit, component, 1_000, &[])
     };

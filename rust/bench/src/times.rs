@@ -30,6 +30,7 @@ impl Times {
     pub fn of(rounds: usize, inputs: &[Input]) -> Times {
         let bytes = inputs[0].file.len();
         assert!(inputs.iter().all(|input| input.file.len() == bytes));
+        assert_alike(inputs);
         Times {
             bytes,
             copy: copy(rounds, inputs),
@@ -79,9 +80,8 @@ impl Times {
     }
 }
 
-/// The times of the proved calls, which settle the cases as the second implementation does.
+/// The times of the proved calls on accepted cases.
 pub fn proved(rounds: usize, inputs: &[Input]) -> Calls {
-    inputs.iter().for_each(assert_alike);
     let turns = turns(inputs);
     let mut rows = rows_of(inputs);
     Calls {
@@ -127,20 +127,22 @@ fn turns(inputs: &[Input]) -> usize {
     (LARGEST_FILE / bytes).max(1)
 }
 
-/// Both accept the case and settle it alike.
-fn assert_alike(input: &Input) {
-    let (mut rows, mut second_rows) = (vec![0; input.rows_len], vec![0; input.rows_len]);
-    let outcome = attachment_h::settle(&input.file, &input.correction, &mut rows);
-    let settled = outcome.expect("the case is accepted");
-    assert_eq!(
-        second::settle(&input.file, &input.correction, &mut second_rows),
-        Outcome::Settled {
-            rows: settled.rows,
-            penalties: settled.penalties.0,
-            make_ups: settled.make_ups.0,
-        }
-    );
-    assert_eq!(rows, second_rows);
+/// The archive and the second implementation accept the cases and settle them alike.
+pub fn assert_alike(inputs: &[Input]) {
+    for input in inputs {
+        let (mut rows, mut second_rows) = (vec![0; input.rows_len], vec![0; input.rows_len]);
+        let outcome = attachment_h::settle(&input.file, &input.correction, &mut rows);
+        let settled = outcome.expect("the case is accepted");
+        assert_eq!(
+            second::settle(&input.file, &input.correction, &mut second_rows),
+            Outcome::Settled {
+                rows: settled.rows,
+                penalties: settled.penalties.0,
+                make_ups: settled.make_ups.0,
+            }
+        );
+        assert_eq!(rows, second_rows);
+    }
 }
 
 /// A rows buffer that is long enough for every case.

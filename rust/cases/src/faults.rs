@@ -1,8 +1,9 @@
-//! Faults of every number of a case, 1 to 15 and 17, as functions on the bytes of a good case.
+//! Faults of every number of a case, 1 to 15 and 17 to 19, as functions on the bytes of a good case.
 //!
 //! Two faults are put into one case from the one that is checked last to the one that is checked first: the first ones
 //! break the layout that the others need to find their place. The case is then refused with the first.
 
+mod calendar;
 mod events;
 mod layout;
 mod places;
@@ -14,6 +15,7 @@ use attachment_h::layout::Version;
 use crate::case::Input;
 use crate::generator::{Wanted, case};
 use crate::random::Random;
+use calendar::FAULTS_OF_THE_CALENDAR;
 use events::FAULTS_OF_EVENTS;
 use layout::FAULTS_OF_THE_LAYOUT;
 use records::FAULTS_OF_RECORDS;
@@ -52,7 +54,9 @@ const fn fault(
 }
 
 /// The numbers of a case in the order in which they are checked.
-pub const CHECKED: [u8; 16] = [1, 2, 3, 4, 5, 17, 6, 7, 8, 9, 10, 11, 12, 13, 14, 15];
+pub const CHECKED: [u8; 18] = [
+    1, 2, 3, 4, 5, 17, 6, 7, 8, 9, 10, 18, 19, 11, 12, 13, 14, 15,
+];
 
 /// The numbers that a case of this version can be refused with, in the order in which they are checked.
 pub fn numbers_in(version: Version) -> impl DoubleEndedIterator<Item = u8> + Clone {
@@ -76,7 +80,12 @@ pub fn pairs_in(version: Version) -> Vec<(u8, u8)> {
 
 /// The faults that a case of this version can have.
 pub fn faults_in(version: Version) -> impl Iterator<Item = &'static Fault> {
-    let of_either = [FAULTS_OF_THE_LAYOUT, FAULTS_OF_RECORDS, FAULTS_OF_EVENTS];
+    let of_either = [
+        FAULTS_OF_THE_LAYOUT,
+        FAULTS_OF_RECORDS,
+        FAULTS_OF_EVENTS,
+        FAULTS_OF_THE_CALENDAR,
+    ];
     let more = match version {
         Version::One => &[],
         Version::Two => FAULTS_OF_VERSION_2,

@@ -1,5 +1,6 @@
 //! Random cases of either version that break nothing, with figures at and next to every threshold.
 
+mod days;
 mod figures;
 mod maker;
 mod noise;
@@ -8,6 +9,7 @@ use attachment_h::Component;
 
 use crate::case::{Case, Input, Reference, Version};
 use crate::random::Random;
+pub use days::past_day;
 use maker::Maker;
 pub use noise::{random_bytes, random_bytes_in};
 

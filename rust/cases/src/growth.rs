@@ -1,6 +1,6 @@
 //! The generated cases that the benchmark times in turn, and the same cases with fewer events.
 
-use crate::case::{Case, Version};
+use crate::case::{Case, Event, Version};
 use crate::generator::{Generated, Size, Wanted, case};
 use crate::random::Random;
 
@@ -23,17 +23,20 @@ pub fn full_cases_in(version: Version) -> Vec<Generated> {
     (0..CASES).map(|_| case(&mut random, wanted)).collect()
 }
 
-/// A case with `count` of its events, evenly spread over them; units, references, past entries and the
-/// correction stay.
+/// A case with `count` of its events, evenly spread over those of each kind, so that none is left without; units,
+/// references, past entries and the correction stay.
 pub fn with_events(full: &Generated, count: usize) -> Generated {
-    let events = &full.case.events;
+    let mut by_kind = full.case.events.clone();
+    by_kind.sort_by_key(Event::kind);
+    let mut case = Case {
+        events: (0..count)
+            .map(|place| by_kind[place * by_kind.len() / count])
+            .collect(),
+        ..full.case.clone()
+    };
+    case.sort_events();
     Generated {
-        case: Case {
-            events: (0..count)
-                .map(|place| events[place * events.len() / count])
-                .collect(),
-            ..full.case.clone()
-        },
+        case,
         correction: full.correction.clone(),
     }
 }

@@ -1,5 +1,6 @@
 //! Cases for tests and benchmarks of the Attachment H settlement.
 //!
+//! - [`calendar`]: days, windows and capability periods.
 //! - [`case`]: a case as typed records, and its bytes in either version of the case file.
 //! - [`generator`]: random cases that break nothing, and random bytes.
 //! - [`growth`]: the cases that the benchmark times in turn, by their number of events.
@@ -7,6 +8,7 @@
 //! - [`worse`]: the worsening changes of demand 3, as functions on bytes.
 //! - [`random`]: the seeded sequence behind them.
 
+pub mod calendar;
 pub mod case;
 pub mod faults;
 pub mod generator;

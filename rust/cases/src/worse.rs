@@ -6,7 +6,7 @@ use crate::case::{
     CELL_BYTES, EVENT_HEAD_BYTES, LARGEST_FILE, PAST_BYTES, Past, Section, put_u32, section_place,
     u16_at, u32_at, version_of,
 };
-use crate::generator::bid_limits;
+use crate::generator::{bid_limits, past_day};
 use crate::random::Random;
 
 /// One change of demand 3.
@@ -175,15 +175,11 @@ fn random_entry(file: &[u8], random: &mut Random) -> Option<Change> {
     if (entries >= 256 || file.len() + PAST_BYTES > LARGEST_FILE) && !random.chance(1, 20) {
         return None;
     }
-    let (day, period, market) = if events == 0 {
-        (0, 0, 0)
+    let (day, market) = if events == 0 {
+        (0, 0)
     } else {
         let record = event_offset(random.below(events));
-        (
-            i64::from(u32_at(file, record + 8)),
-            i64::from(u16_at(file, record + 4)),
-            file[record + 1],
-        )
+        (u32_at(file, record + 8), file[record + 1])
     };
     let group = if units == 0 || random.chance(1, 20) {
         random.between(0, 65_535) as u16
@@ -195,17 +191,12 @@ fn random_entry(file: &[u8], random: &mut Random) -> Option<Change> {
     } else {
         random.pick(&[Kind::WITHHELD, Kind::FUEL])
     };
-    let entry = Past {
-        group,
-        kind,
-        market: Market(if random.chance(1, 3) {
-            1 - market.min(1)
-        } else {
-            market
-        }),
-        period: (period - random.between(-1, 3)).clamp(0, 65_535) as u16,
-        day: (day - random.pick(&[-1, 0, 1, 90, 182, 183, 184])).clamp(0, 1_000_000) as u32,
-    };
+    let market = Market(if random.chance(1, 3) {
+        1 - market.min(1)
+    } else {
+        market
+    });
+    let entry = Past::of_day(group, kind, market, past_day(random, day));
     Some(Change::PastEntry {
         place: random.below(entries + 1),
         entry,

@@ -38,14 +38,14 @@ fn full_cases_have_200_events_in_65000_bytes() {
 
 #[test]
 fn random_bytes_are_refused_or_settled() {
-    random_bytes_of(Version::One, &[0, 1, 2, 4, 6, 8, 10]);
-    random_bytes_of(Version::Two, &[0, 1, 2, 4, 6, 8, 10, 17]);
+    random_bytes_of(Version::One, &[0, 1, 2, 4, 6, 8, 10, 18, 19]);
+    random_bytes_of(Version::Two, &[0, 1, 2, 4, 6, 8, 10, 17, 18, 19]);
 }
 
 /// Random bytes of a version, which have all these numbers.
 fn random_bytes_of(version: Version, reached: &[usize]) {
     let mut random = Random::new(3);
-    let (mut numbers, mut copies) = ([0; 18], 0);
+    let (mut numbers, mut copies) = ([0; 20], 0);
     for _ in 0..6_000 {
         let input = random_bytes_in(version, &mut random);
         let number = refused_or_settled(&input);

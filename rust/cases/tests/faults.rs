@@ -56,7 +56,7 @@ fn each_fault_gives_its_number() {
 
 #[test]
 fn each_pair_of_faults_gives_the_one_checked_first() {
-    for (version, expected) in [(Version::One, 105), (Version::Two, 120)] {
+    for (version, expected) in [(Version::One, 136), (Version::Two, 153)] {
         let mut random = Random::new(5);
         let mut pairs: BTreeMap<(u8, u8), usize> = BTreeMap::new();
         for _ in 0..12 {

@@ -1,6 +1,7 @@
 //! Demand 3 on the second implementation, in both versions: worse conduct never lowers a flag, a
 //! multiplier, a penalty or the total of penalties.
 
+use cases::calendar::{FIRST_DAY_BEYOND, period_of, window_start};
 use cases::case::{ROW_BYTES, section_place, u32_at};
 use cases::generator::case;
 use cases::worse::{Change, apply, apply_all, is_worse, random_changes};
@@ -162,13 +163,7 @@ fn the_premise_is_needed() {
     );
     let change = Change::PastEntry {
         place: 0,
-        entry: Past {
-            group: 7,
-            kind: Kind::FUEL,
-            market: Market::REAL_TIME,
-            period: 0,
-            day: 7_999,
-        },
+        entry: Past::of_day(7, Kind::FUEL, Market::REAL_TIME, 7_999),
     };
     for version in Version::ALL {
         let file = with_event(event).in_version(version).to_bytes();
@@ -238,13 +233,7 @@ fn a_past_entry_moves_the_events() {
 /// A past entry at every place of a case, and past the end.
 fn add_past_entries(case: &Case) {
     let file = case.to_bytes();
-    let entry = Past {
-        group: 3,
-        kind: Kind::WITHHELD,
-        market: Market::DAY_AHEAD,
-        period: 9,
-        day: 77,
-    };
+    let entry = Past::of_day(3, Kind::WITHHELD, Market::DAY_AHEAD, 1_977);
     for place in 0..=case.past.len() {
         let mut expected = case.clone();
         expected.past.insert(place, entry);
@@ -255,6 +244,33 @@ fn add_past_entries(case: &Case) {
     }
     let place = case.past.len() + 1;
     assert_eq!(apply(&file, &Change::PastEntry { place, entry }), None);
+}
+
+#[test]
+fn past_entries_have_their_days_period_and_stand_at_the_edges_of_windows() {
+    let mut random = Random::new(25);
+    let (mut entries, mut first_days, mut days_before) = (0, 0, 0);
+    for _ in 0..400 {
+        let generated = case(&mut random, Wanted::every_kind());
+        let fuel = generated.case.events.iter();
+        let fuel = fuel.filter(|event| event.kind() == Kind::FUEL);
+        let firsts: Vec<u32> = fuel.map(|event| window_start(event.day)).collect();
+        let (list, _) = random_changes(&generated.input().file, 40, &mut random);
+        for change in list {
+            let Change::PastEntry { entry, .. } = change else {
+                continue;
+            };
+            assert!(entry.day < FIRST_DAY_BEYOND);
+            assert_eq!(entry.period, period_of(entry.day));
+            entries += 1;
+            if entry.kind == Kind::FUEL {
+                first_days += usize::from(firsts.contains(&entry.day));
+                days_before += usize::from(firsts.contains(&(entry.day + 1)));
+            }
+        }
+    }
+    println!("{entries} entries, {first_days} on first days, {days_before} on days before");
+    assert!(entries > 1_000 && first_days > 100 && days_before > 50);
 }
 
 /// A withheld event with this a in hour 3.

@@ -258,11 +258,11 @@ fn number_9() {
             "past, record 1 (group 7, fuel, Day-Ahead): spare-7 is 1; expected 0",
         ),
         (
-            "kind fuel market day-ahead period 5476 day 1000001",
+            "kind fuel market day-ahead period 0 day 1000001",
             "past, record 1 (group 7, fuel, Day-Ahead): day is 1,000,001; expected 0 to 1,000,000",
         ),
     ] {
-        let good = "past group 7 kind fuel market day-ahead period 5476 day 1000000";
+        let good = "past group 7 kind fuel market day-ahead period 200 day 36524";
         refused(9, &format!("{good}\npast group 7 {text}"), place);
     }
 }

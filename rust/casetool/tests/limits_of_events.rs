@@ -70,7 +70,7 @@ fn number_10_before_the_hours() {
     }
     refused(
         10,
-        "event day 1000001 kind withheld market day-ahead unit 12 period 5476 impact 0",
+        "event day 1000001 kind withheld market day-ahead unit 12 period 0 impact 0",
         "event 0 (day 1000001, withheld, Day-Ahead, unit 12): day is 1,000,001; expected 0 to 1,000,000",
     );
 }

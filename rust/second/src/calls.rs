@@ -4,10 +4,11 @@
 //! Every call but [`line()`] first returns 7 for a reference out of its component's range (skipped
 //! where no such component exists) and then 10 for any other argument out of its range.
 
+use crate::calendar::{self, CALENDAR_DAYS};
 use crate::rules::{self, BidConditions};
 use crate::terms::{
     Component, HourMask, LARGEST_CAPABILITY, LARGEST_PRICE, LARGEST_QUANTITY, LARGEST_RATE,
-    LARGEST_REVENUE, LAST_DAY, MOST_CONSTRAINED_HOURS, Market,
+    LARGEST_REVENUE, MOST_CONSTRAINED_HOURS, Market,
 };
 
 /// "S and G to 3,200,000": 64 units of the largest capability.
@@ -197,13 +198,18 @@ pub fn fuel_penalty(e: i64, t: u64, m: u8) -> Result<u64, u8> {
     Ok(rules::fuel_penalty(e, t as i64, m) as u64)
 }
 
-/// Whether a fuel penalty or kind 3 past entry on `earlier` raises M on `day`: 1 to 183 days
-/// before.
+/// Whether a fuel penalty or kind 3 past entry on `earlier` raises M on `day`: in the six months
+/// before. Both days are below 36,525.
 pub fn fuel_day_window(day: u32, earlier: u32) -> Result<bool, u8> {
-    within(day <= LAST_DAY)?;
-    within(earlier <= LAST_DAY)?;
-    let days_before = i64::from(day) - i64::from(earlier);
-    Ok((1..=183).contains(&days_before))
+    within(day < CALENDAR_DAYS)?;
+    within(earlier < CALENDAR_DAYS)?;
+    Ok(calendar::fuel_window(day).contains(&earlier))
+}
+
+/// The capability period of a day below 36,525: 0 is the Winter that ends on 30 April 2000.
+pub fn period_of(day: u32) -> Result<u16, u8> {
+    within(day < CALENDAR_DAYS)?;
+    Ok(calendar::period_of(day))
 }
 
 /// Which of the counts an instance or past entry of capability period `other` enters.

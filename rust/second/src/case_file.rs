@@ -1,7 +1,8 @@
-//! Reading a case file and a correction into records, with the refusals 1 to 15 and 17.
+//! Reading a case file and a correction into records, with the refusals 1 to 15 and 17 to 19.
 
 use std::collections::BTreeMap;
 
+use crate::calendar::{CALENDAR_DAYS, period_of};
 use crate::event_record::read_event;
 use crate::layout::{Record, correction_records, records, u16_at, u32_at};
 use crate::terms::{
@@ -25,14 +26,21 @@ pub struct Unit {
 
 /// A violation outside this file.
 #[derive(Clone, Copy, Debug)]
-pub enum Past {
-    Withheld {
-        group: u16,
-        market: Market,
-        period: u16,
-    },
-    /// The market of a fuel violation is of no account: "either market".
-    Fuel { group: u16, day: u32 },
+pub struct Past {
+    pub violation: Violation,
+    pub group: u16,
+    pub market: Market,
+    pub period: u16,
+    pub day: u32,
+}
+
+/// What a past entry was a violation by.
+#[derive(Clone, Copy, Debug, PartialEq, Eq)]
+pub enum Violation {
+    /// Its market and period are of account.
+    Withheld,
+    /// Its day is of account, and not its market: "either market".
+    Fuel,
 }
 
 /// One hour of a withheld event.
@@ -150,7 +158,7 @@ pub struct Case {
 }
 
 /// Reads a case, or gives the number of the first thing that it breaks: "Checked in number order,
-/// each over everything before the next", but for 17, "checked after 5".
+/// each over everything before the next", but for 17, "checked after 5", and 18 and 19, "both checked after 10".
 pub fn read_case(file: &[u8], correction: &[u8], rows_bytes: usize) -> Result<Case, u8> {
     // 1 to 5, then 17
     let records = records(file)?;
@@ -165,7 +173,7 @@ pub fn read_case(file: &[u8], correction: &[u8], rows_bytes: usize) -> Result<Ca
     };
     let past: Option<_> = records.past.into_iter().map(read_past).collect();
     let past = past.ok_or(9)?;
-    // 10 to 14
+    // 10
     let events: Option<_> = records.events.into_iter().map(read_event).collect();
     let events = events.ok_or(10)?;
     let case = Case {
@@ -175,12 +183,28 @@ pub fn read_case(file: &[u8], correction: &[u8], rows_bytes: usize) -> Result<Ca
         past,
         events,
     };
+    // 18 and 19, then 11 to 14
+    check_days(&case)?;
     check_events(&case)?;
     // 15
     if rows_bytes < ROW_BYTES * case.events.len() {
         return Err(15);
     }
     Ok(case)
+}
+
+/// The refusals of days and periods: 18 of every past entry and event before 19 of any.
+fn check_days(case: &Case) -> Result<(), u8> {
+    let past = case.past.iter().map(|entry| (entry.day, entry.period));
+    let events = case.events.iter().map(|event| (event.day, event.period));
+    let mut dated = past.chain(events);
+    if dated.clone().any(|(day, _)| day >= CALENDAR_DAYS) {
+        return Err(18);
+    }
+    if dated.any(|(day, period)| period != period_of(day)) {
+        return Err(19);
+    }
+    Ok(())
 }
 
 /// The refusals of events beside each other and beside their units and references.
@@ -271,22 +295,21 @@ fn read_references(records: &[Record], units: &BTreeMap<u32, Unit>) -> Option<Re
 }
 
 fn read_past(record: &[u8]) -> Option<Past> {
-    let group = u16_at(record, 0);
-    let market = Market::from_number(record[3])?;
-    let period = u16_at(record, 4);
     let day = u32_at(record, 8);
     if record[6..8] != [0, 0] || day > LAST_DAY {
         return None;
     }
-    match record[2] {
-        1 => Some(Past::Withheld {
-            group,
-            market,
-            period,
-        }),
-        3 => Some(Past::Fuel { group, day }),
-        _ => None,
-    }
+    Some(Past {
+        violation: match record[2] {
+            1 => Violation::Withheld,
+            3 => Violation::Fuel,
+            _ => return None,
+        },
+        group: u16_at(record, 0),
+        market: Market::from_number(record[3])?,
+        period: u16_at(record, 4),
+        day,
+    })
 }
 
 /// "kind 1 or 2, a above capability".

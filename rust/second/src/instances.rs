@@ -1,6 +1,6 @@
 //! What N3 and N2 of an event count, record by record.
 
-use crate::case_file::{Case, Conduct, Past};
+use crate::case_file::{Case, Conduct, Violation};
 use crate::settlement::{Row, unit_of};
 use crate::terms::Market;
 
@@ -87,13 +87,9 @@ fn counted(case: &Case, rows: &[Row], event: usize, back: i32) -> Counted {
         is_instance(case, rows, earlier)
             && counts(unit_of(case, earlier).group, other.market, other.period)
     };
-    let past_counts = |&entry: &usize| match case.past[entry] {
-        Past::Withheld {
-            group,
-            market,
-            period,
-        } => counts(group, market, period),
-        Past::Fuel { .. } => false,
+    let past_counts = |&entry: &usize| {
+        let past = case.past[entry];
+        past.violation == Violation::Withheld && counts(past.group, past.market, past.period)
     };
     Counted {
         events: (0..event).filter(earlier_counts).collect(),

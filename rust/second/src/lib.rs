@@ -10,6 +10,7 @@
 //! - [`penalty_working()`], [`instances()`] and [`make_up_working()`] give the terms of an event's money,
 //!   [`SettledCase`] those of all events of a case that is settled once.
 
+mod calendar;
 mod case_file;
 mod event_record;
 mod instances;
@@ -50,7 +51,7 @@ pub enum Outcome {
     },
 }
 
-/// 0, or the first number that the case breaks: 1 to 5, then 17, then 6 to 15.
+/// 0, or the first number that the case breaks: 1 to 5, then 17, 6 to 10, 18 and 19, then 11 to 15.
 pub fn refusal(file: &[u8], correction: &[u8], rows_len: usize) -> u8 {
     read_case(file, correction, rows_len).err().unwrap_or(0)
 }

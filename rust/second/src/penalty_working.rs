@@ -1,6 +1,7 @@
 //! The working of an event's penalty: the terms of its hours, and what they come to.
 
-use crate::case_file::{Case, Conduct, DispatchHour, FuelHour, Past, WithheldHour};
+use crate::calendar::fuel_window;
+use crate::case_file::{Case, Conduct, DispatchHour, FuelHour, Violation, WithheldHour};
 use crate::instances::instances;
 use crate::rules;
 use crate::settlement::{Row, unit_of};
@@ -213,18 +214,16 @@ fn lowest_unit(case: &Case, party_day: &[usize]) -> usize {
         .expect("an event is on its own party-day")
 }
 
-/// Whether the group was penalised for fuel data 1 to 183 days before, in either market: by a kind
-/// 3 past entry, or by a penalty above 0 of this file.
+/// Whether the group was penalised for fuel data in the six months before, in either market: by a
+/// kind 3 past entry, or by a penalty above 0 of this file.
 fn is_raised(case: &Case, rows: &[Row], event: usize) -> bool {
     let own_group = unit_of(case, event).group;
-    let counts = |group: u16, day: u32| {
-        let days_before = i64::from(case.events[event].day) - i64::from(day);
-        group == own_group && (1..=183).contains(&days_before)
-    };
-    let by_past = case.past.iter().any(|entry| match *entry {
-        Past::Fuel { group, day } => counts(group, day),
-        Past::Withheld { .. } => false,
-    });
+    let window = fuel_window(case.events[event].day);
+    let counts = |group: u16, day: u32| group == own_group && window.contains(&day);
+    let by_past = case
+        .past
+        .iter()
+        .any(|entry| entry.violation == Violation::Fuel && counts(entry.group, entry.day));
     let by_file = (0..rows.len()).any(|place| {
         let penalised = FuelEvent::of(case, place).is_some() && rows[place].penalty > 0;
         penalised && counts(unit_of(case, place).group, case.events[place].day)

@@ -2,7 +2,10 @@
 
 use std::collections::{BTreeMap, BTreeSet, HashMap};
 
-use crate::case_file::{BidHour, Case, Conduct, DispatchHour, Past, ROW_BYTES, Unit, WithheldHour};
+use crate::calendar::fuel_window;
+use crate::case_file::{
+    BidHour, Case, Conduct, DispatchHour, ROW_BYTES, Unit, Violation, WithheldHour,
+};
 use crate::rules::{self, BidConditions};
 use crate::terms::{Component, HOURS, HourMask, Market};
 
@@ -154,14 +157,9 @@ fn settle_withheld(case: &Case, rows: &mut [Row]) {
     // order, so only the earlier ones are counted when one is settled.
     let mut violations: HashMap<(u16, Market), BTreeMap<u16, u16>> = HashMap::new();
     for past in &case.past {
-        if let Past::Withheld {
-            group,
-            market,
-            period,
-        } = *past
-        {
-            let periods = violations.entry((group, market)).or_default();
-            *periods.entry(period).or_default() += 1;
+        if past.violation == Violation::Withheld {
+            let periods = violations.entry((past.group, past.market)).or_default();
+            *periods.entry(past.period).or_default() += 1;
         }
     }
     for event in instances {
@@ -274,18 +272,15 @@ fn settle_fuel(case: &Case, rows: &mut [Row]) {
     // Days of fuel penalties above 0 and of kind 3 past entries, by group.
     let mut penalty_days: HashMap<u16, BTreeSet<u32>> = HashMap::new();
     for past in &case.past {
-        if let Past::Fuel { group, day } = *past {
-            penalty_days.entry(group).or_default().insert(day);
+        if past.violation == Violation::Fuel {
+            penalty_days.entry(past.group).or_default().insert(past.day);
         }
     }
     // The party-days come by rising day, so every penalty of an earlier day is known.
     for (party_day, events) in party_days(case, 3) {
         let (union, e, t) = fuel_sums(case, &events);
         let days = penalty_days.entry(party_day.group).or_default();
-        let raised = days
-            .range(party_day.day.saturating_sub(183)..party_day.day)
-            .next()
-            .is_some();
+        let raised = days.range(fuel_window(party_day.day)).next().is_some();
         let m = if raised { 3 } else { 2 };
         let penalty = rules::fuel_penalty(e, t, m);
         if penalty > 0 {

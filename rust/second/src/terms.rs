@@ -5,7 +5,7 @@ use std::ops::RangeInclusive;
 /// Hours in a day; an event has one cell for each.
 pub const HOURS: usize = 24;
 
-/// The latest day that a record may carry; day 0 is 1 January 2000.
+/// The latest day that 9 and 10 let pass; day 0 is 1 January 2000.
 pub const LAST_DAY: u32 = 1_000_000;
 
 /// The largest capability of a unit, in tenths of MW.

@@ -1,6 +1,7 @@
 //! The smaller calls: the pencil sheet, then each against the second implementation's rule, at the
 //! edges of every range and threshold and at random.
 
+mod calendar;
 mod conduct;
 mod default_bids;
 mod penalties;

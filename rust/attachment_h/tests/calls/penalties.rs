@@ -1,4 +1,4 @@
-//! The calls of multipliers, penalties and windows (docs/RULES.md, C8 to C13).
+//! The calls of multipliers and penalties (docs/RULES.md, C8 to C11).
 
 use attachment_h::{self as proved, Cents, Multiplier, Refused};
 use cases::Random;
@@ -179,41 +179,4 @@ fn fuel_penalty() {
         );
     }
     answers.done("fuel_penalty", false);
-}
-
-#[test]
-fn fuel_days_and_periods() {
-    let mut random = Random::new(207);
-    let (mut days, mut periods) = (Answers::default(), Answers::default());
-    for _ in 0..100_000 {
-        let day = word(&mut random, &[0, 183, 184, 8_000, 999_999, 1_000_000]);
-        let earlier = match random.below(3) {
-            0 => word(&mut random, &[0, 183, 184, 8_000, 999_999, 1_000_000]),
-            _ => day.wrapping_sub(random.between(-2, 186) as u32),
-        };
-        days.same(
-            proved::fuel_day_counts(day, earlier),
-            answer(calls::fuel_day_window(day, earlier)),
-            || format!("day {day}, earlier {earlier}"),
-        );
-    }
-    for own in [0, 1, 2, 3, 44, 256, 65_534, 65_535] {
-        for period in 0..=65_535 {
-            let window = calls::capability_period_window(own, period);
-            for (back, expected) in [
-                (2, answer(window.map(|window| window.n3))),
-                (1, answer(window.map(|window| window.n2))),
-            ] {
-                periods.same(proved::period_counts(back, own, period), expected, || {
-                    format!("{back} back from {own}: {period}")
-                });
-            }
-        }
-    }
-    for back in (0..=255).filter(|back| !matches!(back, 1 | 2)) {
-        let refused = proved::period_counts(back, 44, 44);
-        periods.same(refused, Err(Refused(10)), || format!("{back} back"));
-    }
-    days.done("fuel_day_counts", false);
-    periods.done("period_counts", false);
 }

@@ -8,6 +8,7 @@ fn pencil_sheet() {
     energy_bids();
     times_and_maximum();
     fuel();
+    windows_and_periods();
     default_bids();
 }
 
@@ -106,8 +107,29 @@ fn fuel() {
         proved::fuel_penalty(-10_000_000, 2_000_000, Multiplier(3)),
         Ok(Cents(500_000))
     );
-    for (before, counts) in [(0, false), (1, true), (183, true), (184, false)] {
-        assert_eq!(proved::fuel_day_counts(8_000, 8_000 - before), Ok(counts));
+}
+
+fn windows_and_periods() {
+    // 1 March and 1 September 2021, then windows that begin on the last day of a February.
+    for (day, earlier, counts) in [
+        (7_914, 7_914, false),
+        (7_914, 7_913, true),
+        (7_914, 7_730, true),
+        (7_914, 7_729, false),
+        (608, 424, true),
+        (608, 423, false),
+        (605, 424, true),
+        (605, 422, false),
+        (1_704, 1_520, true),
+        (1_704, 1_519, false),
+        (0, 0, false),
+    ] {
+        let answer = proved::fuel_day_counts(day, earlier);
+        assert_eq!(answer, Ok(counts), "day {day}, earlier {earlier}");
+    }
+    // 30 April and 1 May 2000, 26 November 2021, 31 December 2099.
+    for (day, period) in [(0, 0), (120, 0), (121, 1), (8_000, 44), (36_524, 200)] {
+        assert_eq!(proved::period_of(day), Ok(period), "day {day}");
     }
 }
 

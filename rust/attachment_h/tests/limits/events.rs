@@ -1,10 +1,13 @@
 //! The fields of an event.
 
 use attachment_h::{Component, Kind};
+use cases::calendar::period_of;
 use cases::case::{CELL_BYTES, EVENT_HEAD_BYTES, Section, put_u16, put_u32};
 use cases::{Case, Conduct, Event, Input, Market};
 
-use crate::{Checks, at_most, name, one, place, plain_events, reference, signed, unit};
+use crate::{
+    Checks, PERIODS, at_most, days, name, one, place, plain_events, reference, signed, unit,
+};
 
 /// The head of an event: every field up to its hour cells.
 fn head(checks: &mut Checks, input: &Input, at: usize, event: &Event, what: &str) {
@@ -42,8 +45,7 @@ fn head(checks: &mut Checks, input: &Input, at: usize, event: &Event, what: &str
         (65_535, 12),
     ];
     checks.field(input, at + 2, 2, &units, &format!("{what}, unit"));
-    let periods = [(0, 0), (65_535, 0)];
-    checks.field(input, at + 4, 2, &periods, &format!("{what}, period"));
+    checks.field(input, at + 4, 2, &PERIODS, &format!("{what}, period"));
     for component in 0..256 {
         let number = match (kind, component) {
             (_, 0) | (4, 0..=8) => 0,
@@ -54,8 +56,7 @@ fn head(checks: &mut Checks, input: &Input, at: usize, event: &Event, what: &str
     let impact = if kind < 3 { 0 } else { 10 };
     let impacts = [(0, 0), (1, impact), (2, 10), (3, 10), (128, 10), (255, 10)];
     checks.field(input, at + 7, 1, &impacts, &format!("{what}, impact"));
-    let days = at_most(1_000_000, 10);
-    checks.field(input, at + 8, 4, &days, &format!("{what}, day"));
+    checks.field(input, at + 8, 4, &days(10), &format!("{what}, day"));
     let mask = [(0, 0), (0xFF_FFFF, 0), (0xFFFF_FFFF, 10)];
     checks.field(input, at + 12, 4, &mask, &format!("{what}, P"));
     checks.bits(input, at + 12, 4, 24..32, 10, &format!("{what}, P"));
@@ -133,54 +134,86 @@ fn fields_of_an_event() {
     checks.done(43_000, "fields of an event");
 }
 
-#[test]
-fn fields_of_the_first_and_last_of_200_events() {
-    let mut checks = Checks::default();
-    for event in [
+/// 200 events of each kind, 20 days apart: the kind's name and the case.
+fn two_hundred_events() -> [(Kind, String, Input); 4] {
+    [
         Event::withheld(8_000, Market::DAY_AHEAD, 12, &[]),
         Event::dispatch(8_000, 12, &[]),
         Event::fuel(8_000, Market::REAL_TIME, 12, (0, 0, 0), &[]),
         Event::bids(8_000, Market::DAY_AHEAD, 12, 1, 0, &[]),
-    ] {
-        let mut events = vec![event; 200];
-        for (place, event) in events.iter_mut().enumerate() {
-            event.day = 100 * place as u32;
-        }
+    ]
+    .map(|event| {
+        let of_day = |day| Event {
+            day,
+            period: period_of(day),
+            ..event
+        };
         let case = Case {
             units: [5, 12].map(unit).to_vec(),
             references: vec![reference(12, 1)],
-            events,
+            events: (0..200).map(|place| of_day(20 * place)).collect(),
             ..Case::default()
         };
-        let input = Input::new(&case, &[]);
+        (event.kind(), name(&event), Input::new(&case, &[]))
+    })
+}
+
+#[test]
+fn fields_of_the_first_and_last_of_200_events() {
+    let mut checks = Checks::default();
+    for (kind, name, input) in two_hundred_events() {
         for record in [0, 99, 199] {
             let at = place(&input, Section::Events, record);
-            let what = format!("{}, event {record} of 200", name(&event));
+            let what = format!("{name}, event {record} of 200");
             checks.field(&input, at, 1, &[(0, 10), (5, 10)], &what);
             checks.field(&input, at + 1, 1, &[(2, 10)], &what);
             checks.field(&input, at + 2, 2, &[(99, 12)], &what);
+            checks.field(&input, at + 4, 2, &[(65_535, 19)], &what);
             checks.field(&input, at + 12, 4, &[(1 << 24, 10)], &what);
             let cell = at + EVENT_HEAD_BYTES + CELL_BYTES * 23;
-            let number = if event.kind() < Kind::FUEL { 13 } else { 10 };
+            let number = if kind < Kind::FUEL { 13 } else { 10 };
             checks.field(&input, cell, 4, &[(1 << 31, number)], &what);
             checks.field(&input, cell + 4, 4, &[(1 << 31, 10)], &what);
             checks.field(&input, cell + 8, 4, &[(50_001, 10)], &what);
         }
-        // Each day is above the one before and below the one after.
-        let at = place(&input, Section::Events, 99);
-        let days = [
-            (9_800, 11),
-            (9_801, 0),
-            (9_999, 0),
-            (10_000, 11),
-            (1_000_001, 10),
-        ];
-        checks.field(&input, at + 8, 4, &days, "day between");
-        let at = place(&input, Section::Events, 199);
-        let days = [(19_800, 11), (19_801, 0), (1_000_000, 0), (0, 11)];
-        checks.field(&input, at + 8, 4, &days, "last day");
     }
-    checks.done(264, "fields of the first and last of 200 events");
+    checks.done(216, "fields of the first and last of 200 events");
+}
+
+#[test]
+fn days_of_200_events() {
+    // Each day is above the one before and below the one after, and in its period: event 99 from 1,947 to 2,130, event 199
+    // from 3,957 to 4,137.
+    let mut checks = Checks::default();
+    let between = [
+        (1_946, 19),
+        (1_947, 11),
+        (1_960, 11),
+        (1_961, 0),
+        (1_999, 0),
+        (2_000, 11),
+        (2_130, 11),
+        (2_131, 19),
+        (36_525, 18),
+        (1_000_001, 10),
+    ];
+    let last = [
+        (0, 19),
+        (3_956, 19),
+        (3_957, 11),
+        (3_960, 11),
+        (3_961, 0),
+        (4_137, 0),
+        (4_138, 19),
+        (36_525, 18),
+    ];
+    for (_, name, input) in two_hundred_events() {
+        for (record, days) in [(99, &between[..]), (199, &last[..])] {
+            let at = place(&input, Section::Events, record);
+            checks.field(&input, at + 8, 4, days, &name);
+        }
+    }
+    checks.done(144, "days of 200 events");
 }
 
 #[test]

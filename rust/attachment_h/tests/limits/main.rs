@@ -2,6 +2,7 @@
 //! implementation has to agree as well, and the version 2 copy of a version 1 input has the same number. What version 2
 //! has of its own, the unit numbers of six digits, is in `numbers.rs`.
 
+mod calendar;
 mod events;
 mod layout;
 mod numbers;
@@ -154,13 +155,38 @@ fn references() -> Vec<Reference> {
 }
 
 fn past(kind: u8) -> Past {
-    Past {
-        group: 7,
-        kind: Kind(kind),
-        market: Market::DAY_AHEAD,
-        period: 44,
-        day: 8_000,
-    }
+    Past::of_day(7, Kind(kind), Market::DAY_AHEAD, 8_000)
+}
+
+/// The periods of a record of day 8,000, which is in period 44.
+const PERIODS: [(i64, u8); 7] = [
+    (44, 0),
+    (0, 19),
+    (43, 19),
+    (45, 19),
+    (44 + 256, 19),
+    (44 + (1 << 15), 19),
+    (65_535, 19),
+];
+
+/// The days of a record of period 44, which is 1 November 2021 to 30 April 2022; `number` is that of a day above
+/// 1,000,000.
+fn days(number: u8) -> [(i64, u8); 13] {
+    [
+        (8_000, 0),
+        (7_975, 0),
+        (8_155, 0),
+        (7_974, 19),
+        (8_156, 19),
+        (0, 19),
+        (36_524, 19),
+        (36_525, 18),
+        (1_000_000, 18),
+        (1_000_001, number),
+        (1 << 31, number),
+        ((1 << 31) + 8_000, number),
+        (u32::MAX.into(), number),
+    ]
 }
 
 /// Units, references and past entries, and no event that could read them.

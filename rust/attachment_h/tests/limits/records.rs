@@ -3,7 +3,9 @@
 use cases::case::{Section, Version, correction_bytes, sections_of};
 use cases::{Case, Input, Reference};
 
-use crate::{Checks, at_most, place, records, records_in, reference, references, unit};
+use crate::{
+    Checks, PERIODS, at_most, days, place, records, records_in, reference, references, unit,
+};
 
 #[test]
 fn fields_of_a_unit() {
@@ -182,12 +184,11 @@ fn fields_of_a_past_entry() {
         checks.field(&input, at + 2, 1, &kind, "kind of a past entry");
         let market = [(0, 0), (1, 0), (2, 9), (128, 9), (255, 9)];
         checks.field(&input, at + 3, 1, &market, "market of a past entry");
-        checks.field(&input, at + 4, 2, &[(0, 0), (65_535, 0)], "period");
+        checks.field(&input, at + 4, 2, &PERIODS, "period of a past entry");
         for spare in [6, 7] {
             checks.zero(&input, at + spare, 1, 9, "spare byte of a past entry");
         }
-        let day = at_most(1_000_000, 9);
-        checks.field(&input, at + 8, 4, &day, "day of a past entry");
+        checks.field(&input, at + 8, 4, &days(9), "day of a past entry");
     }
-    checks.done(252, "fields of a past entry");
+    checks.done(324, "fields of a past entry");
 }

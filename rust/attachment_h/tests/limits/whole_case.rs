@@ -22,8 +22,8 @@ fn order_of_the_events() {
         Event::bids(1, Market::REAL_TIME, 12, 0, 0, &[]),
         Event::withheld(2, Market::DAY_AHEAD, 12, &[]),
         Event::withheld(256, Market::DAY_AHEAD, 12, &[]),
-        Event::withheld(65_536, Market::DAY_AHEAD, 5, &[]),
-        Event::withheld(65_536, Market::DAY_AHEAD, 12, &[]),
+        Event::withheld(36_352, Market::DAY_AHEAD, 5, &[]),
+        Event::withheld(36_352, Market::DAY_AHEAD, 12, &[]),
     ];
     let of = |events: Vec<Event>| {
         let mut case = Case {
@@ -50,12 +50,12 @@ fn order_of_the_events() {
             checks.expect(&of(swapped), 11, "two events swapped");
         }
     }
-    // Another period, impact or cell makes no other event.
-    let mut same = Event::withheld(2, Market::DAY_AHEAD, 12, &[(3, 1, 1)]).in_period(9);
-    same = same.with_impact(0);
-    let input = of(vec![rising[10], same]);
-    checks.expect(&input, 11, "the same key");
-    checks.done(450, "order of the events");
+    // Another impact or cell makes no other event, and another period none that is looked at.
+    let same = Event::withheld(2, Market::DAY_AHEAD, 12, &[(3, 1, 1)]).with_impact(0);
+    checks.expect(&of(vec![rising[10], same]), 11, "the same key");
+    let of_period_9 = of(vec![rising[10], same.in_period(9)]);
+    checks.expect(&of_period_9, 19, "the same key in another period");
+    checks.done(452, "order of the events");
 }
 
 #[test]

@@ -16,16 +16,6 @@ fn unit(unit: u32, capability: u32) -> Unit {
     }
 }
 
-fn past(group: u16, kind: Kind, market: Market, period: u16, day: u32) -> Past {
-    Past {
-        group,
-        kind,
-        market,
-        period,
-        day,
-    }
-}
-
 fn reference(component: u8, value: u32) -> Reference {
     Reference {
         unit: 12,
@@ -55,7 +45,7 @@ fn terms(some: &[(usize, u64)]) -> [u64; 24] {
 }
 
 /// Units 12 and 13 have 5,000 and 15,000, so that 501 of unit 12 are flagged by 10 × a and 500 are not, and 500
-/// are a fortieth of G.
+/// are a fortieth of G. Period 42 ends with day 7,790, period 43 with day 7,974 and period 44 with day 8,155.
 fn withheld_case() -> Case {
     let (withheld, day_ahead) = (Kind::WITHHELD, Market::DAY_AHEAD);
     let cells = [
@@ -67,20 +57,18 @@ fn withheld_case() -> Case {
     Case {
         units: vec![unit(12, 5_000), unit(13, 15_000)],
         past: vec![
-            past(7, withheld, day_ahead, 42, 0),
-            past(7, withheld, day_ahead, 43, 0),
+            Past::of_day(7, withheld, day_ahead, 7_700),
+            Past::of_day(7, withheld, day_ahead, 7_900),
             // A fuel entry, one of another group, one of the other market, one of a later period.
-            past(7, Kind::FUEL, day_ahead, 44, 7_999),
-            past(8, withheld, day_ahead, 44, 0),
-            past(7, withheld, Market::REAL_TIME, 44, 0),
-            past(7, withheld, day_ahead, 45, 0),
+            Past::of_day(7, Kind::FUEL, day_ahead, 7_999),
+            Past::of_day(8, withheld, day_ahead, 7_999),
+            Past::of_day(7, withheld, Market::REAL_TIME, 7_999),
+            Past::of_day(7, withheld, day_ahead, 8_200),
         ],
         events: vec![
-            Event::withheld(7_990, day_ahead, 12, &[(0, 501, 4_000)])
-                .in_period(44)
-                .with_impact(0),
-            Event::withheld(7_995, day_ahead, 12, &[(0, 501, 4_000)]).in_period(43),
-            Event::withheld(8_000, day_ahead, 12, &cells).in_period(44),
+            Event::withheld(7_960, day_ahead, 12, &[(0, 501, 4_000)]).with_impact(0),
+            Event::withheld(7_970, day_ahead, 12, &[(0, 501, 4_000)]),
+            Event::withheld(8_000, day_ahead, 12, &cells),
         ],
         ..Case::default()
     }
@@ -182,7 +170,7 @@ fn fuel_case(past: Vec<Past>) -> Case {
 #[test]
 fn fuel_terms() {
     // A penalty 100 days before, so that M is 3 halves.
-    let before = past(7, Kind::FUEL, Market::REAL_TIME, 0, 7_900);
+    let before = Past::of_day(7, Kind::FUEL, Market::REAL_TIME, 7_900);
     let worked = workings(&fuel_case(vec![before]), &[]);
     // Hours 8 and 9 are the union of both P, and hour 10 is in neither. E is 10 × 300,100 + 700,000 − 10,000
     // − 30 + 440,000; X is 3 × 4,130,970 + 20 × 500, and the penalty a twentieth of it, 620,145.5.
@@ -228,6 +216,70 @@ fn fuel_terms_below_the_cut() {
     let fourth = &worked[3].penalty;
     assert_eq!((fourth.multiplier, fourth.x), (Multiplier(2), 20_000_000));
     assert_eq!(fourth.penalty, Cents(1_000_000));
+}
+
+/// A fuel event of unit 12 with E 10,000,000 and no T: $10,000 with M 2 halves, and half as much more with 3.
+fn plain_fuel(day: u32, market: Market) -> Event {
+    Event::fuel(day, market, 12, (0, 1_000_000, 0), &[])
+}
+
+/// M and penalty of the Day-Ahead event of a day.
+fn fuel_of(case: &Case, day: u32) -> (Multiplier, Cents) {
+    let is_it = |event: &Event| (event.day, event.market) == (day, Market::DAY_AHEAD);
+    let place = case.events.iter().position(is_it).expect("the event");
+    let worked = &workings(case, &[])[place].penalty;
+    (worked.multiplier, worked.penalty)
+}
+
+/// Days, earlier days, and whether a fuel penalty of the earlier one counts.
+const WINDOWS: [(u32, u32, bool); 16] = [
+    // 1 September 2021 and 1 March.
+    (7_914, 7_730, true),
+    (7_914, 7_729, false),
+    (7_914, 7_913, true),
+    (7_914, 7_914, false),
+    (7_914, 7_915, false),
+    // 31 and 28 August 2001 and 28 February, 31 August 2004 and 29 February.
+    (608, 424, true),
+    (608, 423, false),
+    (605, 424, true),
+    (605, 423, false),
+    (1_704, 1_520, true),
+    (1_704, 1_519, false),
+    // 30 June, 1 July and 2 July 2000, 31 December 2099.
+    (181, 0, true),
+    (182, 0, true),
+    (183, 0, false),
+    (36_524, 36_340, true),
+    (36_524, 36_339, false),
+];
+
+#[test]
+fn fuel_windows() {
+    for (day, earlier, counts) in WINDOWS {
+        let mut here = Case {
+            units: vec![unit(12, 5_000)],
+            events: vec![
+                plain_fuel(earlier, Market::REAL_TIME),
+                plain_fuel(day, Market::DAY_AHEAD),
+            ],
+            ..Case::default()
+        };
+        here.sort_events();
+        let by_past = Case {
+            past: vec![Past::of_day(7, Kind::FUEL, Market::REAL_TIME, earlier)],
+            events: vec![plain_fuel(day, Market::DAY_AHEAD)],
+            ..here.clone()
+        };
+        let expected = if counts {
+            (Multiplier(3), Cents(1_500_000))
+        } else {
+            (Multiplier(2), Cents(1_000_000))
+        };
+        for case in [by_past, here] {
+            assert_eq!(fuel_of(&case, day), expected, "{day} and {earlier}");
+        }
+    }
 }
 
 /// Bids of unit 12 for components 0, 1, 2 and 3, all Day-Ahead.

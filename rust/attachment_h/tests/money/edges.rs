@@ -15,14 +15,8 @@ fn unit(unit: u32) -> Unit {
     }
 }
 
-fn past(kind: Kind, period: u16, day: u32) -> Past {
-    Past {
-        group: 7,
-        kind,
-        market: Market::DAY_AHEAD,
-        period,
-        day,
-    }
+fn past(kind: Kind, day: u32) -> Past {
+    Past::of_day(7, kind, Market::DAY_AHEAD, day)
 }
 
 /// The same a and b in every hour.
@@ -42,7 +36,7 @@ fn largest_withheld() {
     let cells = all_day(50_000, 1_000_000);
     let case = Case {
         units: vec![unit(0)],
-        past: vec![past(Kind::WITHHELD, 0, 0); 3],
+        past: vec![past(Kind::WITHHELD, 0); 3],
         events: vec![Event::withheld(0, Market::DAY_AHEAD, 0, &cells)],
         ..Case::default()
     };
@@ -59,7 +53,7 @@ fn largest_dispatch() {
     let case = Case {
         units: vec![unit(65_535)],
         events: vec![Event::dispatch(
-            1_000_000,
+            36_524,
             65_535,
             &all_day(50_000, 100_000_000),
         )],
@@ -77,7 +71,7 @@ fn fuel_case(sign: i32) -> Case {
     let cells = all_day(50_000, sign * 1_000_000);
     Case {
         units: (0..64).map(unit).collect(),
-        past: vec![past(Kind::FUEL, 0, 817)],
+        past: vec![past(Kind::FUEL, 816)],
         events: (0..64)
             .map(|unit| Event::fuel(1_000, Market::DAY_AHEAD, unit, changes, &cells))
             .collect(),
@@ -87,7 +81,8 @@ fn fuel_case(sign: i32) -> Case {
 
 #[test]
 fn largest_fuel() {
-    // Each unit: 10 × 1,000,000,000 + 24 × 50,000 × 1,000,000. M is 3, since day 817 is 183 days before.
+    // Each unit: 10 × 1,000,000,000 + 24 × 50,000 × 1,000,000. M is 3, since day 816, 27 March 2002, is six
+    // months before day 1,000.
     let e = 64 * 1_210_000_000_000;
     let t = 64_000_000_000;
     for event in [0, 63] {
@@ -128,22 +123,23 @@ fn largest_make_up() {
     assert_eq!(make_up.make_up, Cents(240_000_000_000));
 }
 
-/// A withheld event with one flagged hour on each day, in periods by day.
-fn instances_by_day(days: u32, period: impl Fn(u32) -> u16) -> Vec<Event> {
-    let event = |day| Event::withheld(day, Market::DAY_AHEAD, 0, &[(0, 50_000, 1)]);
-    (0..days)
-        .map(|day| event(day).in_period(period(day)))
+/// A withheld event with one flagged hour on each of some days.
+fn instances_of(days: impl Iterator<Item = u32>) -> Vec<Event> {
+    days.map(|day| Event::withheld(day, Market::DAY_AHEAD, 0, &[(0, 50_000, 1)]))
         .collect()
 }
+
+/// The first days of periods 42, 43 and 44: 1 November 2020, 1 May and 1 November 2021.
+const FIRST_DAYS: [u32; 3] = [7_610, 7_791, 7_975];
 
 #[test]
 fn every_past_entry() {
     let case = Case {
         units: vec![unit(0)],
         past: (0..256)
-            .map(|place| past(Kind::WITHHELD, 42 + place % 3, 0))
+            .map(|place| past(Kind::WITHHELD, FIRST_DAYS[place % 3]))
             .collect(),
-        events: instances_by_day(2, |_| 44),
+        events: instances_of(8_000..8_002),
         ..Case::default()
     };
     let last = worked(&case, &[], 1);
@@ -158,24 +154,25 @@ fn every_past_entry() {
 
 #[test]
 fn every_event() {
-    // Even days are of period 42, two before that of odd days.
+    // A hundred of period 42, and a hundred of period 44, two after it.
+    let [first, _, last] = FIRST_DAYS;
     let case = Case {
         units: vec![unit(0)],
-        events: instances_by_day(200, |day| 42 + 2 * (day % 2) as u16),
+        events: instances_of((first..first + 100).chain(last..last + 100)),
         ..Case::default()
     };
     for event in 0..200 {
         let counted = worked(&case, &[], event).instances;
-        let odd = event % 2 == 1;
-        let three: Vec<usize> = (0..event).filter(|place| odd || place % 2 == 0).collect();
-        let two: Vec<usize> = (0..event).filter(|place| place % 2 == event % 2).collect();
+        let three: Vec<usize> = (0..event).collect();
+        let two: Vec<usize> = (event / 100 * 100..event).collect();
         assert_eq!((counted.three.events, counted.two.events), (three, two));
     }
+    // Events 0 to 98, of one period, and 0 to 198, of which N2 counts from 100 on.
+    let out = bits_of(&case, 99);
+    assert_eq!((&out[..12], out[12]), (&[0xFF; 12][..], 0b0111));
+    assert_eq!((&out[57..69], out[69]), (&[0xFF; 12][..], 0b0111));
     let out = bits_of(&case, 199);
-    // Events 0 to 198, and of them the odd ones.
     assert_eq!((&out[..24], out[24]), (&[0xFF; 24][..], 0b0111_1111));
-    assert_eq!(
-        (&out[57..81], out[81]),
-        (&[0b1010_1010; 24][..], 0b0010_1010)
-    );
+    assert_eq!((&out[57..69], out[69]), (&[0; 12][..], 0b1111_0000));
+    assert_eq!((&out[70..81], out[81]), (&[0xFF; 11][..], 0b0111_1111));
 }

@@ -2,8 +2,8 @@
 
 use attachment_h::{
     BidHour, Cents, Counted, Instances, Kind, MakeUpWorking, Mask, Multiplier, PenaltyWorking, Row,
-    bid_fails, dispatch_penalty, fuel_penalty, instances, make_up, make_up_working, multiplier,
-    penalty_working, period_counts, settle, withheld_penalty,
+    bid_fails, dispatch_penalty, fuel_day_counts, fuel_penalty, instances, make_up,
+    make_up_working, multiplier, penalty_working, period_counts, settle, withheld_penalty,
 };
 use cases::case::{DispatchHour, WithheldHour};
 use cases::generator::case;
@@ -32,6 +32,7 @@ struct Compared {
     withheld: usize,
     dispatch: usize,
     party_days: usize,
+    raised: usize,
     make_up_hours: usize,
     single_make_ups: usize,
     bids_tested_again: usize,
@@ -58,7 +59,7 @@ impl Compared {
 
     fn done(&self) {
         assert!(self.instances > 1_000 && self.withheld > 5_000);
-        assert!(self.dispatch > 1_000 && self.party_days > 1_000);
+        assert!(self.dispatch > 1_000 && self.party_days > 1_000 && self.raised > 1_000);
         assert!(self.make_up_hours > 100 && self.single_make_ups > 20);
         assert!(self.bids_tested_again > 100);
     }
@@ -232,7 +233,26 @@ impl<'a> Settled<'a> {
         let penalty = fuel_penalty(worked.e(), worked.t, worked.multiplier);
         assert_eq!(penalty, Ok(worked.penalty), "{what}");
         assert_eq!((worked.amount, worked.revenue), (0, 0), "{what}");
+        assert_eq!(worked.multiplier, self.fuel_multiplier(place), "{what}");
+        compared.raised += usize::from(worked.multiplier == Multiplier(3));
         compared.party_days += usize::from(worked.row == place);
+    }
+
+    /// M of a fuel event, by the smaller call on the days of its group's fuel penalties, here and in the past.
+    fn fuel_multiplier(&self, place: usize) -> Multiplier {
+        let (day, group) = (self.event(place).day, self.unit(place).group);
+        let penalised = |&other: &usize| {
+            self.event(other).kind() == Kind::FUEL
+                && self.rows[other].penalty > Cents(0)
+                && self.unit(other).group == group
+        };
+        let here = (0..self.rows.len()).filter(penalised);
+        let here = here.map(|other| self.event(other).day);
+        let past = self.case.past.iter();
+        let past = past.filter(|entry| entry.kind == Kind::FUEL && entry.group == group);
+        let mut days = here.chain(past.map(|entry| entry.day));
+        let raised = days.any(|earlier| fuel_day_counts(day, earlier) == Ok(true));
+        Multiplier(if raised { 3 } else { 2 })
     }
 
     /// The terms of a bid, which are 0 where its component has none.

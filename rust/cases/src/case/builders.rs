@@ -1,11 +1,26 @@
-//! Events with figures in some of their hours, for tests that write a case by hand.
+//! Past entries, and events with figures in some of their hours, for tests that write a case by hand; each has the
+//! capability period of its day.
 
-use attachment_h::{Component, Market};
+use attachment_h::{Component, Kind, Market};
 
-use super::{BidHour, Conduct, DispatchHour, EVERY_HOUR, Event, FuelHour, WithheldHour};
+use super::{BidHour, Conduct, DispatchHour, EVERY_HOUR, Event, FuelHour, Past, WithheldHour};
+use crate::calendar::period_of;
+
+impl Past {
+    /// An entry of that day.
+    pub fn of_day(group: u16, kind: Kind, market: Market, day: u32) -> Past {
+        Past {
+            group,
+            kind,
+            market,
+            period: period_of(day),
+            day,
+        }
+    }
+}
 
 impl Event {
-    /// A withheld event of period 0 with impact 1 and no Shadow Price; hours as (hour, a, b).
+    /// A withheld event with impact 1 and no Shadow Price; hours as (hour, a, b).
     pub fn withheld(day: u32, market: Market, unit: u32, cells: &[(usize, u32, i32)]) -> Event {
         let mut hours = [WithheldHour::default(); 24];
         for &(hour, withheld, price) in cells {
@@ -20,7 +35,7 @@ impl Event {
             day,
             market,
             unit,
-            period: 0,
+            period: period_of(day),
             conduct,
         }
     }
@@ -43,7 +58,7 @@ impl Event {
             day,
             market: Market::REAL_TIME,
             unit,
-            period: 0,
+            period: period_of(day),
             conduct,
         }
     }
@@ -73,7 +88,7 @@ impl Event {
             day,
             market,
             unit,
-            period: 0,
+            period: period_of(day),
             conduct,
         }
     }
@@ -111,7 +126,7 @@ impl Event {
             day,
             market,
             unit,
-            period: 0,
+            period: period_of(day),
             conduct,
         }
     }

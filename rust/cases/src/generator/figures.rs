@@ -6,6 +6,8 @@ use attachment_h::layout::HIGHEST_UNIT_NUMBER;
 use attachment_h::{Component, Kind, Market};
 
 use super::bid_limits;
+use super::days::past_day;
+use crate::calendar::FIRST_DAY_BEYOND;
 use crate::case::{BidHour, Conduct, DispatchHour, FuelHour, Past, Unit, WithheldHour};
 use crate::random::Random;
 
@@ -86,30 +88,22 @@ pub fn reference_value(random: &mut Random, component: Component) -> u32 {
 }
 
 /// A past entry in or near the windows of the events.
-pub fn past_entry(random: &mut Random, groups: &[u16], days: &[u32], first_period: u16) -> Past {
+pub fn past_entry(random: &mut Random, groups: &[u16], days: &[u32]) -> Past {
     let group = if random.chance(1, 10) {
         random.between(0, 65_535) as u16
     } else {
         random.pick(groups)
     };
     let day = match random.below(8) {
-        0 => random.between(0, 1_000_000),
+        0 => random.below(FIRST_DAY_BEYOND as usize) as u32,
         _ => {
-            let before = random.pick(&[-1, 0, 1, 2, 100, 182, 183, 184, 185]);
-            (i64::from(random.pick(days)) - before).clamp(0, 1_000_000)
+            let day = random.pick(days);
+            past_day(random, day)
         }
     };
-    let period = match random.below(8) {
-        0 => random.between(0, 65_535),
-        _ => (i64::from(first_period) + random.between(-3, 4)).clamp(0, 65_535),
-    };
-    Past {
-        group,
-        kind: random.pick(&[Kind::WITHHELD, Kind::WITHHELD, Kind::FUEL]),
-        market: random.pick(&[Market::DAY_AHEAD, Market::REAL_TIME]),
-        period: period as u16,
-        day: day as u32,
-    }
+    let kind = random.pick(&[Kind::WITHHELD, Kind::WITHHELD, Kind::FUEL]);
+    let market = random.pick(&[Market::DAY_AHEAD, Market::REAL_TIME]);
+    Past::of_day(group, kind, market, day)
 }
 
 /// One of the candidates or next to it, brought into the limits.
@@ -319,8 +313,9 @@ pub fn bids(
         0 => 1 << random.below(24) | 1 << random.below(24),
         _ => random.hours(),
     };
-    let minimum_run_hours = match random.below(3) {
+    let minimum_run_hours = match random.below(4) {
         0 => random.pick(&[0, 1, 24]),
+        1 => 0,
         _ => random.between(0, 24) as u32,
     };
     Conduct::Bids {

@@ -7,6 +7,7 @@ use std::collections::BTreeSet;
 
 use attachment_h::{Component, Kind, Market};
 
+use super::days::days;
 use super::figures::{past_entry, six_digit_numbers, unit};
 use super::{Generated, Size, Wanted};
 use crate::case::{Case, HEADER_BYTES, LARGEST_FILE, PAST_BYTES, Reference, Section, Version};
@@ -21,7 +22,6 @@ pub struct Maker<'a> {
     wanted: Wanted,
     groups: Vec<u16>,
     days: Vec<u32>,
-    first_period: u16,
     case: Case,
     correction: Vec<Reference>,
     keys: BTreeSet<Key>,
@@ -36,29 +36,12 @@ impl<'a> Maker<'a> {
         let groups = (0..1 + random.below(4))
             .map(|_| random.pick(&[0, 1, 2, 7, 300, 65_535]))
             .collect();
-        let first_day = match random.below(4) {
-            0 => 0,
-            1 => 999_600,
-            2 => 8_000,
-            _ => random.between(0, 999_600) as u32,
-        };
-        // Days around the window of 183.
-        let mut days: Vec<u32> = [0, 1, 2, 31, 182, 183, 184, 185, 366, 367, 400]
-            .into_iter()
-            .filter(|_| random.chance(1, 2))
-            .map(|after| first_day + after)
-            .collect();
-        days.push(first_day);
-        if wanted.size == Size::Full {
-            days.extend([first_day + 3, first_day + 4, first_day + 5, first_day + 187]);
-        }
-        let first_period = random.pick(&[0, 0, 1, 2, 44, 44, 65_532]);
+        let days = days(random, wanted.size == Size::Full);
         Maker {
             random,
             wanted,
             groups,
             days,
-            first_period,
             case: Case::default().in_version(wanted.version),
             correction: Vec::new(),
             keys: BTreeSet::new(),
@@ -152,7 +135,7 @@ impl<'a> Maker<'a> {
             count
         };
         for _ in 0..count {
-            let entry = past_entry(self.random, &self.groups, &self.days, self.first_period);
+            let entry = past_entry(self.random, &self.groups, &self.days);
             self.case.past.push(entry);
             // Repeats are allowed, and count.
             if self.case.past.len() < count && self.random.chance(1, 6) {

@@ -1,5 +1,8 @@
 //! Fuel events: M and its window, E and T of their party-days, and the cut of X.
 
+use std::collections::BTreeSet;
+
+use cases::calendar::{month_and_day, window_start};
 use cases::{Kind, Market};
 use second::{FuelPartyDay, fuel_party_days};
 
@@ -21,17 +24,33 @@ pub fn reach(reached: &mut Reached, event: &SettledEvent) {
     if row.multiplier.0 > 0 {
         reach_past_entries(reached, event);
         reach_penalties(reached, event);
+        reach_multiplier(reached, event);
+    }
+}
+
+/// The days at and next to the edges of the window of a day.
+fn window_edges(day: u32) -> [(&'static str, i64); 5] {
+    let (first, day) = (i64::from(window_start(day)), i64::from(day));
+    [
+        ("on the day after", day + 1),
+        ("on the same day", day),
+        ("on the day before", day - 1),
+        ("on the window's first day", first),
+        ("on the day before the window", first - 1),
+    ]
+}
+
+/// Counts an earlier violation by the edges of the event's window that it stands at.
+fn reach_edges(reached: &mut Reached, event: &SettledEvent, day: u32, what: &str) {
+    for (edge, at) in window_edges(event.record.day) {
+        reached.add_if(i64::from(day) == at, &format!("fuel: {what} {edge}"));
     }
 }
 
 fn reach_past_entries(reached: &mut Reached, event: &SettledEvent) {
     for entry in &event.settled.case.past {
         if entry.kind == Kind::FUEL && entry.group == event.unit.group {
-            let before = i64::from(event.record.day) - i64::from(entry.day);
-            reached.add_if(
-                [-1, 0, 1, 183, 184].contains(&before),
-                &format!("fuel: past entry {before} days before"),
-            );
+            reach_edges(reached, event, entry.day, "past entry");
         }
     }
 }
@@ -44,18 +63,52 @@ fn reach_penalties(reached: &mut Reached, event: &SettledEvent) {
             && other.unit.group == event.unit.group
             && day_and_market(&other) != day_and_market(event)
         {
-            let before = i64::from(event.record.day) - i64::from(other.record.day);
             let what = if other.row.penalty.0 > 0 {
                 "penalty"
             } else {
                 "cut penalty"
             };
-            reached.add_if(
-                [0, 1, 183, 184].contains(&before),
-                &format!("fuel: {what} {before} days before"),
-            );
+            reach_edges(reached, event, other.record.day, what);
         }
     }
+}
+
+/// The days of the group's fuel penalties, here and in the past.
+fn penalty_days(event: &SettledEvent) -> BTreeSet<u32> {
+    let group = event.unit.group;
+    let past = event.settled.case.past.iter();
+    let past = past.filter(|entry| entry.kind == Kind::FUEL && entry.group == group);
+    let here = event.settled.events().filter(|other| {
+        other.record.kind() == Kind::FUEL && other.row.penalty.0 > 0 && other.unit.group == group
+    });
+    let here = here.map(|other| other.record.day);
+    past.map(|entry| entry.day).chain(here).collect()
+}
+
+/// What M looks back on: the window's length, and whether one day at its edge decides.
+fn reach_multiplier(reached: &mut Reached, event: &SettledEvent) {
+    let day = event.record.day;
+    let (first, m) = (window_start(day), event.row.multiplier.0);
+    let days = penalty_days(event);
+    let counted: Vec<u32> = days.range(first..day).copied().collect();
+    assert_eq!(m, if counted.is_empty() { 2 } else { 3 });
+    let length = day - first;
+    if month_and_day(day).0 < 6 {
+        reached.add(format!("fuel: M {m}, window cut at day 0"));
+    } else {
+        reached.add_if(
+            counted == [first],
+            &format!("fuel: M 3 by the first of {length} days alone"),
+        );
+        let day_before = first.checked_sub(1);
+        reached.add_if(
+            m == 2 && day_before.is_some_and(|before| days.contains(&before)),
+            &format!("fuel: M 2 with the day before {length} days"),
+        );
+    }
+    // The month six months earlier has no such day.
+    let shorter = month_and_day(first).1 < month_and_day(day).1 && first > 0;
+    reached.add_if(shorter, &format!("fuel: M {m}, day of a longer month"));
 }
 
 pub fn reach_party_days(reached: &mut Reached, settled: &Settled) {
@@ -109,12 +162,18 @@ pub fn edges() -> Vec<String> {
     ]
     .map(String::from)
     .to_vec();
-    for before in [-1, 0, 1, 183, 184] {
-        expected.push(format!("fuel: past entry {before} days before"));
+    for (edge, _) in window_edges(0) {
+        for what in ["past entry", "penalty", "cut penalty"] {
+            expected.push(format!("fuel: {what} {edge}"));
+        }
     }
-    for before in [0, 1, 183, 184] {
-        expected.push(format!("fuel: penalty {before} days before"));
-        expected.push(format!("fuel: cut penalty {before} days before"));
+    for length in 181..=184 {
+        expected.push(format!("fuel: M 3 by the first of {length} days alone"));
+        expected.push(format!("fuel: M 2 with the day before {length} days"));
+    }
+    for m in [2, 3] {
+        expected.push(format!("fuel: M {m}, window cut at day 0"));
+        expected.push(format!("fuel: M {m}, day of a longer month"));
     }
     expected
 }

@@ -1,7 +1,8 @@
 //! What generated cases reach: every kind, component and market, every threshold exactly and one
-//! over it, the windows on both sides, and every kind of correction.
+//! over it, the windows on both sides, the ends of months and periods, and every kind of correction.
 
 mod bids;
+mod days;
 mod default_bids;
 mod dispatch;
 mod fuel;
@@ -42,6 +43,7 @@ impl Reached {
 fn reach(reached: &mut Reached, generated: &Generated) {
     let settled = Settled::of(generated);
     whole_case::reach(reached, &settled);
+    days::reach(reached, &settled);
     for event in settled.events() {
         kinds::reach(reached, &event);
         match &event.record.conduct {
@@ -102,6 +104,7 @@ fn reach_every_edge(version: Version) {
 fn edges() -> Vec<String> {
     [
         whole_case::edges(),
+        days::edges(),
         kinds::edges(),
         withheld::edges(),
         dispatch::edges(),

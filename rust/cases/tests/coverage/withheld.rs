@@ -67,7 +67,7 @@ fn reach_past_entries(reached: &mut Reached, event: &SettledEvent) {
         {
             let before = i64::from(event.record.period) - i64::from(entry.period);
             reached.add_if(
-                (-1..=3).contains(&before),
+                (-1..=4).contains(&before),
                 &format!("withheld: past entry {before} periods before"),
             );
         }
@@ -83,7 +83,7 @@ fn reach_instances(reached: &mut Reached, event: &SettledEvent) {
         {
             let before = i64::from(event.record.period) - i64::from(other.record.period);
             reached.add_if(
-                (-1..=3).contains(&before),
+                (0..=4).contains(&before),
                 &format!("withheld: instance {before} periods before"),
             );
             reached.add_if(
@@ -120,8 +120,10 @@ pub fn edges() -> Vec<String> {
     for multiplier in [0, 2, 4, 6] {
         expected.push(format!("withheld: multiplier {multiplier}"));
     }
-    for before in -1..=3 {
+    for before in -1..=4 {
         expected.push(format!("withheld: past entry {before} periods before"));
+    }
+    for before in 0..=4 {
         expected.push(format!("withheld: instance {before} periods before"));
     }
     expected

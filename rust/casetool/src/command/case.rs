@@ -27,17 +27,15 @@ pub fn answer(topic: Topic, given: &Given, input: &mut dyn Read) -> Result<Answe
         }
         inputs => inputs?,
     };
-    let mut answer = match topic {
-        Topic::Check => checked(&inputs, given.format),
-        Topic::Settle => settled(&inputs, given)?,
-        Topic::Line => line::beside_lines(&inputs, given)?,
+    match topic {
+        Topic::Check => Ok(checked(&inputs, given.format)),
+        Topic::Settle => settled(&inputs, given),
+        Topic::Line => line::beside_lines(&inputs, given),
         _ => match given.hour {
-            Some(hour) => worked(&inputs, given, hour)?,
-            None => money::worked(&inputs, given)?,
+            Some(hour) => worked(&inputs, given, hour),
+            None => money::worked(&inputs, given),
         },
-    };
-    answer.done.warnings = inputs.warnings;
-    Ok(answer)
+    }
 }
 
 fn checked(inputs: &Inputs, format: Format) -> Answer {

@@ -91,8 +91,8 @@ The first four take a text or a case file. Text is valid UTF-8, not empty, with 
 all else is a case file. A file that is - or left out is standard input; -o FILE takes the
 answer, otherwise it goes to standard output. Where a command fails, a FILE that was there is
 renamed FILE.old, so that nothing takes it for the answer. Events and other records are counted
-from 0, hours from 0 to 23. Every figure comes from the proved library. The text form is in
-docs/FORMAT.md.
+from 0, hours from 0 to 23. Every figure comes from the proved library, and so does a capability
+period that a text leaves out. The text form is in docs/FORMAT.md.
 
 Exit status: 0 done, 1 refused, unreadable or not text of a case, 2 misuse.
 ";
@@ -109,8 +109,8 @@ comment:
 
   unit 12 group 7 area no capability 500.0 MW
   reference unit 12 component energy value $20.00
-  past group 7 kind withheld market day-ahead period 43 day 7800
-  event day 8000 kind withheld market day-ahead unit 12 period 44 impact 1
+  past group 7 kind withheld market day-ahead day 7800
+  event day 8000 kind withheld market day-ahead unit 12 impact 1
     hour 0 withheld 50.1 MW price $40.00
 
 Units, references and events may stand in any order and are sorted; two equal ones are an error.
@@ -120,9 +120,11 @@ version 2 where a unit number is above 65,535, and of version 1 otherwise. All m
 at once, at most 20 of them. A key that an event reads has to be there, also where it is 0:
 what is left out is an error with its line. A text with no event is an error too, since a failed
 export looks like that.
-A day is the number of days since 1 January 2000, or a date such as 2021-11-26. Of the
-capability periods 0 is the Winter in which 1 January 2000 is, 1 the Summer from 1 May 2000, 44
-the Winter from 1 November 2021. A period that is not its day's is warned of, and written.
+A day is the number of days since 1 January 2000, or a date such as 2021-11-26. The key period may
+be left out: the capability period is then that of the day, by the proved library. 0 is the Winter
+in which 1 January 2000 is, 1 the Summer from 1 May 2000, 44 the Winter from 1 November 2021. A
+period that is not its day's is warned of and written, and so is a day after 31 December 2099; a
+case with one of them is refused. Without its period such a day is an error.
 docs/FORMAT.md has every key, and what else may be written for a value.
 
   -o, --output FILE  writes to a file instead of standard output

@@ -33,14 +33,11 @@ pub struct Inputs {
     pub case: Input,
     /// The correction, which is not empty.
     pub correction: Option<Input>,
-    /// What looks wrong in the texts.
-    pub warnings: Vec<String>,
 }
 
 impl Inputs {
     /// Reads what was given.
     pub fn read(topic: Topic, given: &Given, input: &mut dyn Read) -> Result<Inputs, Failure> {
-        let mut warnings = Vec::new();
         let bytes = files::read(&given.source, input)?;
         let correction = given.correction.as_ref();
         let correction = correction.map(|source| (source, files::read(source, input)));
@@ -48,7 +45,7 @@ impl Inputs {
             Some((_, Ok(bytes))) => bytes.as_slice(),
             _ => &[],
         };
-        let case = read_case(given, bytes, beside, &mut warnings)?;
+        let case = read_case(given, bytes, beside)?;
         if case.positions.is_some() && is_empty_case(&case.bytes) && !given.allow_empty {
             let done = topic.allows_empty().then_some("taken");
             return Err(Failure::Message(has_no("event", &case.name, done)));
@@ -56,15 +53,11 @@ impl Inputs {
         let correction = match correction {
             Some((source, bytes)) => {
                 let version = version_of(&case.bytes);
-                Some(read_correction(source, bytes?, version, &mut warnings)?)
+                Some(read_correction(source, bytes?, version)?)
             }
             None => None,
         };
-        Ok(Inputs {
-            case,
-            correction,
-            warnings,
-        })
+        Ok(Inputs { case, correction })
     }
 
     /// The version of the case, and of its correction, if its first two bytes are one.
@@ -110,12 +103,7 @@ fn version_of(file: &[u8]) -> Option<Version> {
 }
 
 /// The case, beside the bytes of its correction: where both are texts the numbers of both say its version.
-fn read_case(
-    given: &Given,
-    bytes: Vec<u8>,
-    correction: &[u8],
-    warnings: &mut Vec<String>,
-) -> Result<Input, Failure> {
+fn read_case(given: &Given, bytes: Vec<u8>, correction: &[u8]) -> Result<Input, Failure> {
     let name = given.source.to_string();
     let is_text = match given.taken_as {
         Some(taken_as) => taken_as == As::Text,
@@ -124,7 +112,7 @@ fn read_case(
     if !is_text {
         return Ok(file(name, bytes));
     }
-    text(name, write::case_file_beside(&bytes, correction), warnings)
+    text(name, write::case_file_beside(&bytes, correction))
 }
 
 /// A correction that was named, in the version of its case: one that corrects nothing is a misuse.
@@ -132,12 +120,10 @@ fn read_correction(
     source: &Source,
     bytes: Vec<u8>,
     version: Option<Version>,
-    warnings: &mut Vec<String>,
 ) -> Result<Input, Failure> {
     let name = source.to_string();
     let input = if is_text(&bytes) {
-        let written = write::correction_in(&bytes, version.map(Told::Case));
-        text(name, written, warnings)?
+        text(name, write::correction_in(&bytes, version.map(Told::Case)))?
     } else {
         file(name, bytes)
     };
@@ -156,14 +142,9 @@ fn file(name: String, bytes: Vec<u8>) -> Input {
     }
 }
 
-fn text(
-    name: String,
-    written: Result<Written, Mistakes>,
-    warnings: &mut Vec<String>,
-) -> Result<Input, Failure> {
+/// What a text gives. What `write` warns of is refused here, with its place.
+fn text(name: String, written: Result<Written, Mistakes>) -> Result<Input, Failure> {
     let written = written.map_err(|mistakes| Failure::Mistakes(name.clone(), mistakes))?;
-    let of_text = written.warnings.iter();
-    warnings.extend(of_text.map(|warning| format!("{name}: {warning}")));
     Ok(Input {
         name,
         bytes: written.bytes,

@@ -2,6 +2,7 @@
 //!
 //! The number comes from the proved check; only the place is looked for here.
 
+mod calendar;
 mod events;
 mod header;
 pub mod names;
@@ -95,10 +96,38 @@ pub fn find(number: u8, file: &[u8], correction: &[u8], rows_length: usize) -> O
                 14 => events::references(&sections, correction),
                 15 => events::rows(&sections, rows_length),
                 17 => numbers::numbers(&sections),
+                18 => calendar::days(&sections),
+                19 => calendar::periods(&sections),
                 _ => None,
             }
         }
     }
+}
+
+/// The first record of a section that breaks something, which is told with the offset of its field.
+fn first_record(
+    sections: &Sections<'_>,
+    section: Section,
+    broken: impl Fn(&[u8]) -> Option<(usize, String)>,
+) -> Option<Place> {
+    let part = Part::Section(section);
+    let mut records = sections.records(section).enumerate();
+    records.find_map(|(record, bytes)| {
+        let (at, broken) = broken(bytes)?;
+        let name = names::of(part, sections.version(), record, bytes);
+        Some(Place {
+            part,
+            record,
+            at,
+            sentence: format!("{name}: {broken}"),
+        })
+    })
+}
+
+/// The first field of a record that breaks its limit, in words after its offset.
+fn broken_in_words(fields: &[Field], record: &[u8]) -> Option<(usize, String)> {
+    let field = broken_field(fields, record)?;
+    Some((field.at, field_sentence(&field, record)))
 }
 
 /// The first field of a record that breaks its limit, in the order of its bytes.

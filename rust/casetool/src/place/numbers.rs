@@ -2,28 +2,13 @@
 
 use attachment_h::layout::{Section, Sections};
 
-use super::{Part, Place, broken_field, field_sentence, names};
+use super::{Place, broken_in_words, first_record};
 use crate::record::fields;
 
 /// The first record with a number above 999,999, or with an old number.
 pub fn numbers(sections: &Sections<'_>) -> Option<Place> {
-    Section::ALL
-        .into_iter()
-        .find_map(|section| in_section(sections, section))
-}
-
-fn in_section(sections: &Sections<'_>, section: Section) -> Option<Place> {
-    let (version, part) = (sections.version(), Part::Section(section));
-    let fields = fields::number(section, version);
-    let mut records = sections.records(section).enumerate();
-    records.find_map(|(record, bytes)| {
-        let field = broken_field(&fields, bytes)?;
-        let name = names::of(part, version, record, bytes);
-        Some(Place {
-            part,
-            record,
-            at: field.at,
-            sentence: format!("{name}: {}", field_sentence(&field, bytes)),
-        })
+    Section::ALL.into_iter().find_map(|section| {
+        let fields = fields::number(section, sections.version());
+        first_record(sections, section, |record| broken_in_words(&fields, record))
     })
 }

@@ -3,7 +3,7 @@
 use attachment_h::Component;
 use attachment_h::layout::{Section, Sections};
 
-use super::{Part, Place, broken_field, field_sentence, names};
+use super::{Part, Place, broken_in_words, first_record, names};
 use crate::record::fields;
 use crate::text::amounts;
 use crate::text::words;
@@ -15,9 +15,7 @@ pub fn units(sections: &Sections<'_>) -> Option<Place> {
     let mut before: Option<u32> = None;
     for (record, bytes) in sections.records(Section::Units).enumerate() {
         let number = Section::Units.unit_number(version, bytes);
-        let broken =
-            broken_field(&fields, bytes).map(|field| (field.at, field_sentence(&field, bytes)));
-        let broken = broken.or_else(|| {
+        let broken = broken_in_words(&fields, bytes).or_else(|| {
             let before = before.filter(|&before| before >= number)?;
             let order = format!(
                 "unit number is {number}, after {before}; unit numbers have to rise strictly"
@@ -110,9 +108,7 @@ fn in_reference(bytes: &[u8], sections: &Sections<'_>) -> Option<(usize, String)
     let number = Section::References.unit_number(version, bytes);
     let at = fields::number_at(Section::References, version);
     let fields = fields::reference(version, Component(bytes[2]));
-    let broken =
-        broken_field(&fields, bytes).map(|field| (field.at, field_sentence(&field, bytes)));
-    match broken {
+    match broken_in_words(&fields, bytes) {
         Some(broken) if broken.0 <= at => Some(broken),
         _ if sections.unit(number).is_none() => {
             let unlisted = format!("unit is {number}; no unit of this number is listed");
@@ -139,16 +135,7 @@ fn out_of_order(sections: &Sections<'_>, before: (u32, u8), key: (u32, u8)) -> (
 
 /// Number 9: the first past entry with a field out of its limits.
 pub fn past(sections: &Sections<'_>) -> Option<Place> {
-    let part = Part::Section(Section::Past);
-    let mut records = sections.records(Section::Past).enumerate();
-    records.find_map(|(record, bytes)| {
-        let field = broken_field(&fields::PAST, bytes)?;
-        let name = names::of(part, sections.version(), record, bytes);
-        Some(Place {
-            part,
-            record,
-            at: field.at,
-            sentence: format!("{name}: {}", field_sentence(&field, bytes)),
-        })
+    first_record(sections, Section::Past, |record| {
+        broken_in_words(&fields::PAST, record)
     })
 }

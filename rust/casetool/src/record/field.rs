@@ -120,6 +120,8 @@ pub struct Field {
     /// Whether a text has to have it, and `show` writes it always; other fields are left out where
     /// they are 0.
     pub needed: bool,
+    /// Whether its day says it: a text may leave it out, and `show` writes it always.
+    pub of_day: bool,
     /// The values it may have.
     pub limit: Limit,
 }
@@ -137,6 +139,7 @@ impl Field {
             bytes,
             form,
             needed: false,
+            of_day: false,
             limit: Limit::Any,
         }
     }
@@ -151,6 +154,13 @@ impl Field {
 
     pub(crate) const fn needed_where(self, needed: bool) -> Field {
         Field { needed, ..self }
+    }
+
+    pub(crate) const fn of_day(self) -> Field {
+        Field {
+            of_day: true,
+            ..self
+        }
     }
 
     pub(crate) const fn within(self, low: i64, high: i64) -> Field {

@@ -16,7 +16,10 @@ const POWER: Form = Form::Amount(Measure::Power);
 const LARGEST_PRICE: i64 = 1_000_000;
 const LARGEST_CHANGE: i64 = 1_000_000_000;
 const LARGEST_POWER: i64 = 50_000;
-const LAST_DAY: i64 = 1_000_000;
+const HIGHEST_DAY: i64 = 1_000_000;
+
+/// 31 December 2099, the last day that is in a capability period.
+pub const LAST_DAY: u32 = 36_524;
 
 /// The key of the number of a unit, in every record that has one.
 pub const NUMBER: &str = "unit";
@@ -84,9 +87,12 @@ pub const CONSTRAINED_HOURS: Field =
     Field::new(("Constrained Hours", "constrained-hours"), (20, 2), PLAIN).within(0, 8_784);
 
 /// The day of a past entry or an event.
-const DAY: Field = Field::new(("day", "day"), (8, 4), Form::Day)
+pub const DAY: Field = Field::new(("day", "day"), (8, 4), Form::Day)
     .needed()
-    .within(0, LAST_DAY);
+    .within(0, HIGHEST_DAY);
+
+/// The capability period of a past entry or an event.
+pub const PERIOD: Field = Field::new(("period", "period"), (4, 2), PLAIN).of_day();
 
 /// The fields of a past entry.
 pub const PAST: [Field; 7] = [
@@ -97,7 +103,7 @@ pub const PAST: [Field; 7] = [
     Field::new(("market", "market"), (3, 1), Form::Name(MARKETS))
         .needed()
         .within(0, 1),
-    Field::new(("period", "period"), (4, 2), PLAIN).needed(),
+    PERIOD,
     Field::spare("spare-6", 6),
     Field::spare("spare-7", 7),
     DAY,
@@ -159,9 +165,6 @@ const COMPONENT: Field =
 pub const MARKET: Field = Field::new(("market", "market"), (1, 1), Form::Name(MARKETS))
     .needed()
     .within(0, 1);
-
-/// The capability period of an event.
-const PERIOD: Field = Field::new(("period", "period"), (4, 2), PLAIN).needed();
 
 /// The fields that every event has under one key, whatever its kind.
 pub fn of_every_event(version: Version) -> Vec<Field> {

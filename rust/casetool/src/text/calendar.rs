@@ -58,18 +58,6 @@ pub fn numeric_date(day: u32) -> String {
     format!("{year:04}-{:02}-{day:02}", month + 1)
 }
 
-/// May and November, in which a Summer and a Winter capability period begin, from 0.
-const SUMMER: usize = 4;
-const WINTER: usize = 10;
-
-/// The number of the capability period that a day is in. Period 0 is the Winter in which day 0 is,
-/// 1 the Summer from 1 May 2000, 2 the Winter from 1 November 2000, and so on.
-pub fn period(day: u32) -> u32 {
-    let (year, month, _) = parts(day);
-    let begun = u32::from(month >= SUMMER) + u32::from(month >= WINTER);
-    2 * (year - 2000) + begun
-}
-
 /// The day number of a date from 2000 to 9999 such as `2021-11-26`.
 pub fn day_of(date: &str) -> Option<u32> {
     let digits = |text: &str, count: usize| -> Option<u32> {

@@ -9,6 +9,7 @@ pub mod mistakes;
 pub mod near;
 mod needs;
 pub mod order;
+mod period;
 mod read;
 pub mod show;
 pub mod source;

@@ -2,7 +2,7 @@
 
 mod before;
 
-use attachment_h::layout::{HEADER_BYTES, HOURS, LARGEST_FILE, Section, Version, u16_at, u32_at};
+use attachment_h::layout::{HEADER_BYTES, HOURS, LARGEST_FILE, Section, Version};
 use attachment_h::{Component, Kind, Market, Mask};
 
 use super::line::{Line, TextError, Word, words};
@@ -11,7 +11,7 @@ use super::needs::{EventLine, UnitLine};
 use super::source::Record;
 use super::values::{Unknown, early_value, values};
 use super::version::{ROOM_AS_SAID, Said, Told, VERSION};
-use super::{amounts, calendar, hours, near};
+use super::{amounts, hours, near, period};
 use crate::record::field::{Field, Limit};
 use crate::record::fields;
 use crate::record::needs::Shape;
@@ -42,7 +42,7 @@ pub struct Reader<'a> {
     pub as_written: bool,
     /// What is wrong.
     pub mistakes: Mistakes,
-    /// What looks wrong, and is written all the same.
+    /// What is written all the same, though a case with it is refused.
     pub warnings: Vec<TextError>,
     references_only: bool,
     /// What says the version of a correction, beside its text.
@@ -193,7 +193,7 @@ impl<'a> Reader<'a> {
         let line = Line::of(first, rest, &mut self.mistakes);
         let found = self.record(Section::Past, &line, &fields::PAST);
         if let Some(record) = found {
-            self.look_at_period(&line, &record.bytes);
+            self.warnings.extend(period::warning(&line, &record.bytes));
             self.sections[Section::Past as usize].push(record);
         }
     }
@@ -217,7 +217,7 @@ impl<'a> Reader<'a> {
         }
         let record = self.record(Section::Events, &line, &fields);
         if let Some(record) = &record {
-            self.look_at_period(&line, &record.bytes);
+            self.warnings.extend(period::warning(&line, &record.bytes));
             self.events.push(EventLine {
                 shape,
                 unit: Section::Events.unit_number(self.version, &record.bytes),
@@ -235,22 +235,6 @@ impl<'a> Reader<'a> {
             }),
             false => Above::Unread,
         };
-    }
-
-    /// Warns of a period that is not its day's, in an event or a past entry: both have them at the
-    /// same offsets.
-    fn look_at_period(&mut self, line: &Line<'a>, record: &[u8]) {
-        let (period, day) = (u16_at(record, 4), u32_at(record, 8));
-        let of_day = calendar::period(day);
-        if of_day == u32::from(period) {
-            return;
-        }
-        self.warnings.extend(line.pair("period").map(|pair| {
-            let date = calendar::date(day);
-            pair.value.wrong(format!(
-                "day {day} ({date}) is in capability period {of_day}; {period} is written"
-            ))
-        }));
     }
 
     /// Ends the event to which hours may be added.

@@ -74,7 +74,7 @@ fn put_words(text: &mut String, start: &str, fields: &[Field], record: &[u8]) {
     let mut gap = if start.is_empty() { "" } else { " " };
     for field in fields {
         let value = field.value(record);
-        if field.needed || value != 0 {
+        if field.needed || field.of_day || value != 0 {
             put(
                 text,
                 format_args!("{gap}{} {}", field.key, field.form.text(value)),

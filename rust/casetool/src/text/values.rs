@@ -3,13 +3,13 @@
 use super::amounts::MEASURE_WORDS;
 use super::line::{Line, Pair, TextError, Word};
 use super::mistakes::Mistakes;
-use super::near;
+use super::{near, period};
 use crate::record::field::{Field, Form};
-use crate::record::fields::{NUMBER, OLD_NUMBER};
+use crate::record::fields::{DAY, NUMBER, OLD_NUMBER};
 
 /// The fields of a record, or of the cells of some hours, with the words that they came from.
 pub struct Values<'a> {
-    /// The bytes, 0 in the fields that are left out.
+    /// The bytes, 0 in the fields that are left out, but for one that the day says.
     pub bytes: Vec<u8>,
     /// The offset of each field that is there, with its value.
     pub words: Vec<(usize, Word<'a>)>,
@@ -49,21 +49,38 @@ pub fn values<'a>(
         }
         found.words.push((field.at, pair.value));
     }
-    let left_out: Vec<&str> = fields
-        .iter()
-        .filter(|field| field.needed)
-        .map(|field| field.key)
-        .filter(|key| !line.keys.contains(key) && !asked_about.contains(key))
-        .collect();
-    match left_out.as_slice() {
-        [] => {}
-        [key] => mistakes.add(line.last.missing(format!("expected the key {key}"))),
-        keys => mistakes.add(
-            line.last
-                .missing(format!("expected the keys {}", keys.join(", "))),
-        ),
+    let is_there = |key| line.keys.contains(key) || asked_about.contains(&key);
+    let left_out = fields.iter().filter(|field| !is_there(field.key));
+    let (of_day, others): (Vec<&Field>, Vec<&Field>) = left_out.partition(|field| field.of_day);
+    needed(line, &others, mistakes);
+    for field in of_day {
+        match by_day(line) {
+            Some(Ok(value)) => field.put(&mut found.bytes, value),
+            Some(Err(error)) => mistakes.add(error),
+            None => {}
+        }
     }
     (mistakes.count() == before).then_some(found)
+}
+
+/// Adds that a line lacks the keys of fields that are needed.
+fn needed(line: &Line<'_>, left_out: &[&Field], mistakes: &mut Mistakes) {
+    let needed = left_out.iter().filter(|field| field.needed);
+    let expected = match needed.map(|field| field.key).collect::<Vec<_>>()[..] {
+        [] => return,
+        [key] => format!("expected the key {key}"),
+        ref keys => format!("expected the keys {}", keys.join(", ")),
+    };
+    mistakes.add(line.last.missing(expected));
+}
+
+/// What the day of a line says that the line leaves out, its period; nothing where the day is missing or wrong, which is
+/// told by itself.
+fn by_day(line: &Line<'_>) -> Option<Result<i64, TextError>> {
+    let pair = line.pair(DAY.key)?;
+    let day = u32::try_from(value(pair, &DAY).ok()?).ok()?;
+    let period = period::of(day).map(i64::from);
+    Some(period.map_err(|problem| pair.value.wrong(problem)))
 }
 
 /// The value of a field that says how others are read: nothing where it is missing or wrong, which is told with the

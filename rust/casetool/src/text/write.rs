@@ -18,7 +18,7 @@ pub struct Written {
     pub bytes: Vec<u8>,
     /// Where its records stand in the text.
     pub positions: Positions,
-    /// What looks wrong in it, and is written all the same.
+    /// What is written all the same, though a case with it is refused.
     pub warnings: Vec<TextError>,
 }
 

@@ -1,6 +1,9 @@
 //! Fuel events by hand: the events of a party-day, E with its sign, T, M, X and the line of $5,000.
 
-use crate::{example, sheet, works};
+use attachment_h::fuel_day_counts;
+use casetool::text::calendar::day_of;
+
+use crate::{casetool_in_both, example, sheet, works};
 
 const EVENT_2: &str = "\
 Event 2: day 8000 (26 November 2021), fuel, Day-Ahead, unit 12
@@ -16,8 +19,8 @@ Event 2: day 8000 (26 November 2021), fuel, Day-Ahead, unit 12
   3. T (23.4.3.3.3): changes of TCC revenue (R), added; a sum below 0 counts 0
        event 2, unit 12  $200.00
        T                 $200.00
-  4. M (23.4.3.3.3): 1.5 where the group had a fuel penalty 1 to 183 days before, in either market, otherwise 1
-       M = 1.5: it had one
+  4. M (23.4.3.3.3): 1.5 where the group had a fuel penalty in the six months before, from the same day of the month on, in either market, otherwise 1
+       M = 1.5: it had one in the six months before 26 November 2021
   5. X (23.4.3.3.3): M × E + T
        1.5 × $7,000.000 + $200.00 = $10,700.0000
   6. Cut (23.4.3.3.3): where X, not yet rounded, is below $5,000 there is no penalty
@@ -34,7 +37,7 @@ fn the_example() {
 const DAY: &str = "Party-day (23.4.3.3.3): fuel events of one group, day and market count together, in the hours that any of them has";
 const E: &str = "E (23.4.3.3.3): changes of guarantee payments (Q), and energy × change of price in these hours, added";
 const T: &str = "T (23.4.3.3.3): changes of TCC revenue (R), added; a sum below 0 counts 0";
-const M: &str = "M (23.4.3.3.3): 1.5 where the group had a fuel penalty 1 to 183 days before, in either market, otherwise 1";
+const M: &str = "M (23.4.3.3.3): 1.5 where the group had a fuel penalty in the six months before, from the same day of the month on, in either market, otherwise 1";
 const X: &str = "X (23.4.3.3.3): M × E + T";
 const CUT: &str = "Cut (23.4.3.3.3): where X, not yet rounded, is below $5,000 there is no penalty";
 const PENALTY: &str = "Penalty (23.4.3.3.3): X, to the nearest cent, a half upwards; the row of the party-day's lowest unit has it";
@@ -55,6 +58,7 @@ fn described(unit: u8, group: u8) -> String {
     format!("day 8000 (26 November 2021), unit {unit}, group {group}, period 44")
 }
 
+const NO_PENALTY_BEFORE: &str = "M = 1: it had none in the six months before 26 November 2021";
 const NO_HOUR: &str =
     "no hour has inaccurate data and a failed impact test: of E the Q alone are left";
 
@@ -120,7 +124,7 @@ fn group_7(heading: &str, days: [&str; 2], penalty: &[&str]) -> String {
                     "T                 $150.00",
                 ],
             ),
-            (M, &["M = 1: it had none"]),
+            (M, &[NO_PENALTY_BEFORE]),
             (X, &["1 × $5,633.491 + $150.00 = $5,783.4910"]),
             (CUT, &["$5,783.4910 is not below $5,000"]),
             (PENALTY, penalty),
@@ -173,7 +177,7 @@ fn another_group() {
                 (DAY, &[&day, NO_HOUR]),
                 (E, &e),
                 (T, &t),
-                (M, &["M = 1: it had none"]),
+                (M, &[NO_PENALTY_BEFORE]),
                 (X, &["1 × -$9,000.000 + $0.00 is not above 0: X = $0.0000"]),
                 (CUT, &["$0.0000 is below $5,000: there is no penalty"]),
                 (PENALTY, &[penalty]),
@@ -195,7 +199,7 @@ fn the_other_market() {
                 (DAY, &[&day, NO_HOUR]),
                 (E, &["event 3, unit 13", "  Q  $1.00", "E    $1.000"]),
                 (T, &["T = $0.00: Real-Time has no TCC revenue"]),
-                (M, &["M = 1: it had none"]),
+                (M, &[NO_PENALTY_BEFORE]),
                 (X, &["1 × $1.000 + $0.00 = $1.0000"]),
                 (CUT, &["$1.0000 is below $5,000: there is no penalty"]),
                 (PENALTY, &[penalty]),
@@ -245,6 +249,46 @@ fn next_to_the_line() {
         "1.5 × $0.000 + $0.00 = $0.0000",
         "$0.0000 is below $5,000: there is no penalty",
         "$0.00, since X is below $5,000, on the row of event 0, unit 12",
+    );
+}
+
+/// M of an event of a date beside a past penalty of another, and what is said of it.
+fn m_of(date: &str, earlier: &str, m: &str, said: &str) {
+    let text = format!(
+        "{UNITS}past group 7 kind fuel market real-time day {earlier}\n\
+         event day {date} kind fuel market day-ahead unit 12 inaccurate-hours none guarantee-change 0 tcc-change 0\n"
+    );
+    let ran = casetool_in_both(&["working", "--event", "0"], text.as_bytes());
+    assert_eq!((ran.status, ran.errors.as_str()), (0, ""));
+    let expected = format!("\n  4. {M}\n       M = {m}: {said}\n");
+    assert!(ran.text().contains(&expected), "{earlier}: {}", ran.text());
+}
+
+#[test]
+fn six_months_by_the_calendar() {
+    for (date, counts, does_not, spoken) in [
+        ("2021-09-01", "2021-03-01", "2021-02-28", "1 September 2021"),
+        ("2001-08-31", "2001-02-28", "2001-02-27", "31 August 2001"),
+        ("2001-08-28", "2001-02-28", "2001-02-27", "28 August 2001"),
+        ("2001-08-28", "2001-08-27", "2001-02-26", "28 August 2001"),
+        ("2004-08-31", "2004-02-29", "2004-02-28", "31 August 2004"),
+        ("2000-06-30", "2000-01-01", "2000-06-30", "30 June 2000"),
+        ("2000-07-02", "2000-01-02", "2000-01-01", "2 July 2000"),
+    ] {
+        let before = format!("in the six months before {spoken}");
+        m_of(date, counts, "1.5", &format!("it had one {before}"));
+        m_of(date, does_not, "1", &format!("it had none {before}"));
+        for (earlier, expected) in [(counts, true), (does_not, false)] {
+            let [day, earlier] = [date, earlier].map(|date| day_of(date).expect("a date"));
+            assert_eq!(fuel_day_counts(day, earlier), Ok(expected));
+        }
+    }
+    // On day 0 there is no day before.
+    m_of(
+        "2000-01-01",
+        "2000-01-01",
+        "1",
+        "it had none in the six months before 1 January 2000",
     );
 }
 

@@ -254,7 +254,12 @@ pub fn fuel(sheet: &Sheet<'_>) -> (i128, bool) {
     let names = ["Party-day", "E", "T", "M", "X", "Cut", "Penalty"];
     assert_eq!(sheet.names(), names);
     let (e, t) = (follow_e(sheet.lines("E")), follow_t(sheet.lines("T")));
-    let m = match sheet.line("M") {
+    let line = sheet.line("M");
+    let (had, date) = line
+        .split_once(" in the six months before ")
+        .expect("a date");
+    assert!(sheet.lines("Party-day")[0].contains(&format!(" ({date}), ")));
+    let m = match had {
         "M = 1.5: it had one" => 3,
         "M = 1: it had none" => 2,
         other => panic!("{other}"),

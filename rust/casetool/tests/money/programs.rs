@@ -104,11 +104,12 @@ fn a_settlement_with_its_workings() {
 }
 
 /// The example settled with its workings, and what is good and bad in it.
-const CHANGES: [(&str, &str); 22] = [
+const CHANGES: [(&str, &str); 23] = [
     ("\"workings\": [", "\"workings\": [null, "),
     ("\"period\": 44,", ""),
     ("\"step\": 7,", "\"step\": 8,"),
     ("\"tariff\": \"23.4.3.4\"", "\"tariff\": 23"),
+    ("\"period\": 44", "\"period\": 201"),
     ("\"instance\": true", "\"instance\": 1"),
     ("\"n3_counted\": {", "\"n3_counted\": {\"more\": [],"),
     ("\"past\": [0]", "\"past\": [256]"),

@@ -3,7 +3,7 @@
 use std::ops::Range;
 
 use attachment_h::ROWS_LENGTH;
-use attachment_h::layout::{Section, Version};
+use attachment_h::layout::{Section, Version, put_u16, put_u32};
 use cases::Random;
 use cases::case::{Input, file_in, section_place, sections_of, version_of};
 use cases::generator::Size;
@@ -53,24 +53,34 @@ fn the_first_of_many_is_named() {
     assert_eq!(cases, 150);
 }
 
+/// A case with every record of some sections changed.
+fn with_every_record(
+    input: &Input,
+    sections: &[Section],
+    change: impl Fn(Section, &mut [u8]),
+) -> Input {
+    let mut bad = input.clone();
+    let version = version_of(&bad.file);
+    for &section in sections {
+        let (offset, length) = section_place(&bad.file, section as usize);
+        let records = &mut bad.file[offset..offset + length];
+        for record in records.chunks_exact_mut(width(version, section as usize)) {
+            change(section, record);
+        }
+    }
+    bad
+}
+
 #[test]
 fn the_first_of_many_numbers_is_named() {
     // 17: an old number, or a number above 999,999, in every record of some sections.
     let mut random = Random::new(716);
     let version = Version::Two;
     let broken = |input: &Input, sections: &[Section], old: bool| {
-        let mut bad = input.clone();
-        for &section in sections {
-            let (offset, length) = section_place(&bad.file, section as usize);
-            let records = &mut bad.file[offset..offset + length];
-            for record in records.chunks_exact_mut(width(version, section as usize)) {
-                match old {
-                    true => section.put_unit_number(Version::One, record, 65_535),
-                    false => section.put_unit_number(version, record, 1_000_000),
-                }
-            }
-        }
-        bad
+        with_every_record(input, sections, |section, record| match old {
+            true => section.put_unit_number(Version::One, record, 65_535),
+            false => section.put_unit_number(version, record, 1_000_000),
+        })
     };
     use Section::{Events, References, Units};
     for _ in 0..50 {
@@ -89,6 +99,55 @@ fn the_first_of_many_numbers_is_named() {
             }
         }
     }
+}
+
+/// 18 and 19 in every past entry and event, in every event alone, and 18 in the last event after 19 in all others.
+fn days_and_periods(input: &Input) {
+    use Section::{Events, Past};
+    let records = |section: Section| {
+        let version = version_of(&input.file);
+        section_place(&input.file, section as usize).1 / width(version, section as usize)
+    };
+    let named = |bad: &Input, expected: (u8, Section, usize, usize)| {
+        let (number, place) = found(bad).expect("a refusal");
+        let (expected_number, section, record, at) = expected;
+        assert_eq!(place.part, Part::Section(section));
+        assert_eq!(
+            (number, place.record, place.at),
+            (expected_number, record, at)
+        );
+        names_its_record(&place);
+    };
+    let late = |_: Section, record: &mut [u8]| put_u32(record, 8, 36_525);
+    let other_period = |_: Section, record: &mut [u8]| put_u16(record, 4, 201);
+    for sections in [&[Past, Events][..], &[Events]] {
+        let first = match records(sections[0]) {
+            0 => Events,
+            _ => sections[0],
+        };
+        named(&with_every_record(input, sections, late), (18, first, 0, 8));
+        let mut bad = with_every_record(input, sections, other_period);
+        named(&bad, (19, first, 0, 4));
+        let last = bad.file.len() - width(version_of(&bad.file), Events as usize);
+        late(Events, &mut bad.file[last..]);
+        named(&bad, (18, Events, records(Events) - 1, 8));
+    }
+}
+
+#[test]
+fn the_first_of_many_days_and_periods_is_named() {
+    let mut random = Random::new(718);
+    let (mut cases, mut with_past) = (0, 0);
+    for place in 0..50 {
+        let input = every_kind(in_turn(place), &mut random, Size::Small).input();
+        for input in input.with_copy() {
+            days_and_periods(&input);
+            cases += 1;
+            with_past += usize::from(section_place(&input.file, Section::Past as usize).1 > 0);
+        }
+    }
+    println!("{cases} cases, {with_past} with past entries");
+    assert!(cases == 75 && with_past > 30);
 }
 
 /// The sections of a case, and its version.

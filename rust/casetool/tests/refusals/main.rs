@@ -60,7 +60,7 @@ fn section_of(fault: &Fault, good: &Input, bad: &Input) -> Option<Section> {
         9 => Some(Section::Past),
         10..=14 => Some(Section::Events),
         // The first that changed.
-        17 => {
+        17..=19 => {
             let (good, bad) = (sections_of(&good.file), sections_of(&bad.file));
             let mut sections = Section::ALL.into_iter();
             sections.find(|section| good[*section as usize] != bad[*section as usize])
@@ -95,8 +95,13 @@ fn expected(fault: &Fault, good: &Input, bad: &Input) -> (Part, Option<usize>, O
         name if name.contains("out of order") => (part, record.map(|record| record + 1), None),
         name if name.contains("twice") => (part, record, None),
         "an event again at the end" => (part, Some(good.len() / width(version, place)), None),
-        _ if fault.number == 14 => (part, None, Some(6)),
-        _ => (part, record, field),
+        _ => match fault.number {
+            14 => (part, None, Some(6)),
+            18 => (part, record, Some(8)),
+            // The period, where the day changed too.
+            19 => (part, record, Some(4)),
+            _ => (part, record, field),
+        },
     }
 }
 
@@ -178,6 +183,7 @@ fn found(input: &Input) -> Option<(u8, Place)> {
         input.rows_len,
     );
     let meaning = Refused(number).meaning();
+    assert_ne!(meaning, Refused(0).meaning(), "{number}");
     let start = format!("refused {number}: {meaning}\n{}\n", place.sentence);
     assert!(refusal.to_string().starts_with(&start), "{refusal}");
     Some((number, place))

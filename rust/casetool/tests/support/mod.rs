@@ -68,9 +68,16 @@ fn run(arguments: &[&str], mut input: &[u8]) -> Ran {
 
 /// The case file of a text that has nothing wrong, with or without events.
 pub fn written(text: &str) -> Vec<u8> {
+    let (file, warnings) = written_and_warned_of(text);
+    assert_eq!(warnings, "");
+    file
+}
+
+/// The case file of a text that can be read, and what is warned of.
+pub fn written_and_warned_of(text: &str) -> (Vec<u8>, String) {
     let ran = casetool(&["write", "--allow-empty"], text.as_bytes());
-    assert_eq!((ran.status, ran.errors.as_str()), (0, ""));
-    ran.output
+    assert_eq!(ran.status, 0, "{}", ran.errors);
+    (ran.output, ran.errors)
 }
 
 /// The versions in turn.

@@ -1,6 +1,6 @@
 //! Cases that are refused with a number, at a place.
 
-use super::{Ran, casetool_in_both, written};
+use super::{Ran, casetool_in_both, written_and_warned_of};
 
 /// Two units of one group.
 pub const UNITS: &str = "unit 12 group 7 area no capability 500.0 MW response-rate 10.0 MW/min\n\
@@ -14,7 +14,7 @@ pub fn text_of(ran: &Ran) -> &str {
 
 /// That a text beside two units, in the order in which it stands, is refused with this number at this place.
 pub fn refused(number: u8, text: &str, place: &str) {
-    let file = written(&format!("order as-written\n{UNITS}{text}"));
+    let (file, _) = written_and_warned_of(&format!("order as-written\n{UNITS}{text}"));
     let ran = casetool_in_both(&["check"], &file);
     let (first, rest) = text_of(&ran).split_once('\n').expect("two lines");
     assert!(first.starts_with(&format!("refused {number}: ")), "{first}");

@@ -56,11 +56,11 @@ const RECORDS_AND_KEYS: [(&str, &str); 12] = [
     ),
     (
         "past group 7 kind fuel",
-        "line 1, column 23: expected the keys market, period, day",
+        "line 1, column 23: expected the keys market, day",
     ),
     (
         "event day 3",
-        "line 1, column 12: expected the keys kind, market, unit, period",
+        "line 1, column 12: expected the keys kind, market, unit",
     ),
     (
         "event day 3 kind bids market 0 unit 1 period 0 impact-hours none",

@@ -119,7 +119,7 @@ fn changed_texts_are_always_answered() {
         assert_eq!(ran.status, u8::from(kind != "accepted"));
         // Every refusal of a text has its place there.
         if kind == "refused" {
-            assert!(matches!(value.at("number").integer(), 6..=14 | 17));
+            assert!(matches!(value.at("number").integer(), 6..=14 | 17..=19));
             let lines = text_of(&bytes).expect("a text").lines().count();
             assert!((1..=lines as i128).contains(&value.at("line").integer()));
             assert!(value.at("column").integer() >= 1);

@@ -303,19 +303,33 @@ fn a_field_that_was_left_out_has_the_line_of_its_record() {
 }
 
 #[test]
-fn a_period_that_is_not_its_days_is_warned_of() {
-    let text = format!("{UNITS}{} 12\n", WITHHELD.replace("44", "43"));
-    let warning = "casetool: warning: standard input: line 4, column 48, '43': day 8000 (26 November 2021) is in capability period 44; 43 is written\n";
-    for arguments in [
-        &["check"][..],
-        &["settle", "--format", "json"],
-        &WORKING,
-        &MONEY,
-        &EXPLAINED,
-        &["line"],
+fn a_refusal_of_a_day_or_a_period_has_its_line_and_column() {
+    let past = |day: u32, period: u16| {
+        format!("past group 7 kind fuel market RTM day {day} period {period}\n")
+    };
+    for (number, text, place) in [
+        (
+            19,
+            format!("{UNITS}{} 12\n", WITHHELD.replace("44", "43")),
+            "FILE: line 4, column 48: event 0 (day 8000, withheld, Day-Ahead, unit 12): period is 43; expected 44, that of day 8000 (26 November 2021)",
+        ),
+        (
+            19,
+            format!("{UNITS}{}{}{WITHHELD} 12\n", past(7974, 43), past(7975, 43)),
+            "FILE: line 5, column 51: past, record 1 (group 7, fuel, Real-Time): period is 43; expected 44, that of day 7975 (1 November 2021)",
+        ),
+        (
+            18,
+            format!("{UNITS}{}{WITHHELD} 12\n", past(36_525, 200)),
+            "FILE: line 4, column 39: past, record 0 (group 7, fuel, Real-Time): day is 36,525 (1 January 2100); expected 0 to 36,524 (31 December 2099)",
+        ),
+        (
+            18,
+            format!("{UNITS}{} 12\n", WITHHELD.replace("8000", "2100-01-01")),
+            "FILE: line 4, column 11: event 0 (day 36525, withheld, Day-Ahead, unit 12): day is 36,525 (1 January 2100); expected 0 to 36,524 (31 December 2099)",
+        ),
     ] {
-        let ran = casetool_in_both(arguments, text.as_bytes());
-        assert_eq!((ran.status, ran.errors.as_str()), (0, warning));
+        refused(number, &text, place);
     }
 }
 

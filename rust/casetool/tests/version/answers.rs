@@ -191,7 +191,7 @@ fn the_schema_would_notice() {
     assert_eq!(value.at("version").integer(), 2);
     for (good, bad) in [
         ("\"number\": 17", "\"number\": 16"),
-        ("\"number\": 17", "\"number\": 18"),
+        ("\"number\": 17", "\"number\": 20"),
     ] {
         let changed = crate::support::json::parse(&ran.text().replacen(good, bad, 1));
         assert!(

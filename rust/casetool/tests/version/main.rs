@@ -10,7 +10,7 @@ mod places;
 mod support;
 
 use attachment_h::layout::Sections;
-use support::{casetool, repository, written};
+use support::{casetool, repository, written_and_warned_of};
 
 /// A unit of this number.
 fn unit(number: u64) -> String {
@@ -44,7 +44,7 @@ const PAST: &str = "past group 7 kind fuel market 0 period 0 day 0\n";
 
 /// The number of the version of the file that a text gives.
 fn version_of(text: &str) -> u16 {
-    let file = written(text);
+    let (file, _) = written_and_warned_of(text);
     Sections::of(&file).expect("sections").version().number()
 }
 

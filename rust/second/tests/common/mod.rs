@@ -4,6 +4,7 @@
 
 pub mod version_2;
 
+use cases::calendar::{first_of_period, period_of};
 use cases::case::{ROW_BYTES, correction_bytes};
 use cases::{Case, Component, Kind, Market, Past, Reference, Row, Unit, Version};
 use second::calls::BidHour;
@@ -45,24 +46,24 @@ pub fn reference(unit: u32, component: u8, value: u32) -> Reference {
     }
 }
 
-/// A kind 1 past entry, whose day is of no account.
+/// A kind 1 past entry on the first day of the period, which is all that its day is for.
 pub fn past_withheld(group: u16, market: Market, period: u16) -> Past {
     Past {
         group,
         kind: Kind::WITHHELD,
         market,
         period,
-        day: 0,
+        day: first_of_period(period),
     }
 }
 
-/// A kind 3 past entry, whose period is of no account.
+/// A kind 3 past entry, with its day's period, which is of no other account.
 pub fn past_fuel(group: u16, market: Market, day: u32) -> Past {
     Past {
         group,
         kind: Kind::FUEL,
         market,
-        period: 0,
+        period: period_of(day),
         day,
     }
 }

@@ -1,4 +1,4 @@
-//! Multipliers, penalties and windows (docs/RULES.md, S).
+//! Multipliers, penalties and the windows of periods (docs/RULES.md, S).
 
 use cases::{Case, Event, Market};
 use second::calls;
@@ -85,7 +85,7 @@ fn a_fourth_instance_is_counted_over_two_periods() {
     // 4 × 501 × 4,000 / 20
     assert_eq!(row.penalty.0, 400_800);
     // The first entry one period later: N2 4.
-    case.past[0].period = 43;
+    case.past[0] = past_withheld(7, Market::DAY_AHEAD, 43);
     let row = rows_of(&case, &[]).remove(0);
     assert_eq!((row.n3, row.n2, row.multiplier.0), (4, 4, 6));
     assert_eq!(row.penalty.0, 601_200);
@@ -153,22 +153,4 @@ fn fuel_penalties_in_a_case() {
         (row.flags.0, row.multiplier.0, row.penalty.0),
         (0, 2, 500_000)
     );
-}
-
-#[test]
-fn fuel_days_183_before_count() {
-    assert_eq!(calls::fuel_day_window(8_000, 8_000 - 183), Ok(true));
-    assert_eq!(calls::fuel_day_window(8_000, 8_000 - 184), Ok(false));
-    assert_eq!(calls::fuel_day_window(8_000, 8_000), Ok(false));
-    assert_eq!(calls::fuel_day_window(8_000, 7_999), Ok(true));
-    assert_eq!(calls::fuel_day_window(8_000, 8_001), Ok(false));
-    for (day, m) in [(7_817, 3), (7_816, 2), (8_000, 2), (7_999, 3), (8_001, 2)] {
-        let case = Case {
-            units: vec![unit(12, 7)],
-            past: vec![past_fuel(7, Market::DAY_AHEAD, day)],
-            events: vec![Event::fuel(8_000, Market::DAY_AHEAD, 12, (1, 0, 0), &[])],
-            ..Case::default()
-        };
-        assert_eq!(rows_of(&case, &[])[0].multiplier.0, m, "entry of day {day}");
-    }
 }

@@ -60,8 +60,8 @@ fn fuel_penalties_raise_later_ones() {
             large(100, Market::DAY_AHEAD),
             large(100, Market::REAL_TIME),
             large(101, Market::REAL_TIME),
-            large(284, Market::DAY_AHEAD), // 183 days after 101
-            large(468, Market::DAY_AHEAD), // 184 days after 284
+            large(284, Market::DAY_AHEAD), // six months after 101, 11 April 2000
+            large(467, Market::DAY_AHEAD), // a day more than six months after 284
         ]),
         [
             (2, 600_000),

@@ -1,5 +1,6 @@
 //! Small cases worked by hand, for each reading that is open in the words or easy to get wrong.
 
+mod calendar;
 #[path = "../common/mod.rs"]
 mod common;
 mod conduct;

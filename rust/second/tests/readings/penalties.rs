@@ -1,5 +1,6 @@
 //! Instances, multipliers and penalties of withheld and dispatch events (docs/RULES.md, S1 to S8), and zero as a number.
 
+use cases::calendar::first_of_period;
 use cases::{Case, Event, Market, Past, Unit};
 
 use crate::common::{past_fuel, past_withheld, rows_of, unit};
@@ -73,9 +74,9 @@ fn withheld_penalty_sums_the_flagged_hours_and_rounds_once() {
     assert_eq!(penalty(&[(0, 501, 5), (1, 501, 5)]), 501);
 }
 
-/// An instance: 501 of a unit of 5,000 fails, whatever its group has.
-fn fails(day: u32, market: Market, unit: u32, period: u16) -> Event {
-    Event::withheld(day, market, unit, &[(0, 501, 20)]).in_period(period)
+/// An instance on this day of a period, from 0: 501 of a unit of 5,000 fails, whatever its group has.
+fn fails(period: u16, day: u32, market: Market, unit: u32) -> Event {
+    Event::withheld(first_of_period(period) + day, market, unit, &[(0, 501, 20)])
 }
 
 /// N3, N2 and the multiplier of all events.
@@ -91,16 +92,16 @@ fn instances_count_by_place_in_the_file() {
     let mut case = Case {
         units: vec![unit(1, 7), unit(2, 7), unit(3, 8)],
         events: vec![
-            fails(1, Market::DAY_AHEAD, 1, 4), // 1, 1
-            fails(1, Market::DAY_AHEAD, 2, 4), // the lower unit of the same day counts: 2, 2
-            fails(1, Market::DAY_AHEAD, 3, 4), // another group: 1, 1
-            fails(1, Market::REAL_TIME, 1, 4), // another market: 1, 1
-            fails(2, Market::DAY_AHEAD, 1, 6), // two periods later: 3, 1
-            fails(3, Market::DAY_AHEAD, 1, 5), // period 6 is later and doesn't count: 3, 3
-            fails(4, Market::DAY_AHEAD, 1, 7), // 5 and 6 count, 4 doesn't: 3, 2
-            fails(5, Market::DAY_AHEAD, 1, 7), // 5, 6 and 7: 4, 3
-            fails(6, Market::DAY_AHEAD, 1, 7), // 5, 4
-            fails(7, Market::DAY_AHEAD, 1, 0), // nothing before period 0: 1, 1
+            fails(4, 0, Market::DAY_AHEAD, 1),  // 1, 1
+            fails(4, 0, Market::DAY_AHEAD, 2),  // the lower unit of the same day counts: 2, 2
+            fails(4, 0, Market::DAY_AHEAD, 3),  // another group: 1, 1
+            fails(4, 0, Market::REAL_TIME, 1),  // another market: 1, 1
+            fails(6, 0, Market::DAY_AHEAD, 1),  // two periods later: 3, 1
+            fails(7, 0, Market::DAY_AHEAD, 1),  // 6 counts, 4 doesn't: 2, 2
+            fails(7, 1, Market::DAY_AHEAD, 1),  // 6 and 7: 3, 3
+            fails(7, 2, Market::DAY_AHEAD, 1),  // 4, 4
+            fails(9, 0, Market::DAY_AHEAD, 1),  // 7 counts for N3 alone: 4, 1
+            fails(12, 0, Market::DAY_AHEAD, 1), // nothing in 10 to 12: 1, 1
         ],
         ..Case::default()
     };
@@ -112,10 +113,10 @@ fn instances_count_by_place_in_the_file() {
             (1, 1, 2),
             (1, 1, 2),
             (3, 1, 4),
+            (2, 2, 2),
             (3, 3, 4),
-            (3, 2, 4),
-            (4, 3, 4),
-            (5, 4, 6),
+            (4, 4, 6),
+            (4, 1, 4),
             (1, 1, 2),
         ]
     );
@@ -130,25 +131,31 @@ fn every_repeat_of_a_past_entry_counts() {
     let mut case = Case {
         units: vec![unit(1, 7)],
         past: vec![past_withheld(7, Market::DAY_AHEAD, 3); 3],
-        events: vec![Event::withheld(9, Market::DAY_AHEAD, 1, &[(0, 501, 20)]).in_period(4)],
+        events: vec![fails(4, 9, Market::DAY_AHEAD, 1)],
         ..Case::default()
     };
     let counts = |case: &Case| {
         let row = &rows_of(case, &[])[0];
+        let counted = second::instances(&case.to_bytes(), &[], 0).unwrap();
+        assert_eq!(
+            (counted.three.count(), counted.two.count()),
+            (row.n3, row.n2)
+        );
         (row.n3, row.n2, row.multiplier.0, row.penalty.0)
     };
     // 6 × 501 × 20 / 20
     assert_eq!(counts(&case), (4, 4, 6, 3_006));
-    // Another group, the other market, a fuel entry, a later period, a day: all without effect.
+    // Another group, the other market, a fuel entry, a later period, one too early: all without effect.
     case.past.extend([
         past_withheld(8, Market::DAY_AHEAD, 3),
         past_withheld(7, Market::REAL_TIME, 3),
-        past_fuel(7, Market::DAY_AHEAD, 8),
+        past_fuel(7, Market::DAY_AHEAD, first_of_period(3)),
         past_withheld(7, Market::DAY_AHEAD, 5),
         past_withheld(7, Market::DAY_AHEAD, 1),
     ]);
     assert_eq!(counts(&case), (4, 4, 6, 3_006));
-    for day in [0, 9, 1_000_000] {
+    // Period 2 from 1 November 2000 to 30 April 2001: its days are all alike.
+    for day in [305, 400, 485] {
         case.past[0] = Past {
             day,
             ..past_withheld(7, Market::DAY_AHEAD, 2)

@@ -21,6 +21,7 @@ fn refusals_of_the_smaller_calls() {
     withheld_and_dispatch();
     multipliers_and_penalties();
     fuel();
+    days();
     default_bids();
     make_ups();
 }
@@ -105,8 +106,16 @@ fn fuel() {
         calls::fuel_penalty(100_000_000_000_000, 64_000_000_000, 3),
         Ok(15_064_000_000_000)
     );
-    assert_eq!(calls::fuel_day_window(1_000_001, 0), Err(10));
-    assert_eq!(calls::fuel_day_window(0, 1_000_001), Err(10));
+}
+
+fn days() {
+    assert_eq!(calls::fuel_day_window(36_524, 36_523), Ok(true));
+    assert_eq!(calls::period_of(36_524), Ok(200));
+    for beyond in [36_525, 36_526, 1_000_000, 1_000_001, u32::MAX] {
+        assert_eq!(calls::fuel_day_window(beyond, 36_524), Err(10), "{beyond}");
+        assert_eq!(calls::fuel_day_window(36_524, beyond), Err(10), "{beyond}");
+        assert_eq!(calls::period_of(beyond), Err(10), "{beyond}");
+    }
 }
 
 fn default_bids() {

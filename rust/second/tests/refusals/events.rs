@@ -7,7 +7,7 @@ use crate::common::{number, reference, unit};
 use crate::{full, of_bytes};
 
 /// The number of a case whose only event is this one, with references for all components.
-fn of_event(event: Event) -> u8 {
+pub fn of_event(event: Event) -> u8 {
     let case = Case {
         units: vec![unit(12, 7)],
         references: (0..9)
@@ -33,14 +33,19 @@ fn of_event_with_byte(event: Event, at: usize, value: u8) -> u8 {
     of_bytes(&file)
 }
 
-#[test]
-fn event_ranges_of_every_kind() {
-    let kinds = [
+/// An event of each kind.
+pub fn kinds() -> [Event; 4] {
+    [
         Event::withheld(0, Market::REAL_TIME, 12, &[]).with_impact(0),
         Event::dispatch(0, 12, &[]).with_impact(0),
         Event::fuel(0, Market::REAL_TIME, 12, (0, 0, 0), &[]),
         Event::bids(0, Market::REAL_TIME, 12, 0, 0, &[]),
-    ];
+    ]
+}
+
+#[test]
+fn event_ranges_of_every_kind() {
+    let kinds = kinds();
     for event in kinds {
         assert_eq!(of_event(event), 0);
         ranges_of_the_head(event);
@@ -75,20 +80,6 @@ fn ranges_of_the_head(event: Event) {
         "impact 1 in kind {kind}"
     );
     assert_eq!(of_event_with_byte(event, 7, 2), 10, "impact 2");
-    assert_eq!(
-        of_event(Event {
-            day: 1_000_000,
-            ..event
-        }),
-        0
-    );
-    assert_eq!(
-        of_event(Event {
-            day: 1_000_001,
-            ..event
-        }),
-        10
-    );
 }
 
 fn ranges_of_words(event: Event) {

@@ -1,5 +1,6 @@
 //! "What a case can break": each example, each range, the order of the numbers, and the listing.
 
+mod calendar;
 mod calls;
 #[path = "../common/mod.rs"]
 mod common;

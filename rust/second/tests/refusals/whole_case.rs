@@ -184,8 +184,4 @@ fn event_order_by_each_field() {
         case.events.reverse();
         assert_eq!(number(&case, &[]), 11);
     }
-    // The period is no part of the order: two events that differ in it only are the same twice.
-    let mut case = full();
-    case.events = vec![withheld.in_period(1), withheld.in_period(2)];
-    assert_eq!(number(&case, &[]), 11);
 }

@@ -1,9 +1,9 @@
 use mathlib.Core.Path.{_≡_, sym, _∙_}
 use native.Mathlib.Omega.{arith}
 use Rattle.casefile.specs.Decode.{formatIn, sectionOf}
-use Rattle.limits.specs.StageRefusal.{headerRefusal, recordsRefusal}
+use Rattle.limits.specs.StageRefusal.{headerRefusal, recordsRefusal, fieldsRefusal}
 use Rattle.limits.proofs.RangeLaws.{event-numbers, numbers-in-order, references-in-order, correct-in-order}
-use Rattle.limits.proofs.RefusalLaws.{HeaderFine, RecordsFine, header-fine, records-fine, header-long, has-section, refusal-header, refusal-records, refusal-events}
+use Rattle.limits.proofs.RefusalLaws.{HeaderFine, RecordsFine, header-fine, records-fine, header-long, has-section, refusal-header, refusal-records, refusal-fields, refusal-found}
 use Rattle.limits.proofs.SectionLaws.{events-fit}
 use Rattle.event_check.proofs.CheckedLaws.{handed-on}
 use Rattle.case_check.proofs.check.check_into.Statement.{statement}
@@ -28,6 +28,22 @@ fine-records : (c : tie.After-records-refusal) → c .records-refusal .result �
     RecordsFine (formatIn (s .file .now)) (sectionOf (s .file .now) 0) (sectionOf (s .file .now) 1) (s .correction .now) (sectionOf (s .file .now) 2) (sectionOf (s .file .now) 3)
 fine-records c e = records-fine _ _ _ _ _ _ 0 (sym (records c) ∙ e) .0
 
+-- what the third stage gave, over the file
+fields : (c : tie.After-fields-refusal) → let s = c .before .before .before .before .before .before .before .before .before .before .before .before .args in
+    c .fields-refusal .result ≡ fieldsRefusal (formatIn (s .file .now)) (sectionOf (s .file .now) 2) (sectionOf (s .file .now) 3) 0
+fields c =
+    let r = c .before .before in
+    let o = r .before .before in
+    rw (c .fields-refusal .ensures, r .before .section4 .ensures, o .section3 .ensures, o .before .before .before .format-of .ensures)
+
+-- the header and the records break no limit
+first-stages : (c : tie.After-fields-refusal) → let s = c .before .before .before .before .before .before .before .before .before .before .before .before .args in
+    (headerRefusal (s .file .now) 0 ≡ 0)
+    × (recordsRefusal (formatIn (s .file .now)) (sectionOf (s .file .now) 0) (sectionOf (s .file .now) 1) (s .correction .now) (sectionOf (s .file .now) 2) (sectionOf (s .file .now) 3) 0 ≡ 0)
+first-stages c =
+    let r = c .before .before in
+    (header (r .before .before .before .before .before .before), sym (records r) ∙ c .before .if2 .left)
+
 pub check-into-spec : {M : Type 1} → statement M
 check-into-spec =
     tie.close
@@ -42,23 +58,30 @@ check-into-spec =
     (λ c κs. tt)
     (λ c. (refusal-records _ _ _ _ (header (c .before .before .before .before .before .before .before)) (records (c .before)) (c .if2 .taken), λ z. absurd (c .if2 .taken z)))
     (λ c κs.
-    let r = c .before .before .before .before in
+    let r = c .before in
     let o = r .before .before in
-    let z = c .before .before .before .if2 .left in
-    let f = fine-records r z in
+    rw (o .before .before .before .format-of .ensures, r .before .section4 .ensures) (event-numbers _ _ _ _ (fine-records r (c .if2 .left) .numbers-fine)))
+    (λ c.
+    let k = first-stages (c .before) in
+    (refusal-fields _ _ _ (k .0) (k .1) _ (fields (c .before)) (c .if3 .taken), λ z. absurd (c .if3 .taken z)))
+    (λ c κs.
+    let r = c .before .before .before .before .before .before in
+    let o = r .before .before in
+    let f = fine-records r (c .before .before .before .before .before .if2 .left) in
     let t = o .before .before .before .format-of .ensures in (
       rw (t, o .before .before .section .ensures) (numbers-in-order _ _ (f .units-fine)),
       rw (t, o .before .section2 .ensures) (references-in-order _ _ _ (f .references-fine)),
       rw (t, o .before .section2 .ensures) (correct-in-order _ _ _ _ (f .references-fine) (f .correction-fine)),
       rw (t, r .before .section4 .ensures) (events-fit _ (fine (o .before .before .before .before))),
-      rw (t, r .before .section4 .ensures) (event-numbers _ _ _ _ (f .numbers-fine)),
     ))
     (λ c.
-    let r = c .before .before .before .before .before in
-    let o = r .before .before in (
+    let q = c .before .before .before .before .before in
+    let r = q .before .before in
+    let o = r .before .before in
+    let k = first-stages q in (
       rw (
-        ← refusal-events _ _ _ (header (o .before .before .before .before)) (sym (records r) ∙ c .before .before .before .before .if2 .left),
-        c .events-refusal .ensures .0,
+        ← refusal-found _ _ _ (k .0) (k .1) (sym (fields q) ∙ c .before .before .before .before .if3 .left),
+        c .found-refusal .ensures .0,
         r .before .section4 .ensures,
         o .before .section2 .ensures,
         o .before .before .section .ensures,
@@ -66,5 +89,5 @@ check-into-spec =
       ),
       λ z. handed-on _ _ _ _ _
           (rw (r .before .section4 .ensures, o .before .section2 .ensures, o .before .before .section .ensures, o .before .before .before .format-of .ensures) at
-          (c .events-refusal .ensures .1 z)),
+          (c .found-refusal .ensures .1 z)),
     )))

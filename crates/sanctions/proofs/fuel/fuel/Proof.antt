@@ -10,7 +10,7 @@ use Rattle.sanctions.proofs.fuel.fuel.Tie as tie
 
 small : (c : tie.After-party-day) → SmallDay (c .party-day .result)
 small c =
-    let s = c .before .before .before .before .before .before .before .before .before in
+    let s = c .before .before .before .before .before .before .before .before .before .before in
     rw (c .party-day .ensures)
     (day-small (s .args .format) (s .args .events .now) (s .args .leaders .now) _ (s .args .i) (s .pre .2) (s .pre .3) _ (le-refl _) (s .pre .1))
 
@@ -25,8 +25,11 @@ fuel-spec =
     (λ c κs. search needs)
     (λ c. search needs)
     (λ c. search needs)
-    (λ c κs. search needs)
-    (λ c κs. tt)
+    (λ c κs.
+    let s = c .before .before .before .before in
+    rw (c .before .event-at .ensures) (s .pre .3 .days (s .args .i) (s .pre .0) (s .pre .2)))
+    (λ c κs. let s = c .before .before .before .before .before in (omega (arith, s .pre .0), omega (arith, s .pre .0, s .pre .1), c .window-start .ensures))
+    (λ c κs. c .before .window-start .ensures)
     (λ c κs. tt)
     (λ c. search needs)
     (λ c. search needs)
@@ -47,5 +50,5 @@ fuel-spec =
       m .multiplier-after .ensures,
       m .before .prior-past .ensures,
       h .prior-here .ensures,
-      h .before .before .event-at .ensures,
+      h .before .before .before .event-at .ensures,
     )))

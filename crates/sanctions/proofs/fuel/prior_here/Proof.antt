@@ -9,10 +9,10 @@ use Rattle.sanctions.proofs.fuel.prior_here.Statement.{statement}
 use Rattle.sanctions.proofs.fuel.prior_here.Tie as tie
 
 abbrev Inv-loop : tie.InvT-loop
-Inv-loop format events groups penalties day group i any₀ j₀ any j = (j ≤ i) × (any ≡ anyTo j (fuelRowCounts format events groups penalties day group))
+Inv-loop format events groups penalties first day group i any₀ j₀ any j = (j ≤ i) × (any ≡ anyTo j (fuelRowCounts format events groups penalties day group))
 
 abbrev μ-loop : tie.MeasureT-loop
-μ-loop format events groups penalties day group i any₀ j₀ any j = i - j
+μ-loop format events groups penalties first day group i any₀ j₀ any j = i - j
 
 pub prior-here-spec : {M : Type 1} → statement M
 prior-here-spec =

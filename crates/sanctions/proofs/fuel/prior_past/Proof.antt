@@ -10,10 +10,10 @@ use Rattle.sanctions.proofs.fuel.prior_past.Statement.{statement}
 use Rattle.sanctions.proofs.fuel.prior_past.Tie as tie
 
 abbrev Inv-loop : tie.InvT-loop
-Inv-loop past day group n any₀ j₀ any j = (j ≤ pastIn past .count) × (any ≡ anyTo j (fuelEntryCounts past day group))
+Inv-loop past first day group n any₀ j₀ any j = (j ≤ pastIn past .count) × (any ≡ anyTo j (fuelEntryCounts past day group))
 
 abbrev μ-loop : tie.MeasureT-loop
-μ-loop past day group n any₀ j₀ any j = pastIn past .count - j
+μ-loop past first day group n any₀ j₀ any j = pastIn past .count - j
 
 pub prior-past-spec : {M : Type 1} → statement M
 prior-past-spec =

@@ -1,4 +1,3 @@
-use mathlib.Core.Path.{refl}
 use borrow.Author.Needs.{needs}
 use Rattle.tariff.specs.SanctionRules.{fuelDayCounts}
 use Rattle.tariff.proofs.sanction_rules.fuel_day_counts.Statement.{statement}
@@ -9,5 +8,6 @@ unfolding fuelDayCounts
 fuel-day-counts-spec =
     tie.close
     (tie.spec
-    (λ c. search needs)
-    (λ c. refl))
+    (λ c κs. search needs)
+    (λ c κs. tt)
+    (λ c. rw (c .in-window .ensures, c .before .window-start .ensures)))

@@ -5,6 +5,7 @@ use std::collections::{BTreeSet, HashMap};
 use attachment_h::{Component, Kind, Market};
 
 use super::{FULL, Key, Maker};
+use crate::calendar::period_of;
 use crate::case::{Conduct, Event, Reference};
 use crate::generator::Size;
 use crate::generator::figures::{bids, dispatch, fuel, withheld};
@@ -138,10 +139,6 @@ impl Maker<'_> {
         let impact_chance = self.random.below(4);
         for key in std::mem::take(&mut self.keys) {
             let (day, _, market, unit, component) = key;
-            let period = match self.random.below(12) {
-                0 => self.random.between(0, 65_535) as u16,
-                _ => self.first_period + self.random.below(4) as u16,
-            };
             let impact = u8::from(self.random.chance(impact_chance, 3));
             // Bids alone have an r, and c is r where the correction has none.
             let r = references.get(&(unit, component)).copied().unwrap_or(0);
@@ -151,7 +148,7 @@ impl Maker<'_> {
                 day,
                 market,
                 unit,
-                period,
+                period: period_of(day),
                 conduct,
             });
         }

@@ -12,6 +12,7 @@ use crate::record::event::Event;
 use crate::text::amounts::{
     Measure, Signed, dollars, halves, tenths, twentieths, twentieths_decimal,
 };
+use crate::text::calendar::date;
 use crate::text::hours;
 
 /// The section of the tariff that all of it is in.
@@ -49,8 +50,8 @@ pub fn steps(money: &Money<'_>, of_day: &PenaltyWorking, day: &Day) -> Vec<Step>
         ),
         step(
             "M",
-            "1.5 where the group had a fuel penalty 1 to 183 days before, in either market, otherwise 1",
-            vec![m_line(of_day)],
+            "1.5 where the group had a fuel penalty in the six months before, from the same day of the month on, in either market, otherwise 1",
+            vec![m_line(money, of_day)],
         ),
         step("X", "M × E + T", vec![x_line(of_day)]),
         step(
@@ -169,12 +170,13 @@ fn t_lines(money: &Money<'_>, day: &Day, of_day: &PenaltyWorking) -> Vec<String>
 }
 
 /// M, and that the group had a penalty or not: which one it was, nothing says.
-fn m_line(of_day: &PenaltyWorking) -> String {
-    let why = match of_day.multiplier {
+fn m_line(money: &Money<'_>, of_day: &PenaltyWorking) -> String {
+    let had = match of_day.multiplier {
         Multiplier(3) => "it had one",
         _ => "it had none",
     };
-    format!("M = {}: {why}", halves(of_day.multiplier))
+    let (m, date) = (halves(of_day.multiplier), date(money.event.day));
+    format!("M = {m}: {had} in the six months before {date}")
 }
 
 fn x_line(of_day: &PenaltyWorking) -> String {

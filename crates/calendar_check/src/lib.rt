@@ -1,0 +1,3 @@
+// Days and capability periods held to the calendar.
+pub mod calendar_limits;
+pub mod field_limits;

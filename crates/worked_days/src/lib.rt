@@ -1,0 +1,1 @@
+// Days, windows and periods by computation: proofs alone.
