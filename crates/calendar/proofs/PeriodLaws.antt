@@ -1,18 +1,17 @@
--- A period by the first days of its months, and a day of a month.
-use Prim.Native.Nat.{ℕ, suc, _+_, _-_, _*_, _/_, _%_, _≤_, _<_, min, zero-le}
-use mathlib.Core.Bool.{Bool, true, false, cond, _&&_, _||_, and-false}
+-- A day of a month, a period by the first days of its months, and the half years of a day.
+use Prim.Native.Nat.{ℕ, suc, _+_, _-_, _*_, _/_, _%_, _≤_, _<_, min}
+use mathlib.Core.Bool.{Bool, true, false, cond, _&&_}
 use mathlib.Core.Logic.{⊎-elim}
 use mathlib.Core.Path.{_≡_, refl, sym, ap, _∙_}
 use native.Mathlib.Nat.{eq-or-lt-of-le}
 use native.Mathlib.Omega.{arith}
 use lib.Dec.{ltb, leb, eqb}
-use borrow.Author.Tests.{ltb-true, ltb-false, leb-true, leb-false, eqb-true, eqb-false, lt-ltb, le-ltb, le-leb, eq-eqb, ne-eqb}
+use borrow.Author.Tests.{ltb-true, ltb-false, leb-true, leb-false, eqb-true, eqb-false, lt-ltb, le-leb, eq-eqb, ne-eqb}
 use Rattle.binary.specs.Bounded.{allTo}
 use Rattle.binary.proofs.BoundedLaws.{all-at}
 use Rattle.binary.proofs.Implies.{same-test, and-l, and-r}
 use Rattle.calendar.specs.Months.{mostMonths, calendarDays, monthLength, monthStart, monthOf}
-use Rattle.calendar.specs.Periods.{lastPeriod, periodOf}
-use Rattle.calendar.specs.StagePeriods.{periodDays, hasDay}
+use Rattle.calendar.specs.Periods.{periodOf, hasPeriod, lastPeriod, hasDay}
 use Rattle.calendar.proofs.MonthLaws.{start-more, start-mono, start-below, begun-le, le-begun, before-start, start-after, month-below}
 
 le-ne : (x y : ℕ) → x ≤ y → (x ≡ y → ⊥) → x < y
@@ -38,23 +37,6 @@ month-last k = omega (arith, start-more k, same)
   where
     same : monthStart (k + 1) ≡ monthStart (suc k)
     same = ap monthStart (omega arith)
-
--- the first day of each period after period 0, by its year
-abbrev pub yearStart : (p : ℕ) → ℕ
-yearStart p = 365 * ((p - 1) / 2) + (p - 1) / 2 / 4 + 305 - 184 * (p % 2)
-
-every-period : allTo (lastPeriod + 1) (λ p. eqb p 0 || eqb (yearStart p) (monthStart (6 * p - 2))) ≡ true
-unfolding allTo monthStart monthLength
-every-period = refl
-
-pub year-start : (p : ℕ) → p ≤ lastPeriod → (p ≡ 0 → ⊥) → yearStart p ≡ monthStart (6 * p - 2)
-year-start p l n =
-    eqb-true (yearStart p) (monthStart (6 * p - 2))
-    (or-right (eqb p 0) _ (all-at (lastPeriod + 1) p (λ q. eqb q 0 || eqb (yearStart q) (monthStart (6 * q - 2))) (omega arith) every-period) (ne-eqb p 0 n))
-  where
-    or-right : (x y : Bool) → (x || y) ≡ true → x ≡ false → y ≡ true
-    or-right true y h e = let z : true ≡ false = e in cc
-    or-right false y h e = h
 
 -- a period's days run from its first month to the month after its last, or the calendar's end
 abbrev periodEnd : (last : Bool) (p : ℕ) → ℕ
@@ -97,12 +79,52 @@ module _ (d p : ℕ) where
       go false e = refl
 
 -- the days of a period are those of the calendar that have it
-pub has-period : (d p : ℕ) → hasDay (periodDays p) d ≡ (ltb d calendarDays && eqb p (periodOf d))
-unfolding hasDay periodDays
-has-period d p = go (ltb lastPeriod p) refl
+pub has-day : (d p : ℕ) → hasDay p d ≡ hasPeriod d p
+unfolding hasDay hasPeriod
+has-day d p = go (ltb lastPeriod p) refl
   where
     go : (beyond : Bool) → ltb lastPeriod p ≡ beyond
-        → hasDay (cond beyond (record { first = 0; end = 0 }) (record { first = monthStart (6 * p - 2); end = periodEnd (eqb p lastPeriod) p })) d
-        ≡ (ltb d calendarDays && eqb p (periodOf d))
-    go true e = rw (le-ltb d 0 zero-le) (and-false (leb 0 d) ∙ period-beyond d p (ltb-true lastPeriod p e))
+        → cond beyond false (leb (monthStart (6 * p - 2)) d && ltb d (periodEnd (eqb p lastPeriod) p)) ≡ (ltb d calendarDays && eqb p (periodOf d))
+    go true e = period-beyond d p (ltb-true lastPeriod p e)
     go false e = period-within d p (ltb-false lastPeriod p e)
+
+-- ---- the period by quarters of a day from 1 May 1999
+
+-- the first day of a period: the years before it and, of a Winter, the Summer, each in quarters, up to a whole day
+abbrev firstDay : (p : ℕ) → ℕ
+firstDay p = (1461 * ((p + 1) / 2) + 736 * (1 - p % 2) + 3 - 980) / 4
+
+every-period : allTo (lastPeriod + 1) (λ p. eqb (firstDay p) (monthStart (6 * p - 2))) ≡ true
+unfolding allTo monthStart monthLength
+every-period = refl
+
+first-day : (p : ℕ) → p ≤ lastPeriod → firstDay p ≡ monthStart (6 * p - 2)
+first-day p l =
+    eqb-true (firstDay p) (monthStart (6 * p - 2))
+    (all-at (lastPeriod + 1) p (λ q. eqb (firstDay q) (monthStart (6 * q - 2))) (omega arith) every-period)
+
+abbrev pub quarters : (d : ℕ) → ℕ
+quarters d = 4 * d + 980
+
+-- a day is in the last half year that began
+module _ (d : ℕ) (l : d < calendarDays) where
+  within : (p : ℕ) → p ≤ lastPeriod → firstDay p ≤ d → d < firstDay (p + 1) → p ≡ periodOf d
+  unfolding periodOf
+  within p m g h = go (eqb p lastPeriod) refl
+    where
+      go : (last : Bool) → eqb p lastPeriod ≡ last → p ≡ (monthOf d + 2) / 6
+      go true e = from-start d p true e (rw (first-day p m) at g) l
+      go false e =
+          let next : firstDay (p + 1) ≡ monthStart (6 * p + 4) =
+          first-day (p + 1) (omega (arith, le-ne p lastPeriod m (eqb-false p lastPeriod e))) ∙ ap monthStart (omega arith) in
+          from-start d p false e (rw (first-day p m) at g) (rw next at h)
+
+  pub in-summer : quarters d % 1461 < 736 → 2 * (quarters d / 1461) ≡ periodOf d + 1
+  in-summer r = omega (arith, within (2 * (quarters d / 1461) - 1) (omega arith) (omega arith) (omega arith))
+
+  pub in-winter : 736 ≤ quarters d % 1461 → 2 * (quarters d / 1461) + 1 ≡ periodOf d + 1
+  in-winter r = omega (arith, within (2 * (quarters d / 1461)) (omega arith) (omega arith) (omega arith))
+
+pub same-half-year : (p x y : ℕ) → x ≡ y + 1 → eqb x (p + 1) ≡ eqb p y
+same-half-year p x y h =
+    same-test (eqb x (p + 1)) (eqb p y) (λ e. eq-eqb p y (omega (arith, eqb-true x (p + 1) e))) (λ e. eq-eqb x (p + 1) (omega (arith, eqb-true p y e)))

@@ -2,4 +2,3 @@ pub mod Months
 pub mod Periods
 pub mod Dates
 pub mod StageTable
-pub mod StagePeriods

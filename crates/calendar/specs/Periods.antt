@@ -1,8 +1,8 @@
 -- Six months back, and capability periods, by the months of the calendar (docs/RULES.md, K18 and S12).
-use Prim.Native.Nat.{ℕ, _+_, _-_, _/_, min}
-use mathlib.Core.Bool.{Bool, cond, _&&_}
-use lib.Dec.{ltb, leb}
-use Rattle.calendar.specs.Months.{monthLength, monthStart, monthOf, dayOfMonth}
+use Prim.Native.Nat.{ℕ, _+_, _-_, _*_, _/_, min}
+use mathlib.Core.Bool.{Bool, false, cond, _&&_}
+use lib.Dec.{ltb, leb, eqb}
+use Rattle.calendar.specs.Months.{calendarDays, monthLength, monthStart, monthOf, dayOfMonth}
 
 -- day x of month k, or the month's last where it has no such day; the first is 0
 unfoldable pub dayWithin : (k x : ℕ) → ℕ
@@ -20,6 +20,15 @@ inWindow first d e = ltb e d && leb first e
 unfoldable pub periodOf : (d : ℕ) → ℕ
 periodOf d = (monthOf d + 2) / 6
 
+-- a day of the calendar, and its period
+unfoldable pub hasPeriod : (d p : ℕ) → Bool
+hasPeriod d p = ltb d calendarDays && eqb p (periodOf d)
+
 -- the period that the calendar's last day is in
 abbrev pub lastPeriod : ℕ
 lastPeriod = 200
+
+-- the same by the starts of months: the days from a period's first month to the month after its last, or to the calendar's end; none of a period past the calendar
+unfoldable pub hasDay : (p d : ℕ) → Bool
+hasDay p d =
+    cond (ltb lastPeriod p) false (leb (monthStart (6 * p - 2)) d && ltb d (cond (eqb p lastPeriod) calendarDays (monthStart (6 * p + 4))))

@@ -1,21 +1,15 @@
 // Six months back from a day, and the capability period that it is in.
 ghost use mathlib.Core.Path.{_≡_};
-ghost use mathlib.Core.Bool.{cond};
-ghost use Prim.Native.Nat.{_+_, _-_, _*_, _≤_, _<_};
-ghost use lib.Dec.{eqb};
-ghost use Rattle.calendar.specs.Months.{mostMonths, calendarDays, monthStart};
+ghost use Prim.Native.Nat.{_+_, _<_};
+ghost use Rattle.calendar.specs.Months.{mostMonths, calendarDays};
 ghost use Rattle.calendar.specs.StageTable.{HasStarts};
-ghost use Rattle.calendar.specs.StagePeriods.{periodDays, hasDay};
-ghost use Rattle.calendar.specs.Periods.{lastPeriod, dayWithin, windowStart, inWindow, periodOf};
+ghost use Rattle.calendar.specs.Periods.{dayWithin, windowStart, inWindow, periodOf, hasPeriod};
 use crate::months::month_of;
 use crate::table::DAYS;
 use crate::table::MONTHS;
 use crate::table::month_start;
 use crate::table::month_starts;
 use binary::numbers::choose_u32;
-
-// The period that 31 December 2099 is in.
-const LAST_PERIOD: u32 = 200;
 
 // Day x of month k, or the month's last where it has no such day; the first is 0.
 fn day_within(starts: &[u16; MONTHS], k: usize, x: u32) -> u32
@@ -47,61 +41,41 @@ pub fn in_window(first: u32, d: u32, e: u32) -> bool
     (e < d) & (first <= e)
 }
 
+// In quarters of a day: a year, its Summer, and the time from 1 May 1999 to day 0. Four years from May to May have 1,461 days, and the first has
+// the leap day, so that year y begins with the first day from y times as many quarters on. The 184 days of Summer come first.
+const YEAR: u32 = 1461;
+
+const SUMMER: u32 = 736;
+
+const BEFORE: u32 = 980;
+
+// The half years from 1 May 1999 that have begun by a day of the calendar.
+fn half_years(day: u32) -> u32
+    requires { ⌜ day < calendarDays ⌝ }
+    ensures { λ r. ⌜ r ≡ periodOf day + 1 ⌝ }
+{
+    let quarters = 4 * day + BEFORE;
+    let begun = 2 * (quarters / YEAR);
+    if quarters % YEAR < SUMMER {
+        return begun;
+    }
+    begun + 1
+}
+
 // The capability period of a day of the calendar.
 pub fn period_of(day: u32) -> u16
     requires { ⌜ day < calendarDays ⌝ }
     ensures { λ r. ⌜ r ≡ periodOf day ⌝ }
 {
-    let starts = month_starts();
-    ((month_of(&starts, day) + 2) / 6) as u16
+    (half_years(day) - 1) as u16
 }
 
-// A period's first day: after whole years and their leap days the days of a leap year before 1 November, or 184 fewer for 1 May;
-// but the calendar begins period 0. No branch hangs on the season.
-fn period_start(period: u32) -> u32
-    requires { ⌜ period ≤ lastPeriod ⌝ }
-    ensures { λ r. ⌜ r ≡ monthStart (6 * period - 2) ⌝ }
+// Whether a day is in the calendar and its period is this one.
+pub fn has_period(day: u32, period: u16) -> bool
+    ensures { λ r. ⌜ r ≡ hasPeriod day period ⌝ }
 {
-    if period == 0 {
-        return 0;
+    if DAYS <= day {
+        return false;
     }
-    let year = (period - 1) / 2;
-    365 * year + year / 4 + 305 - 184 * (period % 2)
-}
-
-// The day after a period's last, but the calendar ends the last period.
-fn period_end(period: u32) -> u32
-    requires { ⌜ period ≤ lastPeriod ⌝ }
-    ensures { λ r. ⌜ r ≡ cond (eqb period lastPeriod) calendarDays (monthStart (6 * period + 4)) ⌝ }
-{
-    if period == LAST_PERIOD {
-        return DAYS;
-    }
-    period_start(period + 1)
-}
-
-// The days of a period: from the first to before the end.
-pub struct PeriodDays {
-    pub first: u32,
-    pub end: u32,
-}
-
-// Those of a period, and none of a period past the calendar.
-pub fn period_days(period: u16) -> PeriodDays
-    ensures { λ r. ⌜ r ≡ periodDays period ⌝ }
-{
-    let p = period as u32;
-    if LAST_PERIOD < p {
-        return PeriodDays { first: 0, end: 0 };
-    }
-    PeriodDays {
-        first: period_start(p),
-        end: period_end(p),
-    }
-}
-
-pub fn has_day(days: PeriodDays, day: u32) -> bool
-    ensures { λ r. ⌜ r ≡ hasDay days day ⌝ }
-{
-    (days.first <= day) & (day < days.end)
+    half_years(day) == period as u32 + 1
 }

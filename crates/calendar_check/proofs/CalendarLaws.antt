@@ -4,9 +4,10 @@ use mathlib.Core.Bool.{Bool, true, false, _&&_}
 use mathlib.Core.Path.{_≡_, refl, sym, ap, ap₂, _∙_}
 use Rattle.binary.specs.Bounded.{allTo}
 use Rattle.binary.proofs.Implies.{and-l, and-r}
+use Rattle.calendar.specs.Periods.{hasPeriod}
 use Rattle.casefile.specs.Case.{Past, Events}
 use Rattle.limits.specs.Refusal.{dayFine, daysFine, periodFine, periodsFine, unless}
-use Rattle.limits.specs.StageRefusal.{inCalendar, eventsInCalendar}
+use Rattle.limits.specs.StageRefusal.{eventsInCalendar}
 
 swap : (a b c d : Bool) → ((a && b) && (c && d)) ≡ ((a && c) && (b && d))
 swap true true c d = refl
@@ -22,10 +23,10 @@ all-both (suc n) p q = ap (λ (t : Bool). t && (p n && q n)) (all-both n p q) �
 module _ (p : Past) (e : Events) where
   -- one look at each past entry
   abbrev pub pastInCalendar : Bool
-  pastInCalendar = allTo (p .count) (λ i. inCalendar (p .entry i .day) (p .entry i .period))
+  pastInCalendar = allTo (p .count) (λ i. hasPeriod (p .entry i .day) (p .entry i .period))
 
   pub both : (pastInCalendar && eventsInCalendar e) ≡ (daysFine p e && periodsFine p e)
-  unfolding inCalendar eventsInCalendar daysFine periodsFine
+  unfolding hasPeriod eventsInCalendar dayFine daysFine periodFine periodsFine
   both =
       let day : ℕ → Bool = λ i. dayFine (p .entry i .day) in
       let period : ℕ → Bool = λ i. periodFine (p .entry i .day) (p .entry i .period) in

@@ -1,11 +1,11 @@
 // Limits 18 and 19, over past entries and events together.
 ghost use mathlib.Core.Path.{_≡_};
 ghost use Rattle.binary.specs.Bounded.{allTo};
+ghost use Rattle.calendar.specs.Periods.{hasPeriod};
 ghost use Rattle.casefile.specs.Decode.{pastIn, eventsIn};
 ghost use Rattle.limits.specs.Refusal.{dayFine, daysFine, periodsFine, unless as unlessOf};
-ghost use Rattle.limits.specs.StageRefusal.{inCalendar, eventsInCalendar};
-use calendar::periods::has_day;
-use calendar::periods::period_days;
+ghost use Rattle.limits.specs.StageRefusal.{eventsInCalendar};
+use calendar::periods::has_period;
 use calendar::table;
 use casefile::events::event_at;
 use casefile::events::event_count;
@@ -15,15 +15,14 @@ use casefile::past::entry_count;
 
 // Whether each past entry's day is in the calendar and its period is the day's.
 fn past_in_calendar(past: &[u8]) -> bool
-    ensures { λ r. ⌜ r ≡ allTo (pastIn (now (past .entry)) .count) (λ i. inCalendar (pastIn (now (past .entry)) .entry i .day) (pastIn (now (past .entry)) .entry i .period)) ⌝ }
+    ensures { λ r. ⌜ r ≡ allTo (pastIn (now (past .entry)) .count) (λ i. hasPeriod (pastIn (now (past .entry)) .entry i .day) (pastIn (now (past .entry)) .entry i .period)) ⌝ }
 {
     let n = entry_count(past);
     let mut fine = true;
     let mut i = 0;
     while i < n {
         let entry = entry_at(past, i);
-        let days = period_days(entry.period);
-        fine = fine & has_day(days, entry.day);
+        fine = fine & has_period(entry.day, entry.period);
         i += 1;
     }
     fine

@@ -9,8 +9,7 @@ use borrow.Author.Tests.{ne-eqb}
 use Rattle.binary.specs.Bounded.{allTo}
 use Rattle.binary.specs.Lists.{Bytes}
 use Rattle.binary.proofs.BoundedLaws.{all-more, all-true}
-use Rattle.calendar.specs.StagePeriods.{periodDays, hasDay}
-use Rattle.calendar.proofs.PeriodLaws.{has-period}
+use Rattle.calendar.specs.Periods.{hasPeriod}
 use Rattle.tariff.specs.Ranges.{highestDay}
 use Rattle.casefile.specs.declared.layout.Format.{Format}
 use Rattle.casefile.specs.Layout.{mostHours, numberLimit}
@@ -19,8 +18,7 @@ use Rattle.casefile.specs.Decode.{cellsFrom, cellsIn, eventsIn, amountsIn}
 use Rattle.casefile.specs.Lookup.{placeOf}
 use Rattle.casefile.specs.StageRead.{cellOf, eventAt}
 use Rattle.casefile.specs.declared.events.Event.{Event}
-use Rattle.limits.specs.Refusal.{dayFine, periodFine, eventNumbersFine, rises, fieldsFine, cellFine, hourFine, eventFine, eventKey, withinCapability, unless}
-use Rattle.limits.specs.StageRefusal.{inCalendar}
+use Rattle.limits.specs.Refusal.{eventNumbersFine, rises, fieldsFine, cellFine, hourFine, eventFine, eventKey, withinCapability, unless}
 use Rattle.limits.proofs.RangeLaws.{event-range, number-lt}
 use Rattle.event_check.specs.StageReading.{cellFineAt, amountWithin, keyOf, numberOf, readIf, readEvent}
 use Rattle.event_check.specs.declared.event_limits.EventRead.{EventRead}
@@ -112,12 +110,11 @@ pub read-key : (format : Format) (s : List ℕ) (i : ℕ) (e : Event) → e ≡ 
 unfolding keyOf eventAt eventKey
 read-key format s i e same = ap keyOf same
 
--- its day is one of its period's where 18 and 19 find nothing
+-- its day and period are those that 18 and 19 look at
 pub read-dated : (format : Format) (s : List ℕ) (i : ℕ) (e : Event) → e ≡ eventAt (eventsIn format s) i
-    → hasDay (periodDays (e .period)) (e .day) ≡ inCalendar (eventsIn format s .day i) (eventsIn format s .period i)
-unfolding eventAt inCalendar dayFine periodFine
-read-dated format s i e same =
-    ap (λ (x : Event). hasDay (periodDays (x .period)) (x .day)) same ∙ has-period (eventsIn format s .day i) (eventsIn format s .period i)
+    → hasPeriod (e .day) (e .period) ≡ hasPeriod (eventsIn format s .day i) (eventsIn format s .period i)
+unfolding eventAt
+read-dated format s i e same = ap (λ (x : Event). hasPeriod (x .day) (x .period)) same
 
 -- the order of one event more
 pub order-turn : (key : ℕ → ℕ) (i last k order : ℕ) → order ≡ unless (allTo i (rises key)) 11 0 → (0 < i → last ≡ key (i - 1)) → k ≡ key i

@@ -15,8 +15,7 @@ ghost use Rattle.event_check.specs.StageFound.{eventPlace, EventLevels};
 use crate::cell_limits::amounts_within;
 use crate::cell_limits::cells_fine;
 use binary::words::is_within;
-use calendar::periods::has_day;
-use calendar::periods::period_days;
+use calendar::periods::has_period;
 use casefile::events::Event;
 use casefile::events::event_at;
 use casefile::events::event_cells;
@@ -127,8 +126,7 @@ pub fn order_refusal(format: Format, events: &[u8]) -> u8
         let EventRead::Event(e) = read_event(format, events, i) else {
             return 10;
         };
-        let days = period_days(e.period);
-        dated = dated & has_day(days, e.day);
+        dated = dated & has_period(e.day, e.period);
         let key = event_key(e);
         order = unless((i == 0) | (last < key), 11, order);
         last = key;

@@ -1,11 +1,12 @@
 -- The refusal in the stages of the code: each stage's number, or what follows where it breaks no limit.
 use Prim.Native.Nat.{ℕ}
-use mathlib.Core.Bool.{Bool, _&&_}
+use mathlib.Core.Bool.{Bool}
 use mathlib.Core.List.{List}
 use Rattle.binary.specs.Bounded.{allTo}
+use Rattle.calendar.specs.Periods.{hasPeriod}
 use Rattle.casefile.specs.declared.layout.Format.{Format}
 use Rattle.casefile.specs.Case.{Events}
-use Rattle.limits.specs.Refusal.{dayFine, periodFine, headerLimits, recordLimits, fieldLimits, foundLimits, firstBroken}
+use Rattle.limits.specs.Refusal.{headerLimits, recordLimits, fieldLimits, foundLimits, firstBroken}
 
 unfoldable pub headerRefusal : (file : List ℕ) (next : ℕ) → ℕ
 headerRefusal f next = firstBroken (headerLimits f) next
@@ -19,9 +20,6 @@ fieldsRefusal format past events next = firstBroken (fieldLimits format past eve
 unfoldable pub foundRefusal : Format → (units references correct events : List ℕ) (rowsLength : ℕ) → ℕ
 foundRefusal format units references correct events rowsLength = firstBroken (foundLimits format units references correct events rowsLength) 0
 
--- 18 and 19 of one record at once: a day that the calendar has, and a period that is the day's
-unfoldable pub inCalendar : (day period : ℕ) → Bool
-inCalendar day period = dayFine day && periodFine day period
-
+-- 18 and 19 of each event at once
 unfoldable pub eventsInCalendar : Events → Bool
-eventsInCalendar e = allTo (e .count) (λ i. inCalendar (e .day i) (e .period i))
+eventsInCalendar e = allTo (e .count) (λ i. hasPeriod (e .day i) (e .period i))

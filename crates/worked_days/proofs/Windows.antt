@@ -1,12 +1,13 @@
 -- Months, windows and capability periods of days named by their dates, by computation.
 use Prim.Native.Nat.{ℕ, _+_, zero-le}
 use mathlib.Core.Bool.{Bool, true, false}
-use mathlib.Core.Path.{_≡_, refl, _∙_}
+use mathlib.Core.Path.{_≡_, refl, sym, _∙_}
 use lib.Dec.{lit≤}
 use borrow.Author.Tests.{le-ltb}
 use Rattle.calendar.specs.Months.{monthLength, monthStart, monthFrom, monthOf, dayOfMonth}
-use Rattle.calendar.specs.Periods.{dayWithin, windowStart, periodOf}
+use Rattle.calendar.specs.Periods.{dayWithin, windowStart, periodOf, hasPeriod, hasDay}
 use Rattle.calendar.specs.Dates.{Date, date, nextDay, dateOf, dayOf, atMostLast, sixMonthsBefore, periodsBegun}
+use Rattle.calendar.proofs.PeriodLaws.{has-day}
 use Rattle.calendar.proofs.DateLaws.{every-day}
 use Rattle.tariff.specs.SanctionRules.{fuelDayCounts}
 
@@ -77,3 +78,17 @@ pub periods : (periodOf 0 ≡ 0) × (periodOf (on 2000 4 30) ≡ 0) × (periodOf
     × (periodOf (on 2099 12 31) ≡ 200)
 unfolding dayOf periodOf monthOf monthFrom monthStart monthLength
 periods = (refl, refl, refl, refl, refl, refl, refl, refl, refl)
+
+-- the same by the starts of months: period 0 begins on day 0, the calendar ends period 200, and 201 has no day
+pub days-of-periods : (hasDay 0 0 ≡ true) × (hasDay 0 (on 2000 4 30) ≡ true) × (hasDay 0 (on 2000 5 1) ≡ false) × (hasDay 1 (on 2000 4 30) ≡ false)
+    × (hasDay 1 (on 2000 5 1) ≡ true)
+    × (hasDay 200 (on 2099 12 31) ≡ true)
+    × (hasDay 200 36525 ≡ false)
+    × (hasDay 201 36524 ≡ false)
+unfolding dayOf hasDay monthStart monthLength
+days-of-periods = (refl, refl, refl, refl, refl, refl, refl, refl)
+
+-- and what every day has by them, applied to day 8000
+pub day-8000 : hasPeriod 8000 44 ≡ true
+unfolding hasDay monthStart monthLength
+day-8000 = sym (has-day 8000 44) ∙ refl

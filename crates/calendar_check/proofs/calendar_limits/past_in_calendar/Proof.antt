@@ -4,23 +4,21 @@ use borrow.Author.Needs.{needs}
 use native.Mathlib.Omega.{arith}
 use Rattle.binary.specs.Bounded.{allTo}
 use Rattle.binary.proofs.BoundedLaws.{all-none, all-more}
-use Rattle.calendar.proofs.PeriodLaws.{has-period}
+use Rattle.calendar.specs.Periods.{hasPeriod}
 use Rattle.casefile.specs.Decode.{pastIn}
 use Rattle.casefile.specs.StageRead.{entryAt}
-use Rattle.limits.specs.Refusal.{dayFine, periodFine}
-use Rattle.limits.specs.StageRefusal.{inCalendar}
 use Rattle.calendar_check.proofs.calendar_limits.past_in_calendar.Statement.{statement}
 use Rattle.calendar_check.proofs.calendar_limits.past_in_calendar.Tie as tie
 
 abbrev Inv-loop : tie.InvT-loop
 Inv-loop past n fine₀ i₀ fine i =
-    (i ≤ pastIn past .count) × (fine ≡ allTo i (λ j. inCalendar (pastIn past .entry j .day) (pastIn past .entry j .period)))
+    (i ≤ pastIn past .count) × (fine ≡ allTo i (λ j. hasPeriod (pastIn past .entry j .day) (pastIn past .entry j .period)))
 
 abbrev μ-loop : tie.MeasureT-loop
 μ-loop past n fine₀ i₀ fine i = pastIn past .count - i
 
 pub past-in-calendar-spec : {M : Type 1} → statement M
-unfolding entryAt dayFine periodFine inCalendar
+unfolding entryAt
 past-in-calendar-spec =
     tie.close
     (tie.spec
@@ -30,12 +28,11 @@ past-in-calendar-spec =
     (λ c. (omega arith, all-none _))
     (λ c κs. search needs)
     (λ c κs. tt)
-    (λ c κs. tt)
     (λ c. omega arith)
     (λ c. omega arith)
     (λ c.
-    let l = c .before .before .before .before .loop in
-    (omega arith, rw (l .inv .1, c .has-day .ensures, c .before .period-days .ensures, c .before .before .entry-at .ensures, has-period, all-more)))
+    let l = c .before .before .before .loop in
+    (omega arith, rw (l .inv .1, c .has-period .ensures, c .before .entry-at .ensures, all-more)))
     (λ c.
     let s = c .before .before .before .before .args in
     let e : c .before .loop .i ≡ pastIn (s .past .now) .count = omega arith in
