@@ -91,12 +91,14 @@ pub fn read_event(format: Format, events: &[u8], i: usize) -> EventRead
         e.q,
         e.r,
     );
-    let cells = cells_fine(e.kind, e.component, event_cells(format, events, i));
-    if fields & cells {
-        EventRead::Event(e)
-    } else {
-        EventRead::Unreadable
+    // The tests of the fields need not be kept while the cells are looked at.
+    if !fields {
+        return EventRead::Unreadable;
     }
+    if !cells_fine(e.kind, e.component, event_cells(format, events, i)) {
+        return EventRead::Unreadable;
+    }
+    EventRead::Event(e)
 }
 
 // The place of an event in the order: by day, kind, market, unit, component.
