@@ -24,10 +24,10 @@ tightUnit number group capability rate averagePrice constrainedHours =
 unfoldable pub cellBytes : (a b m : ℕ) → List ℕ
 cellBytes a b m = bytesOf 4 a ++ bytesOf 4 b ++ bytesOf 4 m
 
--- an event of period 44 with these cells
+-- an event of period 4 with these cells
 unfoldable pub eventOf : (day kind market unit component impact P Q R : ℕ) (cells : ℕ → List ℕ) → List ℕ
 eventOf day kind market unit component impact P Q R cells =
-    bytesOf 1 kind ++ bytesOf 1 market ++ bytesOf 2 unit ++ bytesOf 2 44 ++ bytesOf 1 component ++ bytesOf 1 impact
+    bytesOf 1 kind ++ bytesOf 1 market ++ bytesOf 2 unit ++ bytesOf 2 4 ++ bytesOf 1 component ++ bytesOf 1 impact
     ++ bytesOf 4 day ++ bytesOf 4 P ++ bytesOf 4 Q ++ bytesOf 4 R ++ joinTo 24 cells
 
 abbrev pub empty : ℕ → List ℕ
@@ -47,20 +47,20 @@ noBids h = 0
 unfoldable pub areaUnits : List ℕ
 areaUnits = units ++ tightUnit 20 2 8000 100 5000 1000
 
--- three instances of group 1, of the periods 42, 43 and 44
+-- three instances of group 1, of the periods 2, 3 and 4
 unfoldable pub pastInstances : List ℕ
-pastInstances = entryBytes 1 1 0 42 7700 ++ entryBytes 1 1 0 43 7900 ++ entryBytes 1 1 0 44 7980
+pastInstances = entryBytes 1 1 0 2 395 ++ entryBytes 1 1 0 3 595 ++ entryBytes 1 1 0 4 675
 
 -- withheld by units 12 and 13, whose S of hour 1 is over the line; dispatch in a tight hour; a party-day of fuel, and fuel 100
 -- days later
 unfoldable pub sanctionedEvents : List ℕ
 sanctionedEvents =
-    eventOf 8000 1 0 12 0 1 0 0 0 (at 0 (cellBytes 501 4005 0) (at 1 (cellBytes 400 1000 0) empty))
-    ++ eventOf 8000 1 0 13 0 1 0 0 0 (at 1 (cellBytes 700 (minus 100) 0) empty)
-    ++ eventOf 8000 2 1 20 0 1 8 0 0 (at 3 (cellBytes 501 1001 0) empty)
-    ++ eventOf 8000 3 0 12 0 0 1 (minus 1000) (minus 500) (at 0 (cellBytes 100 60000 0) empty)
-    ++ eventOf 8000 3 0 13 0 0 32 0 200 (at 0 (cellBytes 50 (minus 1000) 0) (at 5 (cellBytes 10 7 0) empty))
-    ++ eventOf 8100 3 0 12 0 0 1 499999 0 empty
+    eventOf 695 1 0 12 0 1 0 0 0 (at 0 (cellBytes 501 4005 0) (at 1 (cellBytes 400 1000 0) empty))
+    ++ eventOf 695 1 0 13 0 1 0 0 0 (at 1 (cellBytes 700 (minus 100) 0) empty)
+    ++ eventOf 695 2 1 20 0 1 8 0 0 (at 3 (cellBytes 501 1001 0) empty)
+    ++ eventOf 695 3 0 12 0 0 1 (minus 1000) (minus 500) (at 0 (cellBytes 100 60000 0) empty)
+    ++ eventOf 695 3 0 13 0 0 32 0 200 (at 0 (cellBytes 50 (minus 1000) 0) (at 5 (cellBytes 10 7 0) empty))
+    ++ eventOf 795 3 0 12 0 0 1 499999 0 empty
 
 unfoldable pub sanctioned : List ℕ
 sanctioned = fileOf areaUnits [] pastInstances sanctionedEvents
@@ -86,11 +86,11 @@ bidReferences =
 -- tight energy, three times, a maximum parameter
 unfoldable pub bidEvents : List ℕ
 bidEvents =
-    eventOf 8000 4 1 20 0 0 4 4 0 (at 2 (cellBytes 2877 1000 1000) empty)
-    ++ eventOf 8000 4 1 20 4 0 0 0 0 (at 0 (cellBytes 221 0 0) empty)
-    ++ eventOf 8000 4 1 20 5 0 0 1 0 (at 0 (cellBytes 220 0 0) empty)
-    ++ eventOf 8000 4 1 20 6 0 0 0 0 (at 0 (cellBytes 220 0 0) empty)
-    ++ eventOf 8000 4 1 20 8 0 0 1 0 (at 0 (cellBytes 49 0 0) empty)
+    eventOf 695 4 1 20 0 0 4 4 0 (at 2 (cellBytes 2877 1000 1000) empty)
+    ++ eventOf 695 4 1 20 4 0 0 0 0 (at 0 (cellBytes 221 0 0) empty)
+    ++ eventOf 695 4 1 20 5 0 0 1 0 (at 0 (cellBytes 220 0 0) empty)
+    ++ eventOf 695 4 1 20 6 0 0 0 0 (at 0 (cellBytes 220 0 0) empty)
+    ++ eventOf 695 4 1 20 8 0 0 1 0 (at 0 (cellBytes 49 0 0) empty)
 
 unfoldable pub bids : List ℕ
 bids = fileOf (tightUnit 20 2 8000 100 5000 1000) bidReferences [] bidEvents
@@ -107,7 +107,7 @@ bidRows =
 unfoldable pub minimumGeneration : List ℕ
 minimumGeneration =
     fileOf (unitBytes 12 1 0 5000) (referenceBytes 12 1 5000) []
-    (eventOf 8000 4 0 12 1 0 0 262144 4 (at 18 (cellBytes 15001 0 0) (at 20 (cellBytes 4500 0 0) empty)))
+    (eventOf 695 4 0 12 1 0 0 262144 4 (at 18 (cellBytes 15001 0 0) (at 20 (cellBytes 4500 0 0) empty)))
 
 -- ---- all four kinds
 
@@ -117,14 +117,14 @@ mixedReferences = referenceBytes 20 0 2000 ++ referenceBytes 20 3 1000
 -- withheld in a tight hour, dispatch without impact, fuel after a past penalty, and two bids
 unfoldable pub mixedEvents : List ℕ
 mixedEvents =
-    eventOf 8000 1 1 20 0 1 4 0 0 (at 2 (cellBytes 600 2500 0) empty)
-    ++ eventOf 8000 2 1 13 0 0 0 0 0 (at 4 (cellBytes 1001 999 0) empty)
-    ++ eventOf 8000 3 0 12 0 0 1 100000 (minus 50) (at 0 (cellBytes 10 100 0) empty)
-    ++ eventOf 8000 4 0 20 0 0 0 1 0 (at 0 (cellBytes 12001 0 100) empty)
-    ++ eventOf 8000 4 0 20 3 0 0 0 0 (at 1 (cellBytes 3001 0 0) empty)
+    eventOf 695 1 1 20 0 1 4 0 0 (at 2 (cellBytes 600 2500 0) empty)
+    ++ eventOf 695 2 1 13 0 0 0 0 0 (at 4 (cellBytes 1001 999 0) empty)
+    ++ eventOf 695 3 0 12 0 0 1 100000 (minus 50) (at 0 (cellBytes 10 100 0) empty)
+    ++ eventOf 695 4 0 20 0 0 0 1 0 (at 0 (cellBytes 12001 0 100) empty)
+    ++ eventOf 695 4 0 20 3 0 0 0 0 (at 1 (cellBytes 3001 0 0) empty)
 
 unfoldable pub mixed : List ℕ
-mixed = fileOf areaUnits mixedReferences (entryBytes 1 3 0 43 7900) mixedEvents
+mixed = fileOf areaUnits mixedReferences (entryBytes 1 3 0 3 595) mixedEvents
 
 -- 2 × 600 × 2,500 twentieths is 150,000 cents; E is 1,001,000, and 3 × E is below 10,000,000
 unfoldable pub mixedRows : List ℕ
@@ -139,11 +139,11 @@ mixedRows =
 -- next day's Day-Ahead, whose union of P is empty
 unfoldable pub twoDaysEvents : List ℕ
 twoDaysEvents =
-    eventOf 8000 1 0 12 0 1 0 0 0 (at 5 (cellBytes 501 (minus 100) 0) empty)
-    ++ eventOf 8000 3 1 12 0 0 2 1000000 0 (at 1 (cellBytes 100 200 0) empty)
-    ++ eventOf 8001 1 0 13 0 1 0 0 0 (at 5 (cellBytes 1501 2000 0) empty)
-    ++ eventOf 8001 3 0 13 0 0 0 (minus 10) 600000 empty
-    ++ eventOf 8001 4 1 13 7 0 0 1 0 (at 0 (cellBytes 201 0 0) empty)
+    eventOf 695 1 0 12 0 1 0 0 0 (at 5 (cellBytes 501 (minus 100) 0) empty)
+    ++ eventOf 695 3 1 12 0 0 2 1000000 0 (at 1 (cellBytes 100 200 0) empty)
+    ++ eventOf 696 1 0 13 0 1 0 0 0 (at 5 (cellBytes 1501 2000 0) empty)
+    ++ eventOf 696 3 0 13 0 0 0 (minus 10) 600000 empty
+    ++ eventOf 696 4 1 13 7 0 0 1 0 (at 0 (cellBytes 201 0 0) empty)
 
 unfoldable pub twoDays : List ℕ
 twoDays = fileOf units (referenceBytes 13 7 100) [] twoDaysEvents
@@ -164,14 +164,14 @@ groupReferences = referenceBytes 13 2 1000 ++ referenceBytes 13 3 1000
 
 unfoldable pub groupEvents : List ℕ
 groupEvents =
-    eventOf 8000 1 1 12 0 1 0 0 0 (at 4 (cellBytes 500 3000 0) empty)
-    ++ eventOf 8000 1 1 13 0 0 0 0 0 (at 4 (cellBytes 600 5000 0) empty)
-    ++ eventOf 8000 2 1 12 0 1 0 0 0 (at 7 (cellBytes 1 333 0) empty)
-    ++ eventOf 8000 2 1 20 0 1 2 0 0 (at 0 (cellBytes 1000 999 0) (at 1 (cellBytes 500 999 0) empty))
-    ++ eventOf 8000 3 1 12 0 0 1 (minus 10) 0 empty
-    ++ eventOf 8000 3 1 13 0 0 8 0 0 empty
-    ++ eventOf 8000 4 0 13 2 0 0 3 0 (at 0 (cellBytes 4001 0 0) (at 1 (cellBytes 4000 0 0) empty))
-    ++ eventOf 8001 4 0 13 3 0 0 64 0 (at 6 (cellBytes 3001 0 0) empty)
+    eventOf 695 1 1 12 0 1 0 0 0 (at 4 (cellBytes 500 3000 0) empty)
+    ++ eventOf 695 1 1 13 0 0 0 0 0 (at 4 (cellBytes 600 5000 0) empty)
+    ++ eventOf 695 2 1 12 0 1 0 0 0 (at 7 (cellBytes 1 333 0) empty)
+    ++ eventOf 695 2 1 20 0 1 2 0 0 (at 0 (cellBytes 1000 999 0) (at 1 (cellBytes 500 999 0) empty))
+    ++ eventOf 695 3 1 12 0 0 1 (minus 10) 0 empty
+    ++ eventOf 695 3 1 13 0 0 8 0 0 empty
+    ++ eventOf 695 4 0 13 2 0 0 3 0 (at 0 (cellBytes 4001 0 0) (at 1 (cellBytes 4000 0 0) empty))
+    ++ eventOf 696 4 0 13 3 0 0 64 0 (at 6 (cellBytes 3001 0 0) empty)
 
 unfoldable pub group : List ℕ
 group = fileOf areaUnits groupReferences [] groupEvents
@@ -188,12 +188,12 @@ groupRows =
     ++ rowBytes 1 1 0 0 0 0 0 (at 0 1000 (at 1 4000 noBids))
     ++ rowBytes 64 64 0 0 0 0 0 (at 6 1000 noBids)
 
--- past entries on both sides of every window: periods 41 (too early), 42 and 43, the other market; fuel on the day before the
--- window of day 8000 and on its first day
+-- past entries on both sides of every window: periods 1 (too early), 2 and 3, the other market; fuel on the day before the
+-- window of day 695 and on its first day
 unfoldable pub windowPast : List ℕ
 windowPast =
-    entryBytes 1 1 0 41 7500 ++ entryBytes 1 1 1 44 7980 ++ entryBytes 1 1 0 42 7700 ++ entryBytes 1 1 0 43 7900
-    ++ entryBytes 2 3 1 43 7815 ++ entryBytes 1 3 1 43 7816
+    entryBytes 1 1 0 1 195 ++ entryBytes 1 1 1 4 675 ++ entryBytes 1 1 0 2 395 ++ entryBytes 1 1 0 3 595
+    ++ entryBytes 2 3 1 3 510 ++ entryBytes 1 3 1 3 511
 
 unfoldable pub windowReferences : List ℕ
 windowReferences = referenceBytes 20 0 2000 ++ referenceBytes 20 3 2000
@@ -204,12 +204,12 @@ windowCorrection = referenceBytes 20 0 2500 ++ referenceBytes 20 3 2500
 -- two instances of one group, a fuel day of each, start-up cost, and energy in a tight hour
 unfoldable pub windowEvents : List ℕ
 windowEvents =
-    eventOf 8000 1 0 12 0 1 0 0 0 (at 23 (cellBytes 1001 1 0) empty)
-    ++ eventOf 8000 1 0 13 0 1 0 0 0 (at 23 (cellBytes 1 5 0) empty)
-    ++ eventOf 8000 3 0 13 0 0 1 0 1000000 (at 0 (cellBytes 100 50000 0) empty)
-    ++ eventOf 8000 3 0 20 0 0 0 500000 0 empty
-    ++ eventOf 8000 4 0 20 3 0 0 1120 0 (at 5 (cellBytes 6001 0 0) (at 6 (cellBytes 6000 0 0) (at 10 (cellBytes 7501 0 0) empty)))
-    ++ eventOf 8000 4 1 20 0 0 4 4 0 (at 2 (cellBytes 2877 2499 7) empty)
+    eventOf 695 1 0 12 0 1 0 0 0 (at 23 (cellBytes 1001 1 0) empty)
+    ++ eventOf 695 1 0 13 0 1 0 0 0 (at 23 (cellBytes 1 5 0) empty)
+    ++ eventOf 695 3 0 13 0 0 1 0 1000000 (at 0 (cellBytes 100 50000 0) empty)
+    ++ eventOf 695 3 0 20 0 0 0 500000 0 empty
+    ++ eventOf 695 4 0 20 3 0 0 1120 0 (at 5 (cellBytes 6001 0 0) (at 6 (cellBytes 6000 0 0) (at 10 (cellBytes 7501 0 0) empty)))
+    ++ eventOf 695 4 1 20 0 0 4 4 0 (at 2 (cellBytes 2877 2499 7) empty)
 
 unfoldable pub windows : List ℕ
 windows = fileOf areaUnits windowReferences windowPast windowEvents

@@ -43,27 +43,27 @@ use Rattle.demands.proofs.Demands.{demand-3}
 unfoldable pub caseOf : (past : List ℕ) (withheld undelivered bid maximum : ℕ) → List ℕ
 caseOf past withheld undelivered bid maximum =
     fileOf units (referenceBytes 12 0 625 ++ referenceBytes 12 8 100) past
-    (eventOf 8000 1 0 12 0 1 0 0 0 (at 0 (cellBytes withheld 4000 0) empty)
-    ++ eventOf 8000 2 1 12 0 1 0 0 0 (at 0 (cellBytes undelivered 1001 0) empty)
-    ++ eventOf 8000 3 0 12 0 0 1 499999 0 empty
-    ++ eventOf 8000 4 0 12 0 0 0 0 0 (at 0 (cellBytes bid 0 0) empty)
-    ++ eventOf 8000 4 0 12 8 0 0 0 0 (at 0 (cellBytes maximum 0 0) empty))
+    (eventOf 695 1 0 12 0 1 0 0 0 (at 0 (cellBytes withheld 4000 0) empty)
+    ++ eventOf 695 2 1 12 0 1 0 0 0 (at 0 (cellBytes undelivered 1001 0) empty)
+    ++ eventOf 695 3 0 12 0 0 1 499999 0 empty
+    ++ eventOf 695 4 0 12 0 0 0 0 0 (at 0 (cellBytes bid 0 0) empty)
+    ++ eventOf 695 4 0 12 8 0 0 0 0 (at 0 (cellBytes maximum 0 0) empty))
 
 unfoldable pub before : List ℕ
-before = caseOf (entryBytes 1 1 0 44 7980) 500 0 (minus 100) 50
+before = caseOf (entryBytes 1 1 0 4 675) 500 0 (minus 100) 50
 
 -- MW raised, bids raised, the maximum lowered, and entries put before, between and after the others, in a mixed order
--- the fuel entry is of the first day of the window of day 8000, 184 days before it
+-- the fuel entry is of the first day of the window of day 695, 184 days before it
 unfoldable pub changes : List Change
 changes =
     cell 0 0 501
-    ∷ entry 0 (entryBytes 1 3 0 43 7816)
+    ∷ entry 0 (entryBytes 1 3 0 3 511)
     ∷ cell 3 0 2500
     ∷ cell 4 0 49
-    ∷ entry 1 (entryBytes 1 1 0 43 7900)
+    ∷ entry 1 (entryBytes 1 1 0 3 595)
     ∷ cell 1 0 1
     ∷ cell 0 0 502
-    ∷ entry 3 (entryBytes 1 1 0 42 7700)
+    ∷ entry 3 (entryBytes 1 1 0 2 395)
     ∷ cell 3 0 2501
     ∷ cell 4 0 10
     ∷ cell 1 0 2000
@@ -71,7 +71,7 @@ changes =
 
 unfoldable pub after : List ℕ
 after =
-    caseOf (entryBytes 1 3 0 43 7816 ++ entryBytes 1 1 0 43 7900 ++ entryBytes 1 1 0 44 7980 ++ entryBytes 1 1 0 42 7700) 502 2000 2501 10
+    caseOf (entryBytes 1 3 0 3 511 ++ entryBytes 1 1 0 3 595 ++ entryBytes 1 1 0 4 675 ++ entryBytes 1 1 0 2 395) 502 2000 2501 10
 
 changed : applyAll changes before ≡ after
 unfolding caseOf before changes after headed fileIn fileOf unitBytes referenceBytes entryBytes units cellBytes eventOf joinTo valueAt bytesOf firstWidths widthsOf formatIn offsetOf lengthOf sectionOf recordAt unitsIn referencesIn violationIn pastIn cellsFrom cellsIn eventsIn amountsIn decode caseIn cellPlace cellWritten entryPlace entryPut longerPast laterEvents headerMoved apply applyAll moreWithheld lowerBid movedBid worseBid worseAmount
@@ -141,7 +141,7 @@ cost = (refl, refl)
 
 -- E −10,000,000 and T 2,000,000, alone in a case
 unfoldable pub lossMaking : List ℕ
-lossMaking = fileOf (unitBytes 12 1 0 5000) [] [] (eventOf 8000 3 0 12 0 0 0 (minus 1000000) 2000000 empty)
+lossMaking = fileOf (unitBytes 12 1 0 5000) [] [] (eventOf 695 3 0 12 0 0 0 (minus 1000000) 2000000 empty)
 
 -- a past entry turns M from 2 to 3, and the penalty falls from 1,000,000 to 500,000
 pub premise-needed : ((file worse rows worseRows : List ℕ) (answer worseAnswer : Settlement) (after worseAfter : List ℕ)
@@ -151,10 +151,10 @@ pub premise-needed : ((file worse rows worseRows : List ℕ) (answer worseAnswer
     → ⊥
 unfolding settlementOf lossMaking headed fileIn fileOf unitBytes entryBytes eventOf cellPlace cellWritten entryPlace entryPut longerPast laterEvents headerMoved apply applyAll moreWithheld lowerBid movedBid worseBid worseAmount sumTo countTo anyTo allTo firstTo lastTo maskTo bitOf valueAt bytesOf positivePart negativePart within thresholdOf increase lowerTest constrainedTest percentTest timeTest maximumTest bidTest unitLimit groupLimit withheldTest dispatchTest cents periodCounts ladder withheldPenalty dispatchPenalty fuelDayCounts fuelCharge fuelPenalty between spanned spanMask atMost lesser greater defaultBid restores correctedBid correctedInForce excess hourMakeUp makeUp firstWidths widthsOf formatIn offsetOf lengthOf sectionOf recordAt unitsIn referencesIn violationIn pastIn cellsFrom cellsIn eventsIn amountsIn decode caseIn isUnit isListed placeOf unitOf groupOf isReference hasReference levelOf correctReferences correctIn referenceOf lengthFine versionFine sectionsFine pairsFine sizeFine sizesFine recordNumbersFine unitNumbersFine referenceNumbersFine eventNumbersFine numbersFine rises unitFieldsFine unitSpareFine referenceSpareFine entrySpareFine unitFine unitsFine referenceFieldsFine referenceKey referenceFine referencesFine correctionFine violationFine entryFine pastFine maskFine quantitiesFine fieldsFine referenceInRange bidInRange cellFine hourFine eventFine eventsFine monthLength monthStart monthFrom monthOf dayOfMonth dayWithin windowStart periodOf dayFine daysFine periodFine periodsFine eventKey orderFine eventListed eventsListed withinCapability amountFine amountsFine readsCorrect referenceFound referencesFound rowsFine refusal tight together sumTogether timeBid timeTotal bidFlag groupCapability groupSum withheldFlag dispatchFlag fuelFlag flagged flagMask flaggedWithImpact isInstance countsHere countsPast instances N3 N2 withheldMultiplier withheldAmount withheldPenaltyOf dispatchMultiplier dispatchRevenue dispatchPenaltyOf energyPart gain loss tccChange lowestUnit countsFuel pastFuel fuelStands fuelMultiplierAfter fuelPenaltyUnder priorFuel fuelMultiplier fuelPenaltyOf multiplier penalty totalPenalty hit mitigated mitigatedMask correctOf bidInForce makeUpTenths makeUpOf totalMakeUp joinTo bidBytes rowOf rowsOf accepted answerOf rowsAfter settled
 premise-needed claim =
-    let later : List ℕ = apply (entry 0 (entryBytes 1 3 0 43 7816)) lossMaking in
+    let later : List ℕ = apply (entry 0 (entryBytes 1 3 0 3 511)) lossMaking in
     let fallen : 1000000 ≤ 500000 =
     claim lossMaking later (replicate 128 0) (replicate 128 0) _ _ _ _ (run lossMaking (replicate 128 0)) (run later (replicate 128 0))
-    (entry 0 (entryBytes 1 3 0 43 7816) ∷ []) refl (record { place = lit≤ tt; size = refl }, tt) refl refl tt .total in
+    (entry 0 (entryBytes 1 3 0 3 511) ∷ []) refl (record { place = lit≤ tt; size = refl }, tt) refl refl tt .total in
     omega arith
 
 -- ---- mitigated hours
@@ -163,7 +163,7 @@ premise-needed claim =
 unfoldable pub runningUnit : (hour5 : ℕ) → List ℕ
 runningUnit hour5 =
     fileOf (unitBytes 12 1 0 5000) (referenceBytes 12 1 5000) []
-    (eventOf 8000 4 0 12 1 0 0 1056 8 (at 5 (cellBytes hour5 0 0) (at 10 (cellBytes 15001 0 0) empty)))
+    (eventOf 695 4 0 12 1 0 0 1056 8 (at 5 (cellBytes hour5 0 0) (at 10 (cellBytes 15001 0 0) empty)))
 
 -- with these hits the mitigated hours are their span
 spanned-by : (hour5 hits : ℕ) → allTo 24 (λ h. Bool·beq (hit (decode (runningUnit hour5)) 0 h) (bitOf hits h)) ≡ true
