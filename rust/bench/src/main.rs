@@ -6,14 +6,16 @@
 //!     rt staticlib api
 //!     cargo run --release --offline --locked -p bench [rounds [proved]]
 //!
-//! With `proved` a line is a case's name and the times of the proved check and settlement, in
+//! With `proved` it says the names of the cases, a line each and then an empty one, and for each place in
+//! that list that it is asked for on standard input the times of the proved check and settlement, in
 //! microseconds and with tabs between them, and of version 2 also those of the same case in version 1:
-//! what scripts/compare reads.
+//! so scripts/compare times two archives by turns.
 
 mod shapes;
 mod times;
 
 use std::env;
+use std::io;
 use std::slice;
 
 use attachment_h::check;
@@ -36,7 +38,7 @@ fn main() {
             }
             print_pairs(rounds);
         }
-        Some("proved") => print_proved(rounds),
+        Some("proved") => answer_proved(rounds),
         Some(word) => panic!("{word} is not `proved`"),
     }
 }
@@ -131,21 +133,30 @@ fn print_pairs(rounds: usize) {
     }
 }
 
-/// The times of an archive that may go by other rules than the second implementation.
-fn print_proved(rounds: usize) {
-    for (name, cases) in timed(Version::One) {
-        let Calls { check, settle } = proved(rounds, &inputs(&cases));
-        println!("{name}\t{check:.4}\t{settle:.4}");
+/// The times of an archive that may go by other rules than the second implementation, as they are asked for.
+fn answer_proved(rounds: usize) {
+    let of_1 = timed(Version::One).into_iter();
+    let mut cases: Vec<(String, Vec<Vec<Input>>)> = of_1
+        .map(|(name, cases)| (format!("1\t{name}"), vec![inputs(&cases)]))
+        .collect();
+    if read_versions().contains(&Version::Two) {
+        let of_2 = timed(Version::Two).into_iter();
+        cases.extend(of_2.map(|(name, cases)| (format!("2\t{name}"), Vec::from(pair(&cases)))));
     }
-    if !read_versions().contains(&Version::Two) {
-        return;
+    for (name, _) in &cases {
+        println!("{name}");
     }
-    for (name, cases) in timed(Version::Two) {
-        let [two, one] = pair(&cases).map(|inputs| proved(rounds, &inputs));
-        println!(
-            "{name}\t{:.4}\t{:.4}\t{:.4}\t{:.4}",
-            two.check, two.settle, one.check, one.settle
-        );
+    println!();
+    for line in io::stdin().lines() {
+        let line = line.expect("a line of standard input");
+        let place: usize = line.parse().expect("the place of a case");
+        let times: Vec<String> = cases[place]
+            .1
+            .iter()
+            .map(|inputs| proved(rounds, inputs))
+            .map(|Calls { check, settle }| format!("{check:.4}\t{settle:.4}"))
+            .collect();
+        println!("{}", times.join("\t"));
     }
 }
 
