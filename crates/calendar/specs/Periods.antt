@@ -20,15 +20,22 @@ inWindow first d e = ltb e d && leb first e
 unfoldable pub periodOf : (d : ℕ) → ℕ
 periodOf d = (monthOf d + 2) / 6
 
--- a day of the calendar, and its period
+-- the calendar has day d
+abbrev pub inCalendar : (d : ℕ) → Bool
+inCalendar d = ltb d calendarDays
+
+-- p is the period of day d
+abbrev pub isPeriod : (d p : ℕ) → Bool
+isPeriod d p = eqb p (periodOf d)
+
 unfoldable pub hasPeriod : (d p : ℕ) → Bool
-hasPeriod d p = ltb d calendarDays && eqb p (periodOf d)
+hasPeriod d p = inCalendar d && isPeriod d p
 
 -- the period that the calendar's last day is in
 abbrev pub lastPeriod : ℕ
 lastPeriod = 200
 
--- the same by the starts of months: the days from a period's first month to the month after its last, or to the calendar's end; none of a period past the calendar
+-- hasPeriod by the starts of months: the days from a period's first month to the month after its last, or to the calendar's end; none of a period past the calendar
 unfoldable pub hasDay : (p d : ℕ) → Bool
 hasDay p d =
     cond (ltb lastPeriod p) false (leb (monthStart (6 * p - 2)) d && ltb d (cond (eqb p lastPeriod) calendarDays (monthStart (6 * p + 4))))

@@ -4,9 +4,9 @@ use mathlib.Core.Bool.{Bool, true, false, _&&_}
 use mathlib.Core.Path.{_≡_, refl, sym, ap, ap₂, _∙_}
 use Rattle.binary.specs.Bounded.{allTo}
 use Rattle.binary.proofs.Implies.{and-l, and-r}
-use Rattle.calendar.specs.Periods.{hasPeriod}
+use Rattle.calendar.specs.Periods.{hasPeriod, inCalendar, isPeriod}
 use Rattle.casefile.specs.Case.{Past, Events}
-use Rattle.limits.specs.Refusal.{dayFine, daysFine, periodFine, periodsFine, unless}
+use Rattle.limits.specs.Refusal.{daysFine, periodsFine, unless}
 use Rattle.limits.specs.StageRefusal.{eventsInCalendar}
 
 swap : (a b c d : Bool) → ((a && b) && (c && d)) ≡ ((a && c) && (b && d))
@@ -26,12 +26,12 @@ module _ (p : Past) (e : Events) where
   pastInCalendar = allTo (p .count) (λ i. hasPeriod (p .entry i .day) (p .entry i .period))
 
   pub both : (pastInCalendar && eventsInCalendar e) ≡ (daysFine p e && periodsFine p e)
-  unfolding hasPeriod eventsInCalendar dayFine daysFine periodFine periodsFine
+  unfolding hasPeriod eventsInCalendar daysFine periodsFine
   both =
-      let day : ℕ → Bool = λ i. dayFine (p .entry i .day) in
-      let period : ℕ → Bool = λ i. periodFine (p .entry i .day) (p .entry i .period) in
-      let eventDay : ℕ → Bool = λ i. dayFine (e .day i) in
-      let eventPeriod : ℕ → Bool = λ i. periodFine (e .day i) (e .period i) in
+      let day : ℕ → Bool = λ i. inCalendar (p .entry i .day) in
+      let period : ℕ → Bool = λ i. isPeriod (p .entry i .day) (p .entry i .period) in
+      let eventDay : ℕ → Bool = λ i. inCalendar (e .day i) in
+      let eventPeriod : ℕ → Bool = λ i. isPeriod (e .day i) (e .period i) in
       ap₂ _&&_ (all-both (p .count) day period) (all-both (e .count) eventDay eventPeriod)
       ∙ swap (allTo (p .count) day) (allTo (p .count) period) (allTo (e .count) eventDay) (allTo (e .count) eventPeriod)
 

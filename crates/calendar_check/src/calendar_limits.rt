@@ -1,9 +1,9 @@
 // Limits 18 and 19, over past entries and events together.
 ghost use mathlib.Core.Path.{_≡_};
 ghost use Rattle.binary.specs.Bounded.{allTo};
-ghost use Rattle.calendar.specs.Periods.{hasPeriod};
+ghost use Rattle.calendar.specs.Periods.{hasPeriod, inCalendar};
 ghost use Rattle.casefile.specs.Decode.{pastIn, eventsIn};
-ghost use Rattle.limits.specs.Refusal.{dayFine, daysFine, periodsFine, unless as unlessOf};
+ghost use Rattle.limits.specs.Refusal.{daysFine, periodsFine, unless as unlessOf};
 ghost use Rattle.limits.specs.StageRefusal.{eventsInCalendar};
 use calendar::periods::has_period;
 use calendar::table;
@@ -30,7 +30,7 @@ fn past_in_calendar(past: &[u8]) -> bool
 
 // Whether each past entry's day is in the calendar.
 fn past_days_fine(past: &[u8]) -> bool
-    ensures { λ r. ⌜ r ≡ allTo (pastIn (now (past .entry)) .count) (λ i. dayFine (pastIn (now (past .entry)) .entry i .day)) ⌝ }
+    ensures { λ r. ⌜ r ≡ allTo (pastIn (now (past .entry)) .count) (λ i. inCalendar (pastIn (now (past .entry)) .entry i .day)) ⌝ }
 {
     let n = entry_count(past);
     let mut fine = true;
@@ -45,7 +45,7 @@ fn past_days_fine(past: &[u8]) -> bool
 
 // The same of each event.
 fn event_days_fine(format: Format, events: &[u8]) -> bool
-    ensures { λ r. ⌜ r ≡ allTo (eventsIn format (now (events .entry)) .count) (λ i. dayFine (eventsIn format (now (events .entry)) .day i)) ⌝ }
+    ensures { λ r. ⌜ r ≡ allTo (eventsIn format (now (events .entry)) .count) (λ i. inCalendar (eventsIn format (now (events .entry)) .day i)) ⌝ }
 {
     let n = event_count(format, events);
     let mut fine = true;

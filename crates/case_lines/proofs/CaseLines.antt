@@ -15,7 +15,7 @@ use Rattle.tariff.specs.Threshold.{thresholdOf}
 use Rattle.casefile.specs.Layout.{firstWidths, widthsOf}
 use Rattle.casefile.specs.Decode.{formatIn, caseIn, offsetOf, lengthOf, sectionOf, recordAt, unitsIn, referencesIn, violationIn, pastIn, cellsFrom, cellsIn, eventsIn, amountsIn, decode, unitSpareFine, referenceSpareFine, entrySpareFine}
 use Rattle.casefile.specs.Lookup.{isUnit, isListed, placeOf, unitOf, isReference, referenceKey, hasReference, levelOf, referenceOf, correctReferences, readsCorrect}
-use Rattle.limits.specs.Refusal.{lengthFine, versionFine, sectionsFine, pairsFine, sizeFine, sizesFine, recordNumbersFine, unitNumbersFine, referenceNumbersFine, eventNumbersFine, numbersFine, rises, unitFieldsFine, unitFine, unitsFine, referenceFieldsFine, referenceFine, referencesFine, correctionFine, violationFine, entryFine, pastFine, maskFine, quantitiesFine, fieldsFine, cellFine, hourFine, eventFine, eventsFine, dayFine, daysFine, periodFine, periodsFine, eventKey, orderFine, eventListed, eventsListed, withinCapability, amountFine, amountsFine, referenceFound, referencesFound, rowsFine, refusal}
+use Rattle.limits.specs.Refusal.{lengthFine, versionFine, sectionsFine, pairsFine, sizeFine, sizesFine, recordNumbersFine, unitNumbersFine, referenceNumbersFine, eventNumbersFine, numbersFine, rises, unitFieldsFine, unitFine, unitsFine, referenceFieldsFine, referenceFine, referencesFine, correctionFine, violationFine, entryFine, pastFine, maskFine, quantitiesFine, fieldsFine, cellFine, hourFine, eventFine, eventsFine, daysFine, periodsFine, eventKey, orderFine, eventListed, eventsListed, withinCapability, amountFine, amountsFine, referenceFound, referencesFound, rowsFine, refusal}
 use Rattle.conduct.specs.Flags.{tight, flagged}
 use Rattle.line.specs.OpenLine.{lowerLine, clauseAsked, energyLine, isTime, overSum, openLine}
 use Rattle.line.specs.BidLine.{lineOf, noHigher, goodSide}
@@ -29,7 +29,7 @@ unfoldable pub file : List ℕ
 file = fileOf units (referenceBytes 12 0 2000) [] (eventBytes 4 0 12 44 0 8000 8001 0)
 
 pub is-accepted : refusal file [] 128 ≡ 0
-unfolding file headed fileIn fileOf unitBytes referenceBytes eventBytes units anyTo allTo lastTo valueAt bytesOf positivePart negativePart within firstWidths widthsOf formatIn offsetOf lengthOf sectionOf recordAt unitsIn referencesIn violationIn pastIn cellsFrom cellsIn eventsIn amountsIn isUnit isListed placeOf isReference hasReference correctReferences lengthFine versionFine sectionsFine pairsFine sizeFine sizesFine recordNumbersFine unitNumbersFine referenceNumbersFine eventNumbersFine numbersFine rises unitFieldsFine unitSpareFine referenceSpareFine entrySpareFine unitFine unitsFine referenceFieldsFine referenceKey referenceFine referencesFine correctionFine violationFine entryFine pastFine maskFine quantitiesFine fieldsFine referenceInRange bidInRange cellFine hourFine eventFine eventsFine monthLength monthStart monthFrom monthOf periodOf dayFine daysFine periodFine periodsFine eventKey orderFine eventListed eventsListed withinCapability amountFine amountsFine readsCorrect referenceFound referencesFound rowsFine refusal
+unfolding file headed fileIn fileOf unitBytes referenceBytes eventBytes units anyTo allTo lastTo valueAt bytesOf positivePart negativePart within firstWidths widthsOf formatIn offsetOf lengthOf sectionOf recordAt unitsIn referencesIn violationIn pastIn cellsFrom cellsIn eventsIn amountsIn isUnit isListed placeOf isReference hasReference correctReferences lengthFine versionFine sectionsFine pairsFine sizeFine sizesFine recordNumbersFine unitNumbersFine referenceNumbersFine eventNumbersFine numbersFine rises unitFieldsFine unitSpareFine referenceSpareFine entrySpareFine unitFine unitsFine referenceFieldsFine referenceKey referenceFine referencesFine correctionFine violationFine entryFine pastFine maskFine quantitiesFine fieldsFine referenceInRange bidInRange cellFine hourFine eventFine eventsFine monthLength monthStart monthFrom monthOf periodOf daysFine periodsFine eventKey orderFine eventListed eventsListed withinCapability amountFine amountsFine readsCorrect referenceFound referencesFound rowsFine refusal
 is-accepted = refl
 
 pub line-8000 : lineAt (decode file) 0 0 ≡ 8000

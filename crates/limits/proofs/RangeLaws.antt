@@ -15,6 +15,7 @@ use Rattle.binary.specs.Word.{within}
 use Rattle.binary.proofs.Implies.{and-l, and-r}
 use Rattle.binary.proofs.BoundedLaws.{all-at}
 use Rattle.calendar.specs.Months.{calendarDays}
+use Rattle.calendar.specs.Periods.{inCalendar}
 use Rattle.tariff.specs.Ranges.{highestCapability, highestComponent, highestMarket, highestDay, highestKind, highestPrice, highestRevenue, highestFuelMoney, highestEnergy, highestPriceChange, highestMegawatts, bidInRange}
 use Rattle.casefile.specs.declared.layout.Format.{Format}
 use Rattle.casefile.specs.Case.{Units, Past, Events}
@@ -23,7 +24,7 @@ use Rattle.casefile.specs.Decode.{unitsIn, referencesIn, eventsIn, oldNumber}
 use Rattle.casefile.specs.Lookup.{referenceKey, correctReferences}
 use Rattle.casefile.proofs.RecordLaws.{event-unit-lt}
 use Rattle.limits.specs.StageLookup.{Rising, UnitsInOrder, InOrder}
-use Rattle.limits.specs.Refusal.{sizeFine, numberFine, recordNumbersFine, referenceNumbersFine, eventNumbersFine, numbersFine, unitsFine, referencesFine, correctionFine, rises, unitFieldsFine, unitFine, referenceFine, quantitiesFine, fieldsFine, cellFine, eventFine, dayFine, daysFine}
+use Rattle.limits.specs.Refusal.{sizeFine, numberFine, recordNumbersFine, referenceNumbersFine, eventNumbersFine, numbersFine, unitsFine, referencesFine, correctionFine, rises, unitFieldsFine, unitFine, referenceFine, quantitiesFine, fieldsFine, cellFine, eventFine, daysFine}
 
 -- ---- tests
 
@@ -51,10 +52,10 @@ pub record EventRange (e : Events) (i : ℕ) : Type 0 where
 
 -- every event's day is in the calendar
 pub event-day : (p : Past) (e : Events) → daysFine p e ≡ true → (i : ℕ) → i < e .count → e .day i < calendarDays
-unfolding daysFine dayFine
+unfolding daysFine
 event-day p e h i l =
     ltb-true (e .day i) calendarDays
-    (all-at (e .count) i (λ j. dayFine (e .day j)) l (and-r (allTo (p .count) (λ j. dayFine (p .entry j .day))) (allTo (e .count) (λ j. dayFine (e .day j))) h))
+    (all-at (e .count) i (λ j. inCalendar (e .day j)) l (and-r (allTo (p .count) (λ j. inCalendar (p .entry j .day))) (allTo (e .count) (λ j. inCalendar (e .day j))) h))
 
 -- the cell of an hour, by kind
 pub record CellRange (kind a b m : ℕ) : Type 0 where

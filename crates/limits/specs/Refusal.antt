@@ -7,8 +7,7 @@ use lib.Dec.{ltb, leb, eqb}
 use lib.ListN.{length}
 use Rattle.binary.specs.Bounded.{allTo}
 use Rattle.binary.specs.Word.{within}
-use Rattle.calendar.specs.Months.{calendarDays}
-use Rattle.calendar.specs.Periods.{periodOf}
+use Rattle.calendar.specs.Periods.{inCalendar, isPeriod}
 use Rattle.tariff.specs.Ranges.{highestArea, lowestCapability, highestCapability, highestRate, highestAveragePrice, mostConstrainedHours, highestComponent, referenceInRange, highestMarket, highestDay, lowestKind, highestKind, highestImpact, highestPrice, highestRevenue, highestFuelMoney, highestEnergy, highestPriceChange, mostRunHours, highestMegawatts, bidInRange}
 use Rattle.casefile.specs.declared.layout.Format.{Format}
 use Rattle.casefile.specs.Layout.{firstVersion, secondVersion, sectionCount, headerWidth, longestFile, unitWidth, referenceWidth, pastWidth, eventWidth, mostUnits, mostReferences, mostPast, mostEvents, highestNumber, firstWidths, oldNumbers, rowWidth}
@@ -158,20 +157,14 @@ eventFine e a i =
 unfoldable pub eventsFine : Format → List ℕ → Bool
 eventsFine format s = allTo (eventsIn format s .count) (eventFine (eventsIn format s) (amountsIn format s))
 
--- 18: a day that the calendar has
-unfoldable pub dayFine : (day : ℕ) → Bool
-dayFine day = ltb day calendarDays
-
+-- 18: days that the calendar has
 unfoldable pub daysFine : Past → Events → Bool
-daysFine p e = allTo (p .count) (λ i. dayFine (p .entry i .day)) && allTo (e .count) (λ i. dayFine (e .day i))
+daysFine p e = allTo (p .count) (λ i. inCalendar (p .entry i .day)) && allTo (e .count) (λ i. inCalendar (e .day i))
 
--- 19: a capability period that is its day's
-unfoldable pub periodFine : (day period : ℕ) → Bool
-periodFine day period = eqb period (periodOf day)
-
+-- 19: capability periods that are their days'
 unfoldable pub periodsFine : Past → Events → Bool
 periodsFine p e =
-    allTo (p .count) (λ i. periodFine (p .entry i .day) (p .entry i .period)) && allTo (e .count) (λ i. periodFine (e .day i) (e .period i))
+    allTo (p .count) (λ i. isPeriod (p .entry i .day) (p .entry i .period)) && allTo (e .count) (λ i. isPeriod (e .day i) (e .period i))
 
 -- 11: the order of events: by day, kind, market, unit, component; the unit has 20 bits, which 17 sees to
 unfoldable pub eventKey : Events → ℕ → ℕ

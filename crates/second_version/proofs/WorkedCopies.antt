@@ -12,7 +12,7 @@ use Rattle.tariff.specs.Ranges.{referenceInRange, bidInRange}
 use Rattle.casefile.specs.Layout.{secondVersion, firstWidths, secondWidths, widthsOf}
 use Rattle.casefile.specs.Decode.{formatIn, offsetOf, lengthOf, sectionOf, recordAt, unitsIn, referencesIn, violationIn, pastIn, cellsFrom, cellsIn, eventsIn, amountsIn, oldNumber, unitSpareFine, referenceSpareFine, entrySpareFine}
 use Rattle.casefile.specs.Lookup.{isUnit, isListed, placeOf, isReference, referenceKey, hasReference, correctReferences, readsCorrect}
-use Rattle.limits.specs.Refusal.{lengthFine, versionFine, sectionsFine, pairsFine, sizeFine, sizesFine, numberFine, recordNumbersFine, unitNumbersFine, referenceNumbersFine, eventNumbersFine, numbersFine, rises, unitFieldsFine, unitFine, unitsFine, referenceFieldsFine, referenceFine, referencesFine, correctionFine, violationFine, entryFine, pastFine, maskFine, quantitiesFine, fieldsFine, cellFine, hourFine, eventFine, eventsFine, dayFine, daysFine, periodFine, periodsFine, eventKey, orderFine, eventListed, eventsListed, withinCapability, amountFine, amountsFine, referenceFound, referencesFound, rowsFine, refusal}
+use Rattle.limits.specs.Refusal.{lengthFine, versionFine, sectionsFine, pairsFine, sizeFine, sizesFine, numberFine, recordNumbersFine, unitNumbersFine, referenceNumbersFine, eventNumbersFine, numbersFine, rises, unitFieldsFine, unitFine, unitsFine, referenceFieldsFine, referenceFine, referencesFine, correctionFine, violationFine, entryFine, pastFine, maskFine, quantitiesFine, fieldsFine, cellFine, hourFine, eventFine, eventsFine, daysFine, periodsFine, eventKey, orderFine, eventListed, eventsListed, withinCapability, amountFine, amountsFine, referenceFound, referencesFound, rowsFine, refusal}
 use Rattle.casefile.specs.File.{headed, fileIn}
 use Rattle.worked_cases.specs.Files.{fileOf, unitBytes, referenceBytes, entryBytes, eventBytes, units, withheld, listing}
 use Rattle.settlement.specs.Settled.{settled}
@@ -31,7 +31,7 @@ pub record Examples : Type 0 where
   pub bids-accepted : BothAccepted bids (referenceBytes 20 0 2500) 641
 
 pub examples : Examples
-unfolding listTo joinTo copyByte copyRecord copyRecords copyUnits copyReferences copyEvents copyOf tightUnit bidReferences bidEvents bids cellBytes eventOf fileOf units listing headed fileIn unitBytes referenceBytes entryBytes eventBytes withheld anyTo allTo lastTo valueAt bytesOf positivePart negativePart within firstWidths widthsOf formatIn offsetOf lengthOf sectionOf recordAt unitsIn referencesIn violationIn pastIn cellsFrom cellsIn eventsIn amountsIn isUnit isListed placeOf isReference hasReference correctReferences lengthFine versionFine sectionsFine pairsFine sizeFine sizesFine recordNumbersFine unitNumbersFine referenceNumbersFine eventNumbersFine numbersFine rises unitFieldsFine unitSpareFine referenceSpareFine entrySpareFine unitFine unitsFine referenceFieldsFine referenceKey referenceFine referencesFine correctionFine violationFine entryFine pastFine maskFine quantitiesFine fieldsFine referenceInRange bidInRange cellFine hourFine eventFine eventsFine monthLength monthStart monthFrom monthOf periodOf dayFine daysFine periodFine periodsFine eventKey orderFine eventListed eventsListed withinCapability amountFine amountsFine readsCorrect referenceFound referencesFound rowsFine refusal secondWidths numberFine oldNumber
+unfolding listTo joinTo copyByte copyRecord copyRecords copyUnits copyReferences copyEvents copyOf tightUnit bidReferences bidEvents bids cellBytes eventOf fileOf units listing headed fileIn unitBytes referenceBytes entryBytes eventBytes withheld anyTo allTo lastTo valueAt bytesOf positivePart negativePart within firstWidths widthsOf formatIn offsetOf lengthOf sectionOf recordAt unitsIn referencesIn violationIn pastIn cellsFrom cellsIn eventsIn amountsIn isUnit isListed placeOf isReference hasReference correctReferences lengthFine versionFine sectionsFine pairsFine sizeFine sizesFine recordNumbersFine unitNumbersFine referenceNumbersFine eventNumbersFine numbersFine rises unitFieldsFine unitSpareFine referenceSpareFine entrySpareFine unitFine unitsFine referenceFieldsFine referenceKey referenceFine referencesFine correctionFine violationFine entryFine pastFine maskFine quantitiesFine fieldsFine referenceInRange bidInRange cellFine hourFine eventFine eventsFine monthLength monthStart monthFrom monthOf periodOf daysFine periodsFine eventKey orderFine eventListed eventsListed withinCapability amountFine amountsFine readsCorrect referenceFound referencesFound rowsFine refusal secondWidths numberFine oldNumber
 examples =
     record {
       listing-copied = refl;

@@ -20,7 +20,7 @@ use Rattle.casefile.specs.Layout.{secondVersion, firstWidths, secondWidths, wid
 use Rattle.casefile.specs.Decode.{formatIn, caseIn, offsetOf, lengthOf, sectionOf, recordAt, unitsIn, referencesIn, violationIn, pastIn, cellsFrom, cellsIn, eventsIn, amountsIn, decode, oldNumber, unitSpareFine, referenceSpareFine, entrySpareFine}
 use Rattle.casefile.specs.Lookup.{referenceKey, isUnit, isListed, placeOf, unitOf, groupOf, isReference, hasReference, levelOf, correctReferences, correctIn, referenceOf, readsCorrect, together}
 use Rattle.casefile.specs.File.{headed, fileIn}
-use Rattle.limits.specs.Refusal.{lengthFine, versionFine, sectionsFine, pairsFine, sizeFine, sizesFine, numberFine, recordNumbersFine, unitNumbersFine, referenceNumbersFine, eventNumbersFine, numbersFine, rises, unitFieldsFine, unitFine, unitsFine, referenceFieldsFine, referenceFine, referencesFine, correctionFine, violationFine, entryFine, pastFine, maskFine, quantitiesFine, fieldsFine, cellFine, hourFine, eventFine, eventsFine, dayFine, daysFine, periodFine, periodsFine, eventKey, orderFine, eventListed, eventsListed, withinCapability, amountFine, amountsFine, referenceFound, referencesFound, rowsFine, refusal}
+use Rattle.limits.specs.Refusal.{lengthFine, versionFine, sectionsFine, pairsFine, sizeFine, sizesFine, numberFine, recordNumbersFine, unitNumbersFine, referenceNumbersFine, eventNumbersFine, numbersFine, rises, unitFieldsFine, unitFine, unitsFine, referenceFieldsFine, referenceFine, referencesFine, correctionFine, violationFine, entryFine, pastFine, maskFine, quantitiesFine, fieldsFine, cellFine, hourFine, eventFine, eventsFine, daysFine, periodsFine, eventKey, orderFine, eventListed, eventsListed, withinCapability, amountFine, amountsFine, referenceFound, referencesFound, rowsFine, refusal}
 use Rattle.conduct.specs.Flags.{tight, sumTogether, timeBid, timeTotal, bidFlag, groupCapability, groupSum, withheldFlag, dispatchFlag, fuelFlag, flagged, flagMask}
 use Rattle.sanctions.specs.Penalties.{flaggedWithImpact, isInstance, countsHere, countsPast, instances, N3, N2, withheldMultiplier, withheldAmount, withheldPenaltyOf, dispatchMultiplier, dispatchRevenue, dispatchPenaltyOf, energyPart, gain, loss, tccChange, lowestUnit, countsFuel, pastFuel, fuelStands, fuelMultiplierAfter, fuelPenaltyUnder, priorFuel, fuelMultiplier, fuelPenaltyOf, multiplier, penalty, totalPenalty}
 use Rattle.default_bids.specs.Mitigation.{hit, mitigated, mitigatedMask, correctOf, bidInForce, makeUpTenths, makeUpOf, totalMakeUp}
@@ -54,11 +54,11 @@ unfolding wideUnits caseOf before after changes eventBytes withheld secondWidths
 changed = refl
 
 accepted-before : refusal before [] 128 ≡ 0
-unfolding wideUnits caseOf before after changes eventBytes withheld secondWidths numberFine oldNumber headed fileIn unitBytes entryBytes sumTo countTo anyTo allTo firstTo lastTo maskTo bitOf valueAt bytesOf positivePart negativePart within thresholdOf increase lowerTest constrainedTest percentTest timeTest maximumTest bidTest unitLimit groupLimit withheldTest dispatchTest cents periodCounts ladder withheldPenalty dispatchPenalty fuelDayCounts fuelCharge fuelPenalty between spanned spanMask atMost lesser greater defaultBid restores correctedBid correctedInForce excess hourMakeUp makeUp firstWidths widthsOf formatIn offsetOf lengthOf sectionOf recordAt unitsIn referencesIn violationIn pastIn cellsFrom cellsIn eventsIn amountsIn decode caseIn isUnit isListed placeOf unitOf groupOf isReference hasReference levelOf correctReferences correctIn referenceOf lengthFine versionFine sectionsFine pairsFine sizeFine sizesFine recordNumbersFine unitNumbersFine referenceNumbersFine eventNumbersFine numbersFine rises unitFieldsFine unitSpareFine referenceSpareFine entrySpareFine unitFine unitsFine referenceFieldsFine referenceKey referenceFine referencesFine correctionFine violationFine entryFine pastFine maskFine quantitiesFine fieldsFine referenceInRange bidInRange cellFine hourFine eventFine eventsFine monthLength monthStart monthFrom monthOf dayOfMonth dayWithin windowStart periodOf dayFine daysFine periodFine periodsFine eventKey orderFine eventListed eventsListed withinCapability amountFine amountsFine readsCorrect referenceFound referencesFound rowsFine refusal tight together sumTogether timeBid timeTotal bidFlag groupCapability groupSum withheldFlag dispatchFlag fuelFlag flagged flagMask flaggedWithImpact isInstance countsHere countsPast instances N3 N2 withheldMultiplier withheldAmount withheldPenaltyOf dispatchMultiplier dispatchRevenue dispatchPenaltyOf energyPart gain loss tccChange lowestUnit countsFuel pastFuel fuelStands fuelMultiplierAfter fuelPenaltyUnder priorFuel fuelMultiplier fuelPenaltyOf multiplier penalty totalPenalty hit mitigated mitigatedMask correctOf bidInForce makeUpTenths makeUpOf totalMakeUp joinTo bidBytes rowOf rowsOf accepted answerOf rowsAfter settled
+unfolding wideUnits caseOf before after changes eventBytes withheld secondWidths numberFine oldNumber headed fileIn unitBytes entryBytes sumTo countTo anyTo allTo firstTo lastTo maskTo bitOf valueAt bytesOf positivePart negativePart within thresholdOf increase lowerTest constrainedTest percentTest timeTest maximumTest bidTest unitLimit groupLimit withheldTest dispatchTest cents periodCounts ladder withheldPenalty dispatchPenalty fuelDayCounts fuelCharge fuelPenalty between spanned spanMask atMost lesser greater defaultBid restores correctedBid correctedInForce excess hourMakeUp makeUp firstWidths widthsOf formatIn offsetOf lengthOf sectionOf recordAt unitsIn referencesIn violationIn pastIn cellsFrom cellsIn eventsIn amountsIn decode caseIn isUnit isListed placeOf unitOf groupOf isReference hasReference levelOf correctReferences correctIn referenceOf lengthFine versionFine sectionsFine pairsFine sizeFine sizesFine recordNumbersFine unitNumbersFine referenceNumbersFine eventNumbersFine numbersFine rises unitFieldsFine unitSpareFine referenceSpareFine entrySpareFine unitFine unitsFine referenceFieldsFine referenceKey referenceFine referencesFine correctionFine violationFine entryFine pastFine maskFine quantitiesFine fieldsFine referenceInRange bidInRange cellFine hourFine eventFine eventsFine monthLength monthStart monthFrom monthOf dayOfMonth dayWithin windowStart periodOf daysFine periodsFine eventKey orderFine eventListed eventsListed withinCapability amountFine amountsFine readsCorrect referenceFound referencesFound rowsFine refusal tight together sumTogether timeBid timeTotal bidFlag groupCapability groupSum withheldFlag dispatchFlag fuelFlag flagged flagMask flaggedWithImpact isInstance countsHere countsPast instances N3 N2 withheldMultiplier withheldAmount withheldPenaltyOf dispatchMultiplier dispatchRevenue dispatchPenaltyOf energyPart gain loss tccChange lowestUnit countsFuel pastFuel fuelStands fuelMultiplierAfter fuelPenaltyUnder priorFuel fuelMultiplier fuelPenaltyOf multiplier penalty totalPenalty hit mitigated mitigatedMask correctOf bidInForce makeUpTenths makeUpOf totalMakeUp joinTo bidBytes rowOf rowsOf accepted answerOf rowsAfter settled
 accepted-before = refl
 
 accepted-after : refusal after [] 200 ≡ 0
-unfolding wideUnits caseOf before after changes eventBytes withheld secondWidths numberFine oldNumber headed fileIn unitBytes entryBytes sumTo countTo anyTo allTo firstTo lastTo maskTo bitOf valueAt bytesOf positivePart negativePart within thresholdOf increase lowerTest constrainedTest percentTest timeTest maximumTest bidTest unitLimit groupLimit withheldTest dispatchTest cents periodCounts ladder withheldPenalty dispatchPenalty fuelDayCounts fuelCharge fuelPenalty between spanned spanMask atMost lesser greater defaultBid restores correctedBid correctedInForce excess hourMakeUp makeUp firstWidths widthsOf formatIn offsetOf lengthOf sectionOf recordAt unitsIn referencesIn violationIn pastIn cellsFrom cellsIn eventsIn amountsIn decode caseIn isUnit isListed placeOf unitOf groupOf isReference hasReference levelOf correctReferences correctIn referenceOf lengthFine versionFine sectionsFine pairsFine sizeFine sizesFine recordNumbersFine unitNumbersFine referenceNumbersFine eventNumbersFine numbersFine rises unitFieldsFine unitSpareFine referenceSpareFine entrySpareFine unitFine unitsFine referenceFieldsFine referenceKey referenceFine referencesFine correctionFine violationFine entryFine pastFine maskFine quantitiesFine fieldsFine referenceInRange bidInRange cellFine hourFine eventFine eventsFine monthLength monthStart monthFrom monthOf dayOfMonth dayWithin windowStart periodOf dayFine daysFine periodFine periodsFine eventKey orderFine eventListed eventsListed withinCapability amountFine amountsFine readsCorrect referenceFound referencesFound rowsFine refusal tight together sumTogether timeBid timeTotal bidFlag groupCapability groupSum withheldFlag dispatchFlag fuelFlag flagged flagMask flaggedWithImpact isInstance countsHere countsPast instances N3 N2 withheldMultiplier withheldAmount withheldPenaltyOf dispatchMultiplier dispatchRevenue dispatchPenaltyOf energyPart gain loss tccChange lowestUnit countsFuel pastFuel fuelStands fuelMultiplierAfter fuelPenaltyUnder priorFuel fuelMultiplier fuelPenaltyOf multiplier penalty totalPenalty hit mitigated mitigatedMask correctOf bidInForce makeUpTenths makeUpOf totalMakeUp joinTo bidBytes rowOf rowsOf accepted answerOf rowsAfter settled
+unfolding wideUnits caseOf before after changes eventBytes withheld secondWidths numberFine oldNumber headed fileIn unitBytes entryBytes sumTo countTo anyTo allTo firstTo lastTo maskTo bitOf valueAt bytesOf positivePart negativePart within thresholdOf increase lowerTest constrainedTest percentTest timeTest maximumTest bidTest unitLimit groupLimit withheldTest dispatchTest cents periodCounts ladder withheldPenalty dispatchPenalty fuelDayCounts fuelCharge fuelPenalty between spanned spanMask atMost lesser greater defaultBid restores correctedBid correctedInForce excess hourMakeUp makeUp firstWidths widthsOf formatIn offsetOf lengthOf sectionOf recordAt unitsIn referencesIn violationIn pastIn cellsFrom cellsIn eventsIn amountsIn decode caseIn isUnit isListed placeOf unitOf groupOf isReference hasReference levelOf correctReferences correctIn referenceOf lengthFine versionFine sectionsFine pairsFine sizeFine sizesFine recordNumbersFine unitNumbersFine referenceNumbersFine eventNumbersFine numbersFine rises unitFieldsFine unitSpareFine referenceSpareFine entrySpareFine unitFine unitsFine referenceFieldsFine referenceKey referenceFine referencesFine correctionFine violationFine entryFine pastFine maskFine quantitiesFine fieldsFine referenceInRange bidInRange cellFine hourFine eventFine eventsFine monthLength monthStart monthFrom monthOf dayOfMonth dayWithin windowStart periodOf daysFine periodsFine eventKey orderFine eventListed eventsListed withinCapability amountFine amountsFine readsCorrect referenceFound referencesFound rowsFine refusal tight together sumTogether timeBid timeTotal bidFlag groupCapability groupSum withheldFlag dispatchFlag fuelFlag flagged flagMask flaggedWithImpact isInstance countsHere countsPast instances N3 N2 withheldMultiplier withheldAmount withheldPenaltyOf dispatchMultiplier dispatchRevenue dispatchPenaltyOf energyPart gain loss tccChange lowestUnit countsFuel pastFuel fuelStands fuelMultiplierAfter fuelPenaltyUnder priorFuel fuelMultiplier fuelPenaltyOf multiplier penalty totalPenalty hit mitigated mitigatedMask correctOf bidInForce makeUpTenths makeUpOf totalMakeUp joinTo bidBytes rowOf rowsOf accepted answerOf rowsAfter settled
 accepted-after = refl
 
 taken : TakesAll before changes
@@ -81,5 +81,5 @@ worked =
 -- and what it costs
 pub cost : (settled before [] (replicate 128 0) ≡ record { answer = record { number = 0; rowCount = 1; penalties = 0; makeUps = 0 }; rows = rowBytes 0 0 0 0 0 0 0 noBids })
     × (settled after [] (replicate 128 0) ≡ record { answer = record { number = 0; rowCount = 1; penalties = 200400; makeUps = 0 }; rows = rowBytes 1 0 200400 0 2 2 2 noBids })
-unfolding wideUnits caseOf before after changes eventBytes withheld secondWidths numberFine oldNumber headed fileIn unitBytes entryBytes rowBytes sumTo countTo anyTo allTo firstTo lastTo maskTo bitOf valueAt bytesOf positivePart negativePart within thresholdOf increase lowerTest constrainedTest percentTest timeTest maximumTest bidTest unitLimit groupLimit withheldTest dispatchTest cents periodCounts ladder withheldPenalty dispatchPenalty fuelDayCounts fuelCharge fuelPenalty between spanned spanMask atMost lesser greater defaultBid restores correctedBid correctedInForce excess hourMakeUp makeUp firstWidths widthsOf formatIn offsetOf lengthOf sectionOf recordAt unitsIn referencesIn violationIn pastIn cellsFrom cellsIn eventsIn amountsIn decode caseIn isUnit isListed placeOf unitOf groupOf isReference hasReference levelOf correctReferences correctIn referenceOf lengthFine versionFine sectionsFine pairsFine sizeFine sizesFine recordNumbersFine unitNumbersFine referenceNumbersFine eventNumbersFine numbersFine rises unitFieldsFine unitSpareFine referenceSpareFine entrySpareFine unitFine unitsFine referenceFieldsFine referenceKey referenceFine referencesFine correctionFine violationFine entryFine pastFine maskFine quantitiesFine fieldsFine referenceInRange bidInRange cellFine hourFine eventFine eventsFine monthLength monthStart monthFrom monthOf dayOfMonth dayWithin windowStart periodOf dayFine daysFine periodFine periodsFine eventKey orderFine eventListed eventsListed withinCapability amountFine amountsFine readsCorrect referenceFound referencesFound rowsFine refusal tight together sumTogether timeBid timeTotal bidFlag groupCapability groupSum withheldFlag dispatchFlag fuelFlag flagged flagMask flaggedWithImpact isInstance countsHere countsPast instances N3 N2 withheldMultiplier withheldAmount withheldPenaltyOf dispatchMultiplier dispatchRevenue dispatchPenaltyOf energyPart gain loss tccChange lowestUnit countsFuel pastFuel fuelStands fuelMultiplierAfter fuelPenaltyUnder priorFuel fuelMultiplier fuelPenaltyOf multiplier penalty totalPenalty hit mitigated mitigatedMask correctOf bidInForce makeUpTenths makeUpOf totalMakeUp joinTo bidBytes rowOf rowsOf accepted answerOf rowsAfter settled
+unfolding wideUnits caseOf before after changes eventBytes withheld secondWidths numberFine oldNumber headed fileIn unitBytes entryBytes rowBytes sumTo countTo anyTo allTo firstTo lastTo maskTo bitOf valueAt bytesOf positivePart negativePart within thresholdOf increase lowerTest constrainedTest percentTest timeTest maximumTest bidTest unitLimit groupLimit withheldTest dispatchTest cents periodCounts ladder withheldPenalty dispatchPenalty fuelDayCounts fuelCharge fuelPenalty between spanned spanMask atMost lesser greater defaultBid restores correctedBid correctedInForce excess hourMakeUp makeUp firstWidths widthsOf formatIn offsetOf lengthOf sectionOf recordAt unitsIn referencesIn violationIn pastIn cellsFrom cellsIn eventsIn amountsIn decode caseIn isUnit isListed placeOf unitOf groupOf isReference hasReference levelOf correctReferences correctIn referenceOf lengthFine versionFine sectionsFine pairsFine sizeFine sizesFine recordNumbersFine unitNumbersFine referenceNumbersFine eventNumbersFine numbersFine rises unitFieldsFine unitSpareFine referenceSpareFine entrySpareFine unitFine unitsFine referenceFieldsFine referenceKey referenceFine referencesFine correctionFine violationFine entryFine pastFine maskFine quantitiesFine fieldsFine referenceInRange bidInRange cellFine hourFine eventFine eventsFine monthLength monthStart monthFrom monthOf dayOfMonth dayWithin windowStart periodOf daysFine periodsFine eventKey orderFine eventListed eventsListed withinCapability amountFine amountsFine readsCorrect referenceFound referencesFound rowsFine refusal tight together sumTogether timeBid timeTotal bidFlag groupCapability groupSum withheldFlag dispatchFlag fuelFlag flagged flagMask flaggedWithImpact isInstance countsHere countsPast instances N3 N2 withheldMultiplier withheldAmount withheldPenaltyOf dispatchMultiplier dispatchRevenue dispatchPenaltyOf energyPart gain loss tccChange lowestUnit countsFuel pastFuel fuelStands fuelMultiplierAfter fuelPenaltyUnder priorFuel fuelMultiplier fuelPenaltyOf multiplier penalty totalPenalty hit mitigated mitigatedMask correctOf bidInForce makeUpTenths makeUpOf totalMakeUp joinTo bidBytes rowOf rowsOf accepted answerOf rowsAfter settled
 cost = (refl, refl)

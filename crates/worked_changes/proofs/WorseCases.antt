@@ -25,7 +25,7 @@ use Rattle.casefile.specs.Layout.{firstWidths, widthsOf}
 use Rattle.casefile.specs.Decode.{formatIn, caseIn, offsetOf, lengthOf, sectionOf, recordAt, unitsIn, referencesIn, violationIn, pastIn, cellsFrom, cellsIn, eventsIn, amountsIn, decode, unitSpareFine, referenceSpareFine, entrySpareFine}
 use Rattle.casefile.specs.Lookup.{referenceKey, isUnit, isListed, placeOf, unitOf, groupOf, isReference, hasReference, levelOf, correctReferences, correctIn, referenceOf, readsCorrect, together}
 use Rattle.casefile.specs.File.{headed, fileIn}
-use Rattle.limits.specs.Refusal.{lengthFine, versionFine, sectionsFine, pairsFine, sizeFine, sizesFine, recordNumbersFine, unitNumbersFine, referenceNumbersFine, eventNumbersFine, numbersFine, rises, unitFieldsFine, unitFine, unitsFine, referenceFieldsFine, referenceFine, referencesFine, correctionFine, violationFine, entryFine, pastFine, maskFine, quantitiesFine, fieldsFine, cellFine, hourFine, eventFine, eventsFine, dayFine, daysFine, periodFine, periodsFine, eventKey, orderFine, eventListed, eventsListed, withinCapability, amountFine, amountsFine, referenceFound, referencesFound, rowsFine, refusal}
+use Rattle.limits.specs.Refusal.{lengthFine, versionFine, sectionsFine, pairsFine, sizeFine, sizesFine, recordNumbersFine, unitNumbersFine, referenceNumbersFine, eventNumbersFine, numbersFine, rises, unitFieldsFine, unitFine, unitsFine, referenceFieldsFine, referenceFine, referencesFine, correctionFine, violationFine, entryFine, pastFine, maskFine, quantitiesFine, fieldsFine, cellFine, hourFine, eventFine, eventsFine, daysFine, periodsFine, eventKey, orderFine, eventListed, eventsListed, withinCapability, amountFine, amountsFine, referenceFound, referencesFound, rowsFine, refusal}
 use Rattle.conduct.specs.Flags.{tight, sumTogether, timeBid, timeTotal, bidFlag, groupCapability, groupSum, withheldFlag, dispatchFlag, fuelFlag, flagged, flagMask}
 use Rattle.sanctions.specs.Penalties.{partyDaySum, E, flaggedWithImpact, isInstance, countsHere, countsPast, instances, N3, N2, withheldMultiplier, withheldAmount, withheldPenaltyOf, dispatchMultiplier, dispatchRevenue, dispatchPenaltyOf, energyPart, gain, loss, tccChange, lowestUnit, countsFuel, pastFuel, fuelStands, fuelMultiplierAfter, fuelPenaltyUnder, priorFuel, fuelMultiplier, fuelPenaltyOf, multiplier, penalty, totalPenalty}
 use Rattle.default_bids.specs.Mitigation.{hit, mitigated, mitigatedMask, correctOf, bidInForce, makeUpTenths, makeUpOf, totalMakeUp}
@@ -78,11 +78,11 @@ unfolding caseOf before changes after headed fileIn fileOf unitBytes referenceBy
 changed = refl
 
 accepted-before : refusal before [] 640 ≡ 0
-unfolding caseOf before headed fileIn fileOf unitBytes referenceBytes entryBytes units cellBytes eventOf sumTo countTo anyTo allTo firstTo lastTo maskTo bitOf valueAt bytesOf positivePart negativePart within thresholdOf increase lowerTest constrainedTest percentTest timeTest maximumTest bidTest unitLimit groupLimit withheldTest dispatchTest cents periodCounts ladder withheldPenalty dispatchPenalty fuelDayCounts fuelCharge fuelPenalty between spanned spanMask atMost lesser greater defaultBid restores correctedBid correctedInForce excess hourMakeUp makeUp firstWidths widthsOf formatIn offsetOf lengthOf sectionOf recordAt unitsIn referencesIn violationIn pastIn cellsFrom cellsIn eventsIn amountsIn decode caseIn isUnit isListed placeOf unitOf groupOf isReference hasReference levelOf correctReferences correctIn referenceOf lengthFine versionFine sectionsFine pairsFine sizeFine sizesFine recordNumbersFine unitNumbersFine referenceNumbersFine eventNumbersFine numbersFine rises unitFieldsFine unitSpareFine referenceSpareFine entrySpareFine unitFine unitsFine referenceFieldsFine referenceKey referenceFine referencesFine correctionFine violationFine entryFine pastFine maskFine quantitiesFine fieldsFine referenceInRange bidInRange cellFine hourFine eventFine eventsFine monthLength monthStart monthFrom monthOf dayOfMonth dayWithin windowStart periodOf dayFine daysFine periodFine periodsFine eventKey orderFine eventListed eventsListed withinCapability amountFine amountsFine readsCorrect referenceFound referencesFound rowsFine refusal tight together sumTogether timeBid timeTotal bidFlag groupCapability groupSum withheldFlag dispatchFlag fuelFlag flagged flagMask flaggedWithImpact isInstance countsHere countsPast instances N3 N2 withheldMultiplier withheldAmount withheldPenaltyOf dispatchMultiplier dispatchRevenue dispatchPenaltyOf energyPart gain loss tccChange lowestUnit countsFuel pastFuel fuelStands fuelMultiplierAfter fuelPenaltyUnder priorFuel fuelMultiplier fuelPenaltyOf multiplier penalty totalPenalty hit mitigated mitigatedMask correctOf bidInForce makeUpTenths makeUpOf totalMakeUp joinTo bidBytes rowOf rowsOf accepted answerOf rowsAfter settled
+unfolding caseOf before headed fileIn fileOf unitBytes referenceBytes entryBytes units cellBytes eventOf sumTo countTo anyTo allTo firstTo lastTo maskTo bitOf valueAt bytesOf positivePart negativePart within thresholdOf increase lowerTest constrainedTest percentTest timeTest maximumTest bidTest unitLimit groupLimit withheldTest dispatchTest cents periodCounts ladder withheldPenalty dispatchPenalty fuelDayCounts fuelCharge fuelPenalty between spanned spanMask atMost lesser greater defaultBid restores correctedBid correctedInForce excess hourMakeUp makeUp firstWidths widthsOf formatIn offsetOf lengthOf sectionOf recordAt unitsIn referencesIn violationIn pastIn cellsFrom cellsIn eventsIn amountsIn decode caseIn isUnit isListed placeOf unitOf groupOf isReference hasReference levelOf correctReferences correctIn referenceOf lengthFine versionFine sectionsFine pairsFine sizeFine sizesFine recordNumbersFine unitNumbersFine referenceNumbersFine eventNumbersFine numbersFine rises unitFieldsFine unitSpareFine referenceSpareFine entrySpareFine unitFine unitsFine referenceFieldsFine referenceKey referenceFine referencesFine correctionFine violationFine entryFine pastFine maskFine quantitiesFine fieldsFine referenceInRange bidInRange cellFine hourFine eventFine eventsFine monthLength monthStart monthFrom monthOf dayOfMonth dayWithin windowStart periodOf daysFine periodsFine eventKey orderFine eventListed eventsListed withinCapability amountFine amountsFine readsCorrect referenceFound referencesFound rowsFine refusal tight together sumTogether timeBid timeTotal bidFlag groupCapability groupSum withheldFlag dispatchFlag fuelFlag flagged flagMask flaggedWithImpact isInstance countsHere countsPast instances N3 N2 withheldMultiplier withheldAmount withheldPenaltyOf dispatchMultiplier dispatchRevenue dispatchPenaltyOf energyPart gain loss tccChange lowestUnit countsFuel pastFuel fuelStands fuelMultiplierAfter fuelPenaltyUnder priorFuel fuelMultiplier fuelPenaltyOf multiplier penalty totalPenalty hit mitigated mitigatedMask correctOf bidInForce makeUpTenths makeUpOf totalMakeUp joinTo bidBytes rowOf rowsOf accepted answerOf rowsAfter settled
 accepted-before = refl
 
 accepted-after : refusal after [] 700 ≡ 0
-unfolding caseOf after headed fileIn fileOf unitBytes referenceBytes entryBytes units cellBytes eventOf sumTo countTo anyTo allTo firstTo lastTo maskTo bitOf valueAt bytesOf positivePart negativePart within thresholdOf increase lowerTest constrainedTest percentTest timeTest maximumTest bidTest unitLimit groupLimit withheldTest dispatchTest cents periodCounts ladder withheldPenalty dispatchPenalty fuelDayCounts fuelCharge fuelPenalty between spanned spanMask atMost lesser greater defaultBid restores correctedBid correctedInForce excess hourMakeUp makeUp firstWidths widthsOf formatIn offsetOf lengthOf sectionOf recordAt unitsIn referencesIn violationIn pastIn cellsFrom cellsIn eventsIn amountsIn decode caseIn isUnit isListed placeOf unitOf groupOf isReference hasReference levelOf correctReferences correctIn referenceOf lengthFine versionFine sectionsFine pairsFine sizeFine sizesFine recordNumbersFine unitNumbersFine referenceNumbersFine eventNumbersFine numbersFine rises unitFieldsFine unitSpareFine referenceSpareFine entrySpareFine unitFine unitsFine referenceFieldsFine referenceKey referenceFine referencesFine correctionFine violationFine entryFine pastFine maskFine quantitiesFine fieldsFine referenceInRange bidInRange cellFine hourFine eventFine eventsFine monthLength monthStart monthFrom monthOf dayOfMonth dayWithin windowStart periodOf dayFine daysFine periodFine periodsFine eventKey orderFine eventListed eventsListed withinCapability amountFine amountsFine readsCorrect referenceFound referencesFound rowsFine refusal tight together sumTogether timeBid timeTotal bidFlag groupCapability groupSum withheldFlag dispatchFlag fuelFlag flagged flagMask flaggedWithImpact isInstance countsHere countsPast instances N3 N2 withheldMultiplier withheldAmount withheldPenaltyOf dispatchMultiplier dispatchRevenue dispatchPenaltyOf energyPart gain loss tccChange lowestUnit countsFuel pastFuel fuelStands fuelMultiplierAfter fuelPenaltyUnder priorFuel fuelMultiplier fuelPenaltyOf multiplier penalty totalPenalty hit mitigated mitigatedMask correctOf bidInForce makeUpTenths makeUpOf totalMakeUp joinTo bidBytes rowOf rowsOf accepted answerOf rowsAfter settled
+unfolding caseOf after headed fileIn fileOf unitBytes referenceBytes entryBytes units cellBytes eventOf sumTo countTo anyTo allTo firstTo lastTo maskTo bitOf valueAt bytesOf positivePart negativePart within thresholdOf increase lowerTest constrainedTest percentTest timeTest maximumTest bidTest unitLimit groupLimit withheldTest dispatchTest cents periodCounts ladder withheldPenalty dispatchPenalty fuelDayCounts fuelCharge fuelPenalty between spanned spanMask atMost lesser greater defaultBid restores correctedBid correctedInForce excess hourMakeUp makeUp firstWidths widthsOf formatIn offsetOf lengthOf sectionOf recordAt unitsIn referencesIn violationIn pastIn cellsFrom cellsIn eventsIn amountsIn decode caseIn isUnit isListed placeOf unitOf groupOf isReference hasReference levelOf correctReferences correctIn referenceOf lengthFine versionFine sectionsFine pairsFine sizeFine sizesFine recordNumbersFine unitNumbersFine referenceNumbersFine eventNumbersFine numbersFine rises unitFieldsFine unitSpareFine referenceSpareFine entrySpareFine unitFine unitsFine referenceFieldsFine referenceKey referenceFine referencesFine correctionFine violationFine entryFine pastFine maskFine quantitiesFine fieldsFine referenceInRange bidInRange cellFine hourFine eventFine eventsFine monthLength monthStart monthFrom monthOf dayOfMonth dayWithin windowStart periodOf daysFine periodsFine eventKey orderFine eventListed eventsListed withinCapability amountFine amountsFine readsCorrect referenceFound referencesFound rowsFine refusal tight together sumTogether timeBid timeTotal bidFlag groupCapability groupSum withheldFlag dispatchFlag fuelFlag flagged flagMask flaggedWithImpact isInstance countsHere countsPast instances N3 N2 withheldMultiplier withheldAmount withheldPenaltyOf dispatchMultiplier dispatchRevenue dispatchPenaltyOf energyPart gain loss tccChange lowestUnit countsFuel pastFuel fuelStands fuelMultiplierAfter fuelPenaltyUnder priorFuel fuelMultiplier fuelPenaltyOf multiplier penalty totalPenalty hit mitigated mitigatedMask correctOf bidInForce makeUpTenths makeUpOf totalMakeUp joinTo bidBytes rowOf rowsOf accepted answerOf rowsAfter settled
 accepted-after = refl
 
 taken : TakesAll before changes
@@ -90,7 +90,7 @@ unfolding caseOf before changes headed fileIn fileOf unitBytes referenceBytes en
 taken = (record { event = lit< tt; hour = lit< tt; word = lit< tt; worse = refl }, (record { place = lit≤ tt; size = refl }, (record { event = lit< tt; hour = lit< tt; word = lit< tt; worse = refl }, (record { event = lit< tt; hour = lit< tt; word = lit< tt; worse = refl }, (record { place = lit≤ tt; size = refl }, (record { event = lit< tt; hour = lit< tt; word = lit< tt; worse = refl }, (record { event = lit< tt; hour = lit< tt; word = lit< tt; worse = refl }, (record { place = lit≤ tt; size = refl }, (record { event = lit< tt; hour = lit< tt; word = lit< tt; worse = refl }, (record { event = lit< tt; hour = lit< tt; word = lit< tt; worse = refl }, (record { event = lit< tt; hour = lit< tt; word = lit< tt; worse = refl }, tt)))))))))))
 
 energy : EnergyNotNegative (decode before)
-unfolding E partyDaySum signed sumℤTo caseOf before headed fileIn fileOf unitBytes referenceBytes entryBytes units cellBytes eventOf sumTo countTo anyTo allTo firstTo lastTo maskTo bitOf valueAt bytesOf positivePart negativePart within thresholdOf increase lowerTest constrainedTest percentTest timeTest maximumTest bidTest unitLimit groupLimit withheldTest dispatchTest cents periodCounts ladder withheldPenalty dispatchPenalty fuelDayCounts fuelCharge fuelPenalty between spanned spanMask atMost lesser greater defaultBid restores correctedBid correctedInForce excess hourMakeUp makeUp firstWidths widthsOf formatIn offsetOf lengthOf sectionOf recordAt unitsIn referencesIn violationIn pastIn cellsFrom cellsIn eventsIn amountsIn decode caseIn isUnit isListed placeOf unitOf groupOf isReference hasReference levelOf correctReferences correctIn referenceOf lengthFine versionFine sectionsFine pairsFine sizeFine sizesFine recordNumbersFine unitNumbersFine referenceNumbersFine eventNumbersFine numbersFine rises unitFieldsFine unitSpareFine referenceSpareFine entrySpareFine unitFine unitsFine referenceFieldsFine referenceKey referenceFine referencesFine correctionFine violationFine entryFine pastFine maskFine quantitiesFine fieldsFine referenceInRange bidInRange cellFine hourFine eventFine eventsFine monthLength monthStart monthFrom monthOf dayOfMonth dayWithin windowStart periodOf dayFine daysFine periodFine periodsFine eventKey orderFine eventListed eventsListed withinCapability amountFine amountsFine readsCorrect referenceFound referencesFound rowsFine refusal tight together sumTogether timeBid timeTotal bidFlag groupCapability groupSum withheldFlag dispatchFlag fuelFlag flagged flagMask flaggedWithImpact isInstance countsHere countsPast instances N3 N2 withheldMultiplier withheldAmount withheldPenaltyOf dispatchMultiplier dispatchRevenue dispatchPenaltyOf energyPart gain loss tccChange lowestUnit countsFuel pastFuel fuelStands fuelMultiplierAfter fuelPenaltyUnder priorFuel fuelMultiplier fuelPenaltyOf multiplier penalty totalPenalty hit mitigated mitigatedMask correctOf bidInForce makeUpTenths makeUpOf totalMakeUp joinTo bidBytes rowOf rowsOf accepted answerOf rowsAfter settled
+unfolding E partyDaySum signed sumℤTo caseOf before headed fileIn fileOf unitBytes referenceBytes entryBytes units cellBytes eventOf sumTo countTo anyTo allTo firstTo lastTo maskTo bitOf valueAt bytesOf positivePart negativePart within thresholdOf increase lowerTest constrainedTest percentTest timeTest maximumTest bidTest unitLimit groupLimit withheldTest dispatchTest cents periodCounts ladder withheldPenalty dispatchPenalty fuelDayCounts fuelCharge fuelPenalty between spanned spanMask atMost lesser greater defaultBid restores correctedBid correctedInForce excess hourMakeUp makeUp firstWidths widthsOf formatIn offsetOf lengthOf sectionOf recordAt unitsIn referencesIn violationIn pastIn cellsFrom cellsIn eventsIn amountsIn decode caseIn isUnit isListed placeOf unitOf groupOf isReference hasReference levelOf correctReferences correctIn referenceOf lengthFine versionFine sectionsFine pairsFine sizeFine sizesFine recordNumbersFine unitNumbersFine referenceNumbersFine eventNumbersFine numbersFine rises unitFieldsFine unitSpareFine referenceSpareFine entrySpareFine unitFine unitsFine referenceFieldsFine referenceKey referenceFine referencesFine correctionFine violationFine entryFine pastFine maskFine quantitiesFine fieldsFine referenceInRange bidInRange cellFine hourFine eventFine eventsFine monthLength monthStart monthFrom monthOf dayOfMonth dayWithin windowStart periodOf daysFine periodsFine eventKey orderFine eventListed eventsListed withinCapability amountFine amountsFine readsCorrect referenceFound referencesFound rowsFine refusal tight together sumTogether timeBid timeTotal bidFlag groupCapability groupSum withheldFlag dispatchFlag fuelFlag flagged flagMask flaggedWithImpact isInstance countsHere countsPast instances N3 N2 withheldMultiplier withheldAmount withheldPenaltyOf dispatchMultiplier dispatchRevenue dispatchPenaltyOf energyPart gain loss tccChange lowestUnit countsFuel pastFuel fuelStands fuelMultiplierAfter fuelPenaltyUnder priorFuel fuelMultiplier fuelPenaltyOf multiplier penalty totalPenalty hit mitigated mitigatedMask correctOf bidInForce makeUpTenths makeUpOf totalMakeUp joinTo bidBytes rowOf rowsOf accepted answerOf rowsAfter settled
 energy zero l k = absurd (omega arith)
 energy (suc zero) l k = absurd (omega arith)
 energy (suc (suc zero)) l k = lit≤ tt
@@ -134,7 +134,7 @@ costAfter =
     }
 
 pub cost : (settled before [] (replicate 640 0) ≡ costBefore) × (settled after [] (replicate 640 0) ≡ costAfter)
-unfolding costBefore costAfter caseOf before after headed fileIn fileOf unitBytes referenceBytes entryBytes units cellBytes eventOf rowBytes sumTo countTo anyTo allTo firstTo lastTo maskTo bitOf valueAt bytesOf positivePart negativePart within thresholdOf increase lowerTest constrainedTest percentTest timeTest maximumTest bidTest unitLimit groupLimit withheldTest dispatchTest cents periodCounts ladder withheldPenalty dispatchPenalty fuelDayCounts fuelCharge fuelPenalty between spanned spanMask atMost lesser greater defaultBid restores correctedBid correctedInForce excess hourMakeUp makeUp firstWidths widthsOf formatIn offsetOf lengthOf sectionOf recordAt unitsIn referencesIn violationIn pastIn cellsFrom cellsIn eventsIn amountsIn decode caseIn isUnit isListed placeOf unitOf groupOf isReference hasReference levelOf correctReferences correctIn referenceOf lengthFine versionFine sectionsFine pairsFine sizeFine sizesFine recordNumbersFine unitNumbersFine referenceNumbersFine eventNumbersFine numbersFine rises unitFieldsFine unitSpareFine referenceSpareFine entrySpareFine unitFine unitsFine referenceFieldsFine referenceKey referenceFine referencesFine correctionFine violationFine entryFine pastFine maskFine quantitiesFine fieldsFine referenceInRange bidInRange cellFine hourFine eventFine eventsFine monthLength monthStart monthFrom monthOf dayOfMonth dayWithin windowStart periodOf dayFine daysFine periodFine periodsFine eventKey orderFine eventListed eventsListed withinCapability amountFine amountsFine readsCorrect referenceFound referencesFound rowsFine refusal tight together sumTogether timeBid timeTotal bidFlag groupCapability groupSum withheldFlag dispatchFlag fuelFlag flagged flagMask flaggedWithImpact isInstance countsHere countsPast instances N3 N2 withheldMultiplier withheldAmount withheldPenaltyOf dispatchMultiplier dispatchRevenue dispatchPenaltyOf energyPart gain loss tccChange lowestUnit countsFuel pastFuel fuelStands fuelMultiplierAfter fuelPenaltyUnder priorFuel fuelMultiplier fuelPenaltyOf multiplier penalty totalPenalty hit mitigated mitigatedMask correctOf bidInForce makeUpTenths makeUpOf totalMakeUp joinTo bidBytes rowOf rowsOf accepted answerOf rowsAfter settled
+unfolding costBefore costAfter caseOf before after headed fileIn fileOf unitBytes referenceBytes entryBytes units cellBytes eventOf rowBytes sumTo countTo anyTo allTo firstTo lastTo maskTo bitOf valueAt bytesOf positivePart negativePart within thresholdOf increase lowerTest constrainedTest percentTest timeTest maximumTest bidTest unitLimit groupLimit withheldTest dispatchTest cents periodCounts ladder withheldPenalty dispatchPenalty fuelDayCounts fuelCharge fuelPenalty between spanned spanMask atMost lesser greater defaultBid restores correctedBid correctedInForce excess hourMakeUp makeUp firstWidths widthsOf formatIn offsetOf lengthOf sectionOf recordAt unitsIn referencesIn violationIn pastIn cellsFrom cellsIn eventsIn amountsIn decode caseIn isUnit isListed placeOf unitOf groupOf isReference hasReference levelOf correctReferences correctIn referenceOf lengthFine versionFine sectionsFine pairsFine sizeFine sizesFine recordNumbersFine unitNumbersFine referenceNumbersFine eventNumbersFine numbersFine rises unitFieldsFine unitSpareFine referenceSpareFine entrySpareFine unitFine unitsFine referenceFieldsFine referenceKey referenceFine referencesFine correctionFine violationFine entryFine pastFine maskFine quantitiesFine fieldsFine referenceInRange bidInRange cellFine hourFine eventFine eventsFine monthLength monthStart monthFrom monthOf dayOfMonth dayWithin windowStart periodOf daysFine periodsFine eventKey orderFine eventListed eventsListed withinCapability amountFine amountsFine readsCorrect referenceFound referencesFound rowsFine refusal tight together sumTogether timeBid timeTotal bidFlag groupCapability groupSum withheldFlag dispatchFlag fuelFlag flagged flagMask flaggedWithImpact isInstance countsHere countsPast instances N3 N2 withheldMultiplier withheldAmount withheldPenaltyOf dispatchMultiplier dispatchRevenue dispatchPenaltyOf energyPart gain loss tccChange lowestUnit countsFuel pastFuel fuelStands fuelMultiplierAfter fuelPenaltyUnder priorFuel fuelMultiplier fuelPenaltyOf multiplier penalty totalPenalty hit mitigated mitigatedMask correctOf bidInForce makeUpTenths makeUpOf totalMakeUp joinTo bidBytes rowOf rowsOf accepted answerOf rowsAfter settled
 cost = (refl, refl)
 
 -- ---- E below 0
@@ -149,7 +149,7 @@ pub premise-needed : ((file worse rows worseRows : List ℕ) (answer worseAnswer
     → Run worse [] worseRows worseAnswer worseAfter
     → NeverCheaper file worse [] rows worseRows answer worseAnswer after worseAfter (λ c. Unit {0}))
     → ⊥
-unfolding settlementOf lossMaking headed fileIn fileOf unitBytes entryBytes eventOf cellPlace cellWritten entryPlace entryPut longerPast laterEvents headerMoved apply applyAll moreWithheld lowerBid movedBid worseBid worseAmount sumTo countTo anyTo allTo firstTo lastTo maskTo bitOf valueAt bytesOf positivePart negativePart within thresholdOf increase lowerTest constrainedTest percentTest timeTest maximumTest bidTest unitLimit groupLimit withheldTest dispatchTest cents periodCounts ladder withheldPenalty dispatchPenalty fuelDayCounts fuelCharge fuelPenalty between spanned spanMask atMost lesser greater defaultBid restores correctedBid correctedInForce excess hourMakeUp makeUp firstWidths widthsOf formatIn offsetOf lengthOf sectionOf recordAt unitsIn referencesIn violationIn pastIn cellsFrom cellsIn eventsIn amountsIn decode caseIn isUnit isListed placeOf unitOf groupOf isReference hasReference levelOf correctReferences correctIn referenceOf lengthFine versionFine sectionsFine pairsFine sizeFine sizesFine recordNumbersFine unitNumbersFine referenceNumbersFine eventNumbersFine numbersFine rises unitFieldsFine unitSpareFine referenceSpareFine entrySpareFine unitFine unitsFine referenceFieldsFine referenceKey referenceFine referencesFine correctionFine violationFine entryFine pastFine maskFine quantitiesFine fieldsFine referenceInRange bidInRange cellFine hourFine eventFine eventsFine monthLength monthStart monthFrom monthOf dayOfMonth dayWithin windowStart periodOf dayFine daysFine periodFine periodsFine eventKey orderFine eventListed eventsListed withinCapability amountFine amountsFine readsCorrect referenceFound referencesFound rowsFine refusal tight together sumTogether timeBid timeTotal bidFlag groupCapability groupSum withheldFlag dispatchFlag fuelFlag flagged flagMask flaggedWithImpact isInstance countsHere countsPast instances N3 N2 withheldMultiplier withheldAmount withheldPenaltyOf dispatchMultiplier dispatchRevenue dispatchPenaltyOf energyPart gain loss tccChange lowestUnit countsFuel pastFuel fuelStands fuelMultiplierAfter fuelPenaltyUnder priorFuel fuelMultiplier fuelPenaltyOf multiplier penalty totalPenalty hit mitigated mitigatedMask correctOf bidInForce makeUpTenths makeUpOf totalMakeUp joinTo bidBytes rowOf rowsOf accepted answerOf rowsAfter settled
+unfolding settlementOf lossMaking headed fileIn fileOf unitBytes entryBytes eventOf cellPlace cellWritten entryPlace entryPut longerPast laterEvents headerMoved apply applyAll moreWithheld lowerBid movedBid worseBid worseAmount sumTo countTo anyTo allTo firstTo lastTo maskTo bitOf valueAt bytesOf positivePart negativePart within thresholdOf increase lowerTest constrainedTest percentTest timeTest maximumTest bidTest unitLimit groupLimit withheldTest dispatchTest cents periodCounts ladder withheldPenalty dispatchPenalty fuelDayCounts fuelCharge fuelPenalty between spanned spanMask atMost lesser greater defaultBid restores correctedBid correctedInForce excess hourMakeUp makeUp firstWidths widthsOf formatIn offsetOf lengthOf sectionOf recordAt unitsIn referencesIn violationIn pastIn cellsFrom cellsIn eventsIn amountsIn decode caseIn isUnit isListed placeOf unitOf groupOf isReference hasReference levelOf correctReferences correctIn referenceOf lengthFine versionFine sectionsFine pairsFine sizeFine sizesFine recordNumbersFine unitNumbersFine referenceNumbersFine eventNumbersFine numbersFine rises unitFieldsFine unitSpareFine referenceSpareFine entrySpareFine unitFine unitsFine referenceFieldsFine referenceKey referenceFine referencesFine correctionFine violationFine entryFine pastFine maskFine quantitiesFine fieldsFine referenceInRange bidInRange cellFine hourFine eventFine eventsFine monthLength monthStart monthFrom monthOf dayOfMonth dayWithin windowStart periodOf daysFine periodsFine eventKey orderFine eventListed eventsListed withinCapability amountFine amountsFine readsCorrect referenceFound referencesFound rowsFine refusal tight together sumTogether timeBid timeTotal bidFlag groupCapability groupSum withheldFlag dispatchFlag fuelFlag flagged flagMask flaggedWithImpact isInstance countsHere countsPast instances N3 N2 withheldMultiplier withheldAmount withheldPenaltyOf dispatchMultiplier dispatchRevenue dispatchPenaltyOf energyPart gain loss tccChange lowestUnit countsFuel pastFuel fuelStands fuelMultiplierAfter fuelPenaltyUnder priorFuel fuelMultiplier fuelPenaltyOf multiplier penalty totalPenalty hit mitigated mitigatedMask correctOf bidInForce makeUpTenths makeUpOf totalMakeUp joinTo bidBytes rowOf rowsOf accepted answerOf rowsAfter settled
 premise-needed claim =
     let later : List ℕ = apply (entry 0 (entryBytes 1 3 0 3 511)) lossMaking in
     let fallen : 1000000 ≤ 500000 =
@@ -194,7 +194,7 @@ pub hours-cleared : (mitigatedMask (decode (runningUnit 4000)) 0 ≡ maskTo 24 (
     × (refusal (runningUnit 15001) [] 128 ≡ 0)
     × TakesAll (runningUnit 4000) (cell 0 5 15001 ∷ [])
     × EnergyNotNegative (decode (runningUnit 4000))
-unfolding runningUnit headed fileIn fileOf unitBytes referenceBytes cellBytes eventOf cellPlace cellWritten entryPlace entryPut longerPast laterEvents headerMoved apply applyAll moreWithheld lowerBid movedBid worseBid worseAmount sumTo countTo anyTo allTo firstTo lastTo maskTo bitOf valueAt bytesOf positivePart negativePart within thresholdOf increase lowerTest constrainedTest percentTest timeTest maximumTest bidTest unitLimit groupLimit withheldTest dispatchTest cents periodCounts ladder withheldPenalty dispatchPenalty fuelDayCounts fuelCharge fuelPenalty between spanned spanMask atMost lesser greater defaultBid restores correctedBid correctedInForce excess hourMakeUp makeUp firstWidths widthsOf formatIn offsetOf lengthOf sectionOf recordAt unitsIn referencesIn violationIn pastIn cellsFrom cellsIn eventsIn amountsIn decode caseIn isUnit isListed placeOf unitOf groupOf isReference hasReference levelOf correctReferences correctIn referenceOf lengthFine versionFine sectionsFine pairsFine sizeFine sizesFine recordNumbersFine unitNumbersFine referenceNumbersFine eventNumbersFine numbersFine rises unitFieldsFine unitSpareFine referenceSpareFine entrySpareFine unitFine unitsFine referenceFieldsFine referenceKey referenceFine referencesFine correctionFine violationFine entryFine pastFine maskFine quantitiesFine fieldsFine referenceInRange bidInRange cellFine hourFine eventFine eventsFine monthLength monthStart monthFrom monthOf dayOfMonth dayWithin windowStart periodOf dayFine daysFine periodFine periodsFine eventKey orderFine eventListed eventsListed withinCapability amountFine amountsFine readsCorrect referenceFound referencesFound rowsFine refusal tight together sumTogether timeBid timeTotal bidFlag groupCapability groupSum withheldFlag dispatchFlag fuelFlag flagged flagMask flaggedWithImpact isInstance countsHere countsPast instances N3 N2 withheldMultiplier withheldAmount withheldPenaltyOf dispatchMultiplier dispatchRevenue dispatchPenaltyOf energyPart gain loss tccChange lowestUnit countsFuel pastFuel fuelStands fuelMultiplierAfter fuelPenaltyUnder priorFuel fuelMultiplier fuelPenaltyOf multiplier penalty totalPenalty hit mitigated mitigatedMask correctOf bidInForce makeUpTenths makeUpOf totalMakeUp joinTo bidBytes rowOf rowsOf accepted answerOf rowsAfter settled
+unfolding runningUnit headed fileIn fileOf unitBytes referenceBytes cellBytes eventOf cellPlace cellWritten entryPlace entryPut longerPast laterEvents headerMoved apply applyAll moreWithheld lowerBid movedBid worseBid worseAmount sumTo countTo anyTo allTo firstTo lastTo maskTo bitOf valueAt bytesOf positivePart negativePart within thresholdOf increase lowerTest constrainedTest percentTest timeTest maximumTest bidTest unitLimit groupLimit withheldTest dispatchTest cents periodCounts ladder withheldPenalty dispatchPenalty fuelDayCounts fuelCharge fuelPenalty between spanned spanMask atMost lesser greater defaultBid restores correctedBid correctedInForce excess hourMakeUp makeUp firstWidths widthsOf formatIn offsetOf lengthOf sectionOf recordAt unitsIn referencesIn violationIn pastIn cellsFrom cellsIn eventsIn amountsIn decode caseIn isUnit isListed placeOf unitOf groupOf isReference hasReference levelOf correctReferences correctIn referenceOf lengthFine versionFine sectionsFine pairsFine sizeFine sizesFine recordNumbersFine unitNumbersFine referenceNumbersFine eventNumbersFine numbersFine rises unitFieldsFine unitSpareFine referenceSpareFine entrySpareFine unitFine unitsFine referenceFieldsFine referenceKey referenceFine referencesFine correctionFine violationFine entryFine pastFine maskFine quantitiesFine fieldsFine referenceInRange bidInRange cellFine hourFine eventFine eventsFine monthLength monthStart monthFrom monthOf dayOfMonth dayWithin windowStart periodOf daysFine periodsFine eventKey orderFine eventListed eventsListed withinCapability amountFine amountsFine readsCorrect referenceFound referencesFound rowsFine refusal tight together sumTogether timeBid timeTotal bidFlag groupCapability groupSum withheldFlag dispatchFlag fuelFlag flagged flagMask flaggedWithImpact isInstance countsHere countsPast instances N3 N2 withheldMultiplier withheldAmount withheldPenaltyOf dispatchMultiplier dispatchRevenue dispatchPenaltyOf energyPart gain loss tccChange lowestUnit countsFuel pastFuel fuelStands fuelMultiplierAfter fuelPenaltyUnder priorFuel fuelMultiplier fuelPenaltyOf multiplier penalty totalPenalty hit mitigated mitigatedMask correctOf bidInForce makeUpTenths makeUpOf totalMakeUp joinTo bidBytes rowOf rowsOf accepted answerOf rowsAfter settled
 hours-cleared = (
   spanned-by 4000 1024 refl ∙ refl,
   refl,

@@ -22,7 +22,7 @@ use Rattle.casefile.specs.Layout.{firstWidths, widthsOf}
 use Rattle.casefile.specs.Decode.{formatIn, caseIn, offsetOf, lengthOf, sectionOf, recordAt, unitsIn, referencesIn, violationIn, pastIn, cellsFrom, cellsIn, eventsIn, amountsIn, decode, unitSpareFine, referenceSpareFine, entrySpareFine}
 use Rattle.casefile.specs.Lookup.{referenceKey, isUnit, isListed, placeOf, unitOf, groupOf, isReference, hasReference, levelOf, correctReferences, correctIn, referenceOf, readsCorrect, bidLevel, together}
 use Rattle.casefile.specs.File.{headed, fileIn}
-use Rattle.limits.specs.Refusal.{lengthFine, versionFine, sectionsFine, pairsFine, sizeFine, sizesFine, recordNumbersFine, unitNumbersFine, referenceNumbersFine, eventNumbersFine, numbersFine, rises, unitFieldsFine, unitFine, unitsFine, referenceFieldsFine, referenceFine, referencesFine, correctionFine, violationFine, entryFine, pastFine, maskFine, quantitiesFine, fieldsFine, cellFine, hourFine, eventFine, eventsFine, dayFine, daysFine, periodFine, periodsFine, eventKey, orderFine, eventListed, eventsListed, withinCapability, amountFine, amountsFine, referenceFound, referencesFound, rowsFine, refusal}
+use Rattle.limits.specs.Refusal.{lengthFine, versionFine, sectionsFine, pairsFine, sizeFine, sizesFine, recordNumbersFine, unitNumbersFine, referenceNumbersFine, eventNumbersFine, numbersFine, rises, unitFieldsFine, unitFine, unitsFine, referenceFieldsFine, referenceFine, referencesFine, correctionFine, violationFine, entryFine, pastFine, maskFine, quantitiesFine, fieldsFine, cellFine, hourFine, eventFine, eventsFine, daysFine, periodsFine, eventKey, orderFine, eventListed, eventsListed, withinCapability, amountFine, amountsFine, referenceFound, referencesFound, rowsFine, refusal}
 use Rattle.conduct.specs.Flags.{tight, sumTogether, timeBid, timeTotal, bidFlag, groupCapability, groupSum, withheldFlag, dispatchFlag, fuelFlag, flagged}
 use Rattle.sanctions.specs.Penalties.{flaggedWithImpact, isInstance, countsHere, countsPast, instances, N3, N2, withheldMultiplier, withheldAmount, withheldPenaltyOf, dispatchMultiplier, dispatchRevenue, dispatchPenaltyOf, energyPart, gain, loss, tccChange, lowestUnit, countsFuel, pastFuel, fuelStands, fuelMultiplierAfter, fuelPenaltyUnder, priorFuel, fuelMultiplier, fuelPenaltyOf, multiplier, penalty}
 use Rattle.default_bids.specs.Mitigation.{hit, mitigated, mitigatedMask, correctOf, makeUpTenths, makeUpOf, bidInForce}
@@ -114,7 +114,7 @@ pub record Workings : Type 0 where
       }
 
 pub workings : Workings
-unfolding tightUnit bidReferences bidEvents bids minimumGeneration cellBytes eventOf headed fileIn fileOf unitBytes referenceBytes entryBytes units sumTo countTo anyTo allTo firstTo lastTo maskTo bitOf valueAt bytesOf positivePart negativePart within thresholdOf increase lowerTest constrainedTest percentTest timeTest maximumTest bidTest unitLimit groupLimit withheldTest dispatchTest cents periodCounts ladder withheldPenalty dispatchPenalty fuelDayCounts fuelCharge fuelPenalty between spanned atMost lesser greater defaultBid restores excess hourMakeUp makeUp firstWidths widthsOf formatIn offsetOf lengthOf sectionOf recordAt unitsIn referencesIn violationIn pastIn cellsFrom cellsIn eventsIn amountsIn decode caseIn isUnit isListed placeOf unitOf groupOf isReference hasReference levelOf correctReferences correctIn referenceOf lengthFine versionFine sectionsFine pairsFine sizeFine sizesFine recordNumbersFine unitNumbersFine referenceNumbersFine eventNumbersFine numbersFine rises unitFieldsFine unitSpareFine referenceSpareFine entrySpareFine unitFine unitsFine referenceFieldsFine referenceKey referenceFine referencesFine correctionFine violationFine entryFine pastFine maskFine quantitiesFine fieldsFine referenceInRange bidInRange cellFine hourFine eventFine eventsFine monthLength monthStart monthFrom monthOf dayOfMonth dayWithin windowStart periodOf dayFine daysFine periodFine periodsFine eventKey orderFine eventListed eventsListed withinCapability amountFine amountsFine readsCorrect referenceFound referencesFound rowsFine refusal tight together sumTogether timeBid timeTotal bidFlag groupCapability groupSum withheldFlag dispatchFlag fuelFlag flagged flaggedWithImpact isInstance countsHere countsPast instances N3 N2 withheldMultiplier withheldAmount withheldPenaltyOf dispatchMultiplier dispatchRevenue dispatchPenaltyOf energyPart gain loss tccChange lowestUnit countsFuel pastFuel fuelStands fuelMultiplierAfter fuelPenaltyUnder priorFuel fuelMultiplier fuelPenaltyOf multiplier penalty hit mitigated mitigatedMask correctOf makeUpTenths makeUpOf joinTo areaUnits pastInstances sanctionedEvents sanctioned listTo bidLevel bearer chargeOf hourTerm hourLoss penaltyWorkingAt refusedPenalty penaltyWorkingOf countedHere countedPast byteOf countedByte correctRead restored energyBid hourMakeUpTenths makeUpWorkingAt refusedMakeUp makeUpWorkingOf
+unfolding tightUnit bidReferences bidEvents bids minimumGeneration cellBytes eventOf headed fileIn fileOf unitBytes referenceBytes entryBytes units sumTo countTo anyTo allTo firstTo lastTo maskTo bitOf valueAt bytesOf positivePart negativePart within thresholdOf increase lowerTest constrainedTest percentTest timeTest maximumTest bidTest unitLimit groupLimit withheldTest dispatchTest cents periodCounts ladder withheldPenalty dispatchPenalty fuelDayCounts fuelCharge fuelPenalty between spanned atMost lesser greater defaultBid restores excess hourMakeUp makeUp firstWidths widthsOf formatIn offsetOf lengthOf sectionOf recordAt unitsIn referencesIn violationIn pastIn cellsFrom cellsIn eventsIn amountsIn decode caseIn isUnit isListed placeOf unitOf groupOf isReference hasReference levelOf correctReferences correctIn referenceOf lengthFine versionFine sectionsFine pairsFine sizeFine sizesFine recordNumbersFine unitNumbersFine referenceNumbersFine eventNumbersFine numbersFine rises unitFieldsFine unitSpareFine referenceSpareFine entrySpareFine unitFine unitsFine referenceFieldsFine referenceKey referenceFine referencesFine correctionFine violationFine entryFine pastFine maskFine quantitiesFine fieldsFine referenceInRange bidInRange cellFine hourFine eventFine eventsFine monthLength monthStart monthFrom monthOf dayOfMonth dayWithin windowStart periodOf daysFine periodsFine eventKey orderFine eventListed eventsListed withinCapability amountFine amountsFine readsCorrect referenceFound referencesFound rowsFine refusal tight together sumTogether timeBid timeTotal bidFlag groupCapability groupSum withheldFlag dispatchFlag fuelFlag flagged flaggedWithImpact isInstance countsHere countsPast instances N3 N2 withheldMultiplier withheldAmount withheldPenaltyOf dispatchMultiplier dispatchRevenue dispatchPenaltyOf energyPart gain loss tccChange lowestUnit countsFuel pastFuel fuelStands fuelMultiplierAfter fuelPenaltyUnder priorFuel fuelMultiplier fuelPenaltyOf multiplier penalty hit mitigated mitigatedMask correctOf makeUpTenths makeUpOf joinTo areaUnits pastInstances sanctionedEvents sanctioned listTo bidLevel bearer chargeOf hourTerm hourLoss penaltyWorkingAt refusedPenalty penaltyWorkingOf countedHere countedPast byteOf countedByte correctRead restored energyBid hourMakeUpTenths makeUpWorkingAt refusedMakeUp makeUpWorkingOf
 workings =
     record {
       withheld = refl;
@@ -128,24 +128,24 @@ workings =
 
 -- the smaller call, given the party-day's E, T and M, gives its penalty
 pub fuel-by-call : fuelPenaltyAnswer (signedWord 5940070 0) 0 2 ≡ given 594007
-unfolding tightUnit bidReferences bidEvents bids minimumGeneration cellBytes eventOf headed fileIn fileOf unitBytes referenceBytes entryBytes units sumTo countTo anyTo allTo firstTo lastTo maskTo bitOf valueAt bytesOf positivePart negativePart within thresholdOf increase lowerTest constrainedTest percentTest timeTest maximumTest bidTest unitLimit groupLimit withheldTest dispatchTest cents periodCounts ladder withheldPenalty dispatchPenalty fuelDayCounts fuelCharge fuelPenalty between spanned atMost lesser greater defaultBid restores excess hourMakeUp makeUp firstWidths widthsOf formatIn offsetOf lengthOf sectionOf recordAt unitsIn referencesIn violationIn pastIn cellsFrom cellsIn eventsIn amountsIn decode caseIn isUnit isListed placeOf unitOf groupOf isReference hasReference levelOf correctReferences correctIn referenceOf lengthFine versionFine sectionsFine pairsFine sizeFine sizesFine recordNumbersFine unitNumbersFine referenceNumbersFine eventNumbersFine numbersFine rises unitFieldsFine unitSpareFine referenceSpareFine entrySpareFine unitFine unitsFine referenceFieldsFine referenceKey referenceFine referencesFine correctionFine violationFine entryFine pastFine maskFine quantitiesFine fieldsFine referenceInRange bidInRange cellFine hourFine eventFine eventsFine monthLength monthStart monthFrom monthOf dayOfMonth dayWithin windowStart periodOf dayFine daysFine periodFine periodsFine eventKey orderFine eventListed eventsListed withinCapability amountFine amountsFine readsCorrect referenceFound referencesFound rowsFine refusal tight together sumTogether timeBid timeTotal bidFlag groupCapability groupSum withheldFlag dispatchFlag fuelFlag flagged flaggedWithImpact isInstance countsHere countsPast instances N3 N2 withheldMultiplier withheldAmount withheldPenaltyOf dispatchMultiplier dispatchRevenue dispatchPenaltyOf energyPart gain loss tccChange lowestUnit countsFuel pastFuel fuelStands fuelMultiplierAfter fuelPenaltyUnder priorFuel fuelMultiplier fuelPenaltyOf multiplier penalty hit mitigated mitigatedMask correctOf makeUpTenths makeUpOf joinTo areaUnits pastInstances sanctionedEvents sanctioned listTo bidLevel bearer chargeOf hourTerm hourLoss penaltyWorkingAt refusedPenalty penaltyWorkingOf countedHere countedPast byteOf countedByte correctRead restored energyBid hourMakeUpTenths makeUpWorkingAt refusedMakeUp makeUpWorkingOf
+unfolding tightUnit bidReferences bidEvents bids minimumGeneration cellBytes eventOf headed fileIn fileOf unitBytes referenceBytes entryBytes units sumTo countTo anyTo allTo firstTo lastTo maskTo bitOf valueAt bytesOf positivePart negativePart within thresholdOf increase lowerTest constrainedTest percentTest timeTest maximumTest bidTest unitLimit groupLimit withheldTest dispatchTest cents periodCounts ladder withheldPenalty dispatchPenalty fuelDayCounts fuelCharge fuelPenalty between spanned atMost lesser greater defaultBid restores excess hourMakeUp makeUp firstWidths widthsOf formatIn offsetOf lengthOf sectionOf recordAt unitsIn referencesIn violationIn pastIn cellsFrom cellsIn eventsIn amountsIn decode caseIn isUnit isListed placeOf unitOf groupOf isReference hasReference levelOf correctReferences correctIn referenceOf lengthFine versionFine sectionsFine pairsFine sizeFine sizesFine recordNumbersFine unitNumbersFine referenceNumbersFine eventNumbersFine numbersFine rises unitFieldsFine unitSpareFine referenceSpareFine entrySpareFine unitFine unitsFine referenceFieldsFine referenceKey referenceFine referencesFine correctionFine violationFine entryFine pastFine maskFine quantitiesFine fieldsFine referenceInRange bidInRange cellFine hourFine eventFine eventsFine monthLength monthStart monthFrom monthOf dayOfMonth dayWithin windowStart periodOf daysFine periodsFine eventKey orderFine eventListed eventsListed withinCapability amountFine amountsFine readsCorrect referenceFound referencesFound rowsFine refusal tight together sumTogether timeBid timeTotal bidFlag groupCapability groupSum withheldFlag dispatchFlag fuelFlag flagged flaggedWithImpact isInstance countsHere countsPast instances N3 N2 withheldMultiplier withheldAmount withheldPenaltyOf dispatchMultiplier dispatchRevenue dispatchPenaltyOf energyPart gain loss tccChange lowestUnit countsFuel pastFuel fuelStands fuelMultiplierAfter fuelPenaltyUnder priorFuel fuelMultiplier fuelPenaltyOf multiplier penalty hit mitigated mitigatedMask correctOf makeUpTenths makeUpOf joinTo areaUnits pastInstances sanctionedEvents sanctioned listTo bidLevel bearer chargeOf hourTerm hourLoss penaltyWorkingAt refusedPenalty penaltyWorkingOf countedHere countedPast byteOf countedByte correctRead restored energyBid hourMakeUpTenths makeUpWorkingAt refusedMakeUp makeUpWorkingOf
 fuel-by-call = by-calls sanctioned [] 4 refl .fuel refl
 
 -- the call of a withheld event, given its hours, and that of a dispatch event
 pub withheld-by-call : withheldPenaltyAnswer 4 (listTo 24 (flaggedAmount (decode sanctioned) 0)) (listTo 24 (decode sanctioned .events .b 0)) ≡ given 481301
-unfolding tightUnit bidReferences bidEvents bids minimumGeneration cellBytes eventOf headed fileIn fileOf unitBytes referenceBytes entryBytes units sumTo countTo anyTo allTo firstTo lastTo maskTo bitOf valueAt bytesOf positivePart negativePart within thresholdOf increase lowerTest constrainedTest percentTest timeTest maximumTest bidTest unitLimit groupLimit withheldTest dispatchTest cents periodCounts ladder withheldPenalty dispatchPenalty fuelDayCounts fuelCharge fuelPenalty between spanned atMost lesser greater defaultBid restores excess hourMakeUp makeUp firstWidths widthsOf formatIn offsetOf lengthOf sectionOf recordAt unitsIn referencesIn violationIn pastIn cellsFrom cellsIn eventsIn amountsIn decode caseIn isUnit isListed placeOf unitOf groupOf isReference hasReference levelOf correctReferences correctIn referenceOf lengthFine versionFine sectionsFine pairsFine sizeFine sizesFine recordNumbersFine unitNumbersFine referenceNumbersFine eventNumbersFine numbersFine rises unitFieldsFine unitSpareFine referenceSpareFine entrySpareFine unitFine unitsFine referenceFieldsFine referenceKey referenceFine referencesFine correctionFine violationFine entryFine pastFine maskFine quantitiesFine fieldsFine referenceInRange bidInRange cellFine hourFine eventFine eventsFine monthLength monthStart monthFrom monthOf dayOfMonth dayWithin windowStart periodOf dayFine daysFine periodFine periodsFine eventKey orderFine eventListed eventsListed withinCapability amountFine amountsFine readsCorrect referenceFound referencesFound rowsFine refusal tight together sumTogether timeBid timeTotal bidFlag groupCapability groupSum withheldFlag dispatchFlag fuelFlag flagged flaggedWithImpact isInstance countsHere countsPast instances N3 N2 withheldMultiplier withheldAmount withheldPenaltyOf dispatchMultiplier dispatchRevenue dispatchPenaltyOf energyPart gain loss tccChange lowestUnit countsFuel pastFuel fuelStands fuelMultiplierAfter fuelPenaltyUnder priorFuel fuelMultiplier fuelPenaltyOf multiplier penalty hit mitigated mitigatedMask correctOf makeUpTenths makeUpOf joinTo areaUnits pastInstances sanctionedEvents sanctioned listTo bidLevel bearer chargeOf hourTerm hourLoss penaltyWorkingAt refusedPenalty penaltyWorkingOf countedHere countedPast byteOf countedByte correctRead restored energyBid hourMakeUpTenths makeUpWorkingAt refusedMakeUp makeUpWorkingOf
+unfolding tightUnit bidReferences bidEvents bids minimumGeneration cellBytes eventOf headed fileIn fileOf unitBytes referenceBytes entryBytes units sumTo countTo anyTo allTo firstTo lastTo maskTo bitOf valueAt bytesOf positivePart negativePart within thresholdOf increase lowerTest constrainedTest percentTest timeTest maximumTest bidTest unitLimit groupLimit withheldTest dispatchTest cents periodCounts ladder withheldPenalty dispatchPenalty fuelDayCounts fuelCharge fuelPenalty between spanned atMost lesser greater defaultBid restores excess hourMakeUp makeUp firstWidths widthsOf formatIn offsetOf lengthOf sectionOf recordAt unitsIn referencesIn violationIn pastIn cellsFrom cellsIn eventsIn amountsIn decode caseIn isUnit isListed placeOf unitOf groupOf isReference hasReference levelOf correctReferences correctIn referenceOf lengthFine versionFine sectionsFine pairsFine sizeFine sizesFine recordNumbersFine unitNumbersFine referenceNumbersFine eventNumbersFine numbersFine rises unitFieldsFine unitSpareFine referenceSpareFine entrySpareFine unitFine unitsFine referenceFieldsFine referenceKey referenceFine referencesFine correctionFine violationFine entryFine pastFine maskFine quantitiesFine fieldsFine referenceInRange bidInRange cellFine hourFine eventFine eventsFine monthLength monthStart monthFrom monthOf dayOfMonth dayWithin windowStart periodOf daysFine periodsFine eventKey orderFine eventListed eventsListed withinCapability amountFine amountsFine readsCorrect referenceFound referencesFound rowsFine refusal tight together sumTogether timeBid timeTotal bidFlag groupCapability groupSum withheldFlag dispatchFlag fuelFlag flagged flaggedWithImpact isInstance countsHere countsPast instances N3 N2 withheldMultiplier withheldAmount withheldPenaltyOf dispatchMultiplier dispatchRevenue dispatchPenaltyOf energyPart gain loss tccChange lowestUnit countsFuel pastFuel fuelStands fuelMultiplierAfter fuelPenaltyUnder priorFuel fuelMultiplier fuelPenaltyOf multiplier penalty hit mitigated mitigatedMask correctOf makeUpTenths makeUpOf joinTo areaUnits pastInstances sanctionedEvents sanctioned listTo bidLevel bearer chargeOf hourTerm hourLoss penaltyWorkingAt refusedPenalty penaltyWorkingOf countedHere countedPast byteOf countedByte correctRead restored energyBid hourMakeUpTenths makeUpWorkingAt refusedMakeUp makeUpWorkingOf
 withheld-by-call = by-calls sanctioned [] 0 refl .withheld refl
 
 pub dispatch-by-call : dispatchPenaltyAnswer (listTo 24 (flaggedRevenue (decode sanctioned) 2)) ≡ given 1502
-unfolding tightUnit bidReferences bidEvents bids minimumGeneration cellBytes eventOf headed fileIn fileOf unitBytes referenceBytes entryBytes units sumTo countTo anyTo allTo firstTo lastTo maskTo bitOf valueAt bytesOf positivePart negativePart within thresholdOf increase lowerTest constrainedTest percentTest timeTest maximumTest bidTest unitLimit groupLimit withheldTest dispatchTest cents periodCounts ladder withheldPenalty dispatchPenalty fuelDayCounts fuelCharge fuelPenalty between spanned atMost lesser greater defaultBid restores excess hourMakeUp makeUp firstWidths widthsOf formatIn offsetOf lengthOf sectionOf recordAt unitsIn referencesIn violationIn pastIn cellsFrom cellsIn eventsIn amountsIn decode caseIn isUnit isListed placeOf unitOf groupOf isReference hasReference levelOf correctReferences correctIn referenceOf lengthFine versionFine sectionsFine pairsFine sizeFine sizesFine recordNumbersFine unitNumbersFine referenceNumbersFine eventNumbersFine numbersFine rises unitFieldsFine unitSpareFine referenceSpareFine entrySpareFine unitFine unitsFine referenceFieldsFine referenceKey referenceFine referencesFine correctionFine violationFine entryFine pastFine maskFine quantitiesFine fieldsFine referenceInRange bidInRange cellFine hourFine eventFine eventsFine monthLength monthStart monthFrom monthOf dayOfMonth dayWithin windowStart periodOf dayFine daysFine periodFine periodsFine eventKey orderFine eventListed eventsListed withinCapability amountFine amountsFine readsCorrect referenceFound referencesFound rowsFine refusal tight together sumTogether timeBid timeTotal bidFlag groupCapability groupSum withheldFlag dispatchFlag fuelFlag flagged flaggedWithImpact isInstance countsHere countsPast instances N3 N2 withheldMultiplier withheldAmount withheldPenaltyOf dispatchMultiplier dispatchRevenue dispatchPenaltyOf energyPart gain loss tccChange lowestUnit countsFuel pastFuel fuelStands fuelMultiplierAfter fuelPenaltyUnder priorFuel fuelMultiplier fuelPenaltyOf multiplier penalty hit mitigated mitigatedMask correctOf makeUpTenths makeUpOf joinTo areaUnits pastInstances sanctionedEvents sanctioned listTo bidLevel bearer chargeOf hourTerm hourLoss penaltyWorkingAt refusedPenalty penaltyWorkingOf countedHere countedPast byteOf countedByte correctRead restored energyBid hourMakeUpTenths makeUpWorkingAt refusedMakeUp makeUpWorkingOf
+unfolding tightUnit bidReferences bidEvents bids minimumGeneration cellBytes eventOf headed fileIn fileOf unitBytes referenceBytes entryBytes units sumTo countTo anyTo allTo firstTo lastTo maskTo bitOf valueAt bytesOf positivePart negativePart within thresholdOf increase lowerTest constrainedTest percentTest timeTest maximumTest bidTest unitLimit groupLimit withheldTest dispatchTest cents periodCounts ladder withheldPenalty dispatchPenalty fuelDayCounts fuelCharge fuelPenalty between spanned atMost lesser greater defaultBid restores excess hourMakeUp makeUp firstWidths widthsOf formatIn offsetOf lengthOf sectionOf recordAt unitsIn referencesIn violationIn pastIn cellsFrom cellsIn eventsIn amountsIn decode caseIn isUnit isListed placeOf unitOf groupOf isReference hasReference levelOf correctReferences correctIn referenceOf lengthFine versionFine sectionsFine pairsFine sizeFine sizesFine recordNumbersFine unitNumbersFine referenceNumbersFine eventNumbersFine numbersFine rises unitFieldsFine unitSpareFine referenceSpareFine entrySpareFine unitFine unitsFine referenceFieldsFine referenceKey referenceFine referencesFine correctionFine violationFine entryFine pastFine maskFine quantitiesFine fieldsFine referenceInRange bidInRange cellFine hourFine eventFine eventsFine monthLength monthStart monthFrom monthOf dayOfMonth dayWithin windowStart periodOf daysFine periodsFine eventKey orderFine eventListed eventsListed withinCapability amountFine amountsFine readsCorrect referenceFound referencesFound rowsFine refusal tight together sumTogether timeBid timeTotal bidFlag groupCapability groupSum withheldFlag dispatchFlag fuelFlag flagged flaggedWithImpact isInstance countsHere countsPast instances N3 N2 withheldMultiplier withheldAmount withheldPenaltyOf dispatchMultiplier dispatchRevenue dispatchPenaltyOf energyPart gain loss tccChange lowestUnit countsFuel pastFuel fuelStands fuelMultiplierAfter fuelPenaltyUnder priorFuel fuelMultiplier fuelPenaltyOf multiplier penalty hit mitigated mitigatedMask correctOf makeUpTenths makeUpOf joinTo areaUnits pastInstances sanctionedEvents sanctioned listTo bidLevel bearer chargeOf hourTerm hourLoss penaltyWorkingAt refusedPenalty penaltyWorkingOf countedHere countedPast byteOf countedByte correctRead restored energyBid hourMakeUpTenths makeUpWorkingAt refusedMakeUp makeUpWorkingOf
 dispatch-by-call = by-calls sanctioned [] 2 refl .dispatch refl refl
 
 -- event 1 has N3 5 and N2 4
 pub counted-bits : (bitsFrom (instancesOut sanctioned [] 1 (replicate 114 9)) 0 ≡ 4) × (bitsFrom (instancesOut sanctioned [] 1 (replicate 114 9)) listBytes ≡ 3)
-unfolding tightUnit bidReferences bidEvents bids minimumGeneration cellBytes eventOf headed fileIn fileOf unitBytes referenceBytes entryBytes units sumTo countTo anyTo allTo firstTo lastTo maskTo bitOf valueAt bytesOf positivePart negativePart within thresholdOf increase lowerTest constrainedTest percentTest timeTest maximumTest bidTest unitLimit groupLimit withheldTest dispatchTest cents periodCounts ladder withheldPenalty dispatchPenalty fuelDayCounts fuelCharge fuelPenalty between spanned atMost lesser greater defaultBid restores excess hourMakeUp makeUp firstWidths widthsOf formatIn offsetOf lengthOf sectionOf recordAt unitsIn referencesIn violationIn pastIn cellsFrom cellsIn eventsIn amountsIn decode caseIn isUnit isListed placeOf unitOf groupOf isReference hasReference levelOf correctReferences correctIn referenceOf lengthFine versionFine sectionsFine pairsFine sizeFine sizesFine recordNumbersFine unitNumbersFine referenceNumbersFine eventNumbersFine numbersFine rises unitFieldsFine unitSpareFine referenceSpareFine entrySpareFine unitFine unitsFine referenceFieldsFine referenceKey referenceFine referencesFine correctionFine violationFine entryFine pastFine maskFine quantitiesFine fieldsFine referenceInRange bidInRange cellFine hourFine eventFine eventsFine monthLength monthStart monthFrom monthOf dayOfMonth dayWithin windowStart periodOf dayFine daysFine periodFine periodsFine eventKey orderFine eventListed eventsListed withinCapability amountFine amountsFine readsCorrect referenceFound referencesFound rowsFine refusal tight together sumTogether timeBid timeTotal bidFlag groupCapability groupSum withheldFlag dispatchFlag fuelFlag flagged flaggedWithImpact isInstance countsHere countsPast instances N3 N2 withheldMultiplier withheldAmount withheldPenaltyOf dispatchMultiplier dispatchRevenue dispatchPenaltyOf energyPart gain loss tccChange lowestUnit countsFuel pastFuel fuelStands fuelMultiplierAfter fuelPenaltyUnder priorFuel fuelMultiplier fuelPenaltyOf multiplier penalty hit mitigated mitigatedMask correctOf makeUpTenths makeUpOf joinTo areaUnits pastInstances sanctionedEvents sanctioned listTo bidLevel bearer chargeOf hourTerm hourLoss penaltyWorkingAt refusedPenalty penaltyWorkingOf countedHere countedPast byteOf countedByte correctRead restored energyBid hourMakeUpTenths makeUpWorkingAt refusedMakeUp makeUpWorkingOf instancesAnswer
+unfolding tightUnit bidReferences bidEvents bids minimumGeneration cellBytes eventOf headed fileIn fileOf unitBytes referenceBytes entryBytes units sumTo countTo anyTo allTo firstTo lastTo maskTo bitOf valueAt bytesOf positivePart negativePart within thresholdOf increase lowerTest constrainedTest percentTest timeTest maximumTest bidTest unitLimit groupLimit withheldTest dispatchTest cents periodCounts ladder withheldPenalty dispatchPenalty fuelDayCounts fuelCharge fuelPenalty between spanned atMost lesser greater defaultBid restores excess hourMakeUp makeUp firstWidths widthsOf formatIn offsetOf lengthOf sectionOf recordAt unitsIn referencesIn violationIn pastIn cellsFrom cellsIn eventsIn amountsIn decode caseIn isUnit isListed placeOf unitOf groupOf isReference hasReference levelOf correctReferences correctIn referenceOf lengthFine versionFine sectionsFine pairsFine sizeFine sizesFine recordNumbersFine unitNumbersFine referenceNumbersFine eventNumbersFine numbersFine rises unitFieldsFine unitSpareFine referenceSpareFine entrySpareFine unitFine unitsFine referenceFieldsFine referenceKey referenceFine referencesFine correctionFine violationFine entryFine pastFine maskFine quantitiesFine fieldsFine referenceInRange bidInRange cellFine hourFine eventFine eventsFine monthLength monthStart monthFrom monthOf dayOfMonth dayWithin windowStart periodOf daysFine periodsFine eventKey orderFine eventListed eventsListed withinCapability amountFine amountsFine readsCorrect referenceFound referencesFound rowsFine refusal tight together sumTogether timeBid timeTotal bidFlag groupCapability groupSum withheldFlag dispatchFlag fuelFlag flagged flaggedWithImpact isInstance countsHere countsPast instances N3 N2 withheldMultiplier withheldAmount withheldPenaltyOf dispatchMultiplier dispatchRevenue dispatchPenaltyOf energyPart gain loss tccChange lowestUnit countsFuel pastFuel fuelStands fuelMultiplierAfter fuelPenaltyUnder priorFuel fuelMultiplier fuelPenaltyOf multiplier penalty hit mitigated mitigatedMask correctOf makeUpTenths makeUpOf joinTo areaUnits pastInstances sanctionedEvents sanctioned listTo bidLevel bearer chargeOf hourTerm hourLoss penaltyWorkingAt refusedPenalty penaltyWorkingOf countedHere countedPast byteOf countedByte correctRead restored energyBid hourMakeUpTenths makeUpWorkingAt refusedMakeUp makeUpWorkingOf instancesAnswer
 counted-bits = counts-agree sanctioned [] 1 (replicate 114 9) refl
 
 -- the bids of the restored span are in force as they were bid
 pub span-in-force : bidInForce (decode minimumGeneration) (correctIn minimumGeneration (referenceBytes 12 1 6000)) 0 18 ≡ 15001
-unfolding tightUnit bidReferences bidEvents bids minimumGeneration cellBytes eventOf headed fileIn fileOf unitBytes referenceBytes entryBytes units sumTo countTo anyTo allTo firstTo lastTo maskTo bitOf valueAt bytesOf positivePart negativePart within thresholdOf increase lowerTest constrainedTest percentTest timeTest maximumTest bidTest unitLimit groupLimit withheldTest dispatchTest cents periodCounts ladder withheldPenalty dispatchPenalty fuelDayCounts fuelCharge fuelPenalty between spanned atMost lesser greater defaultBid restores excess hourMakeUp makeUp firstWidths widthsOf formatIn offsetOf lengthOf sectionOf recordAt unitsIn referencesIn violationIn pastIn cellsFrom cellsIn eventsIn amountsIn decode caseIn isUnit isListed placeOf unitOf groupOf isReference hasReference levelOf correctReferences correctIn referenceOf lengthFine versionFine sectionsFine pairsFine sizeFine sizesFine recordNumbersFine unitNumbersFine referenceNumbersFine eventNumbersFine numbersFine rises unitFieldsFine unitSpareFine referenceSpareFine entrySpareFine unitFine unitsFine referenceFieldsFine referenceKey referenceFine referencesFine correctionFine violationFine entryFine pastFine maskFine quantitiesFine fieldsFine referenceInRange bidInRange cellFine hourFine eventFine eventsFine monthLength monthStart monthFrom monthOf dayOfMonth dayWithin windowStart periodOf dayFine daysFine periodFine periodsFine eventKey orderFine eventListed eventsListed withinCapability amountFine amountsFine readsCorrect referenceFound referencesFound rowsFine refusal tight together sumTogether timeBid timeTotal bidFlag groupCapability groupSum withheldFlag dispatchFlag fuelFlag flagged flaggedWithImpact isInstance countsHere countsPast instances N3 N2 withheldMultiplier withheldAmount withheldPenaltyOf dispatchMultiplier dispatchRevenue dispatchPenaltyOf energyPart gain loss tccChange lowestUnit countsFuel pastFuel fuelStands fuelMultiplierAfter fuelPenaltyUnder priorFuel fuelMultiplier fuelPenaltyOf multiplier penalty hit mitigated mitigatedMask correctOf makeUpTenths makeUpOf joinTo areaUnits pastInstances sanctionedEvents sanctioned listTo bidLevel bearer chargeOf hourTerm hourLoss penaltyWorkingAt refusedPenalty penaltyWorkingOf countedHere countedPast byteOf countedByte correctRead restored energyBid hourMakeUpTenths makeUpWorkingAt refusedMakeUp makeUpWorkingOf
+unfolding tightUnit bidReferences bidEvents bids minimumGeneration cellBytes eventOf headed fileIn fileOf unitBytes referenceBytes entryBytes units sumTo countTo anyTo allTo firstTo lastTo maskTo bitOf valueAt bytesOf positivePart negativePart within thresholdOf increase lowerTest constrainedTest percentTest timeTest maximumTest bidTest unitLimit groupLimit withheldTest dispatchTest cents periodCounts ladder withheldPenalty dispatchPenalty fuelDayCounts fuelCharge fuelPenalty between spanned atMost lesser greater defaultBid restores excess hourMakeUp makeUp firstWidths widthsOf formatIn offsetOf lengthOf sectionOf recordAt unitsIn referencesIn violationIn pastIn cellsFrom cellsIn eventsIn amountsIn decode caseIn isUnit isListed placeOf unitOf groupOf isReference hasReference levelOf correctReferences correctIn referenceOf lengthFine versionFine sectionsFine pairsFine sizeFine sizesFine recordNumbersFine unitNumbersFine referenceNumbersFine eventNumbersFine numbersFine rises unitFieldsFine unitSpareFine referenceSpareFine entrySpareFine unitFine unitsFine referenceFieldsFine referenceKey referenceFine referencesFine correctionFine violationFine entryFine pastFine maskFine quantitiesFine fieldsFine referenceInRange bidInRange cellFine hourFine eventFine eventsFine monthLength monthStart monthFrom monthOf dayOfMonth dayWithin windowStart periodOf daysFine periodsFine eventKey orderFine eventListed eventsListed withinCapability amountFine amountsFine readsCorrect referenceFound referencesFound rowsFine refusal tight together sumTogether timeBid timeTotal bidFlag groupCapability groupSum withheldFlag dispatchFlag fuelFlag flagged flaggedWithImpact isInstance countsHere countsPast instances N3 N2 withheldMultiplier withheldAmount withheldPenaltyOf dispatchMultiplier dispatchRevenue dispatchPenaltyOf energyPart gain loss tccChange lowestUnit countsFuel pastFuel fuelStands fuelMultiplierAfter fuelPenaltyUnder priorFuel fuelMultiplier fuelPenaltyOf multiplier penalty hit mitigated mitigatedMask correctOf makeUpTenths makeUpOf joinTo areaUnits pastInstances sanctionedEvents sanctioned listTo bidLevel bearer chargeOf hourTerm hourLoss penaltyWorkingAt refusedPenalty penaltyWorkingOf countedHere countedPast byteOf countedByte correctRead restored energyBid hourMakeUpTenths makeUpWorkingAt refusedMakeUp makeUpWorkingOf
 span-in-force = by-terms minimumGeneration (referenceBytes 12 1 6000) 0 refl .in-force 18 (lit< tt) refl

@@ -6,18 +6,18 @@ use Rattle.binary.specs.Bounded.{allTo}
 use Rattle.binary.proofs.BoundedLaws.{all-none, all-more}
 use Rattle.casefile.specs.Decode.{eventsIn}
 use Rattle.casefile.specs.StageRead.{eventAt}
-use Rattle.limits.specs.Refusal.{dayFine}
+use Rattle.calendar.specs.Periods.{inCalendar}
 use Rattle.calendar_check.proofs.calendar_limits.event_days_fine.Statement.{statement}
 use Rattle.calendar_check.proofs.calendar_limits.event_days_fine.Tie as tie
 
 abbrev Inv-loop : tie.InvT-loop
-Inv-loop format events n fine₀ i₀ fine i = (i ≤ eventsIn format events .count) × (fine ≡ allTo i (λ j. dayFine (eventsIn format events .day j)))
+Inv-loop format events n fine₀ i₀ fine i = (i ≤ eventsIn format events .count) × (fine ≡ allTo i (λ j. inCalendar (eventsIn format events .day j)))
 
 abbrev μ-loop : tie.MeasureT-loop
 μ-loop format events n fine₀ i₀ fine i = eventsIn format events .count - i
 
 pub event-days-fine-spec : {M : Type 1} → statement M
-unfolding eventAt dayFine
+unfolding eventAt
 event-days-fine-spec =
     tie.close
     (tie.spec

@@ -6,18 +6,18 @@ use Rattle.binary.specs.Bounded.{allTo}
 use Rattle.binary.proofs.BoundedLaws.{all-none, all-more}
 use Rattle.casefile.specs.Decode.{pastIn}
 use Rattle.casefile.specs.StageRead.{entryAt}
-use Rattle.limits.specs.Refusal.{dayFine}
+use Rattle.calendar.specs.Periods.{inCalendar}
 use Rattle.calendar_check.proofs.calendar_limits.past_days_fine.Statement.{statement}
 use Rattle.calendar_check.proofs.calendar_limits.past_days_fine.Tie as tie
 
 abbrev Inv-loop : tie.InvT-loop
-Inv-loop past n fine₀ i₀ fine i = (i ≤ pastIn past .count) × (fine ≡ allTo i (λ j. dayFine (pastIn past .entry j .day)))
+Inv-loop past n fine₀ i₀ fine i = (i ≤ pastIn past .count) × (fine ≡ allTo i (λ j. inCalendar (pastIn past .entry j .day)))
 
 abbrev μ-loop : tie.MeasureT-loop
 μ-loop past n fine₀ i₀ fine i = pastIn past .count - i
 
 pub past-days-fine-spec : {M : Type 1} → statement M
-unfolding entryAt dayFine
+unfolding entryAt
 past-days-fine-spec =
     tie.close
     (tie.spec
