@@ -21,7 +21,7 @@ use Rattle.line.specs.OpenLine.{lowerLine, clauseAsked, energyLine, isTime, ove
 use Rattle.line.specs.BidLine.{lineOf, noHigher, goodSide}
 use Rattle.calls.specs.Answers.{given}
 use Rattle.casefile.specs.File.{headed, fileIn}
-use Rattle.worked_cases.specs.Files.{fileOf, unitBytes, referenceBytes, eventBytes, units}
+use Rattle.worked_files.specs.Files.{fileOf, unitBytes, referenceBytes, eventBytes, units}
 use Rattle.case_lines.specs.CaseLine.{lineAt, answerAt}
 use Rattle.case_lines.proofs.CaseLineLaws.{lines-of}
 

@@ -14,7 +14,7 @@ use Rattle.casefile.specs.Decode.{formatIn, offsetOf, lengthOf, sectionOf, reco
 use Rattle.casefile.specs.Lookup.{isUnit, isListed, placeOf, isReference, referenceKey, hasReference, correctReferences, readsCorrect}
 use Rattle.limits.specs.Refusal.{lengthFine, versionFine, sectionsFine, pairsFine, sizeFine, sizesFine, numberFine, recordNumbersFine, unitNumbersFine, referenceNumbersFine, eventNumbersFine, numbersFine, rises, unitFieldsFine, unitFine, unitsFine, referenceFieldsFine, referenceFine, referencesFine, correctionFine, violationFine, entryFine, pastFine, maskFine, quantitiesFine, fieldsFine, cellFine, hourFine, eventFine, eventsFine, daysFine, periodsFine, eventKey, orderFine, eventListed, eventsListed, withinCapability, amountFine, amountsFine, referenceFound, referencesFound, rowsFine, refusal}
 use Rattle.casefile.specs.File.{headed, fileIn}
-use Rattle.worked_cases.specs.Files.{unitBytes, referenceBytes, entryBytes, eventBytes, withheld}
+use Rattle.worked_files.specs.Files.{unitBytes, referenceBytes, entryBytes, eventBytes, withheld}
 
 -- a record of version 1, its old field as it is given, with its number in four bytes more
 unfoldable pub wideUnit : (old number area capability : ℕ) → List ℕ

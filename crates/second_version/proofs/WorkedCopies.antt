@@ -14,10 +14,10 @@ use Rattle.casefile.specs.Decode.{formatIn, offsetOf, lengthOf, sectionOf, reco
 use Rattle.casefile.specs.Lookup.{isUnit, isListed, placeOf, isReference, referenceKey, hasReference, correctReferences, readsCorrect}
 use Rattle.limits.specs.Refusal.{lengthFine, versionFine, sectionsFine, pairsFine, sizeFine, sizesFine, numberFine, recordNumbersFine, unitNumbersFine, referenceNumbersFine, eventNumbersFine, numbersFine, rises, unitFieldsFine, unitFine, unitsFine, referenceFieldsFine, referenceFine, referencesFine, correctionFine, violationFine, entryFine, pastFine, maskFine, quantitiesFine, fieldsFine, cellFine, hourFine, eventFine, eventsFine, daysFine, periodsFine, eventKey, orderFine, eventListed, eventsListed, withinCapability, amountFine, amountsFine, referenceFound, referencesFound, rowsFine, refusal}
 use Rattle.casefile.specs.File.{headed, fileIn}
-use Rattle.worked_cases.specs.Files.{fileOf, unitBytes, referenceBytes, entryBytes, eventBytes, units, withheld, listing}
+use Rattle.worked_files.specs.Files.{fileOf, unitBytes, referenceBytes, entryBytes, eventBytes, units, withheld, listing}
 use Rattle.settlement.specs.Settled.{settled}
 use Rattle.report.specs.Listing.{listingOf}
-use Rattle.worked_cases.specs.Cases.{tightUnit, cellBytes, eventOf, rowBytes, noBids, bidReferences, bidEvents, bids, bidRows}
+use Rattle.worked_files.specs.Cases.{tightUnit, cellBytes, eventOf, rowBytes, noBids, bidReferences, bidEvents, bids, bidRows}
 use Rattle.worked_cases.proofs.Settlements as worked
 use Rattle.second_version.specs.SecondVersion.{copyByte, copyRecord, copyRecords, copyUnits, copyReferences, copyEvents, copyOf, BothAccepted}
 use Rattle.second_version.proofs.SameSettlement.{same-settlement, same-listing}

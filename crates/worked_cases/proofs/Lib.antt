@@ -2,4 +2,3 @@ pub mod Refusals
 pub mod MixedSettlements
 pub mod Settlements
 pub mod Multipliers
-pub mod Workings

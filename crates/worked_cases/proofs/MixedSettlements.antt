@@ -23,8 +23,8 @@ use Rattle.sanctions.specs.Penalties.{flaggedWithImpact, isInstance, countsHere
 use Rattle.default_bids.specs.Mitigation.{hit, mitigated, mitigatedMask, correctOf, bidInForce, makeUpTenths, makeUpOf, totalMakeUp}
 use Rattle.settlement.specs.Row.{bidBytes, rowOf, rowsOf}
 use Rattle.settlement.specs.Settled.{accepted, answerOf, rowsAfter, settled}
-use Rattle.worked_cases.specs.Files.{fileOf, unitBytes, referenceBytes, entryBytes, units}
-use Rattle.worked_cases.specs.Cases.{tightUnit, cellBytes, eventOf, rowBytes, areaUnits, pastInstances, sanctionedEvents, sanctioned, sanctionedRows, mixedReferences, mixedEvents, mixed, mixedRows, twoDaysEvents, twoDays, twoDaysRows, groupReferences, groupEvents, group, groupRows, windowPast, windowReferences, windowCorrection, windowEvents, windows, windowRows}
+use Rattle.worked_files.specs.Files.{fileOf, unitBytes, referenceBytes, entryBytes, units}
+use Rattle.worked_files.specs.Cases.{tightUnit, cellBytes, eventOf, rowBytes, areaUnits, pastInstances, sanctionedEvents, sanctioned, sanctionedRows, mixedReferences, mixedEvents, mixed, mixedRows, twoDaysEvents, twoDays, twoDaysRows, groupReferences, groupEvents, group, groupRows, windowPast, windowReferences, windowCorrection, windowEvents, windows, windowRows}
 
 -- the byte beyond the last row stays
 pub record MixedExamples : Type 0 where

@@ -21,8 +21,8 @@ use Rattle.casefile.specs.File.{headed, fileIn}
 use Rattle.limits.specs.Refusal.{lengthFine, versionFine, sectionsFine, pairsFine, sizeFine, sizesFine, recordNumbersFine, unitNumbersFine, referenceNumbersFine, eventNumbersFine, numbersFine, rises, unitFieldsFine, unitFine, unitsFine, referenceFieldsFine, referenceFine, referencesFine, correctionFine, violationFine, entryFine, pastFine, maskFine, quantitiesFine, fieldsFine, cellFine, hourFine, eventFine, eventsFine, daysFine, periodsFine, eventKey, orderFine, eventListed, eventsListed, withinCapability, amountFine, amountsFine, referenceFound, referencesFound, rowsFine, refusal}
 use Rattle.conduct.specs.Flags.{tight, sumTogether, timeBid, timeTotal, bidFlag, groupCapability, groupSum, withheldFlag, dispatchFlag, fuelFlag, flagged}
 use Rattle.sanctions.specs.Penalties.{fuelMultiplierHere, flaggedWithImpact, isInstance, countsHere, countsPast, instances, N3, N2, withheldMultiplier, withheldAmount, withheldPenaltyOf, dispatchMultiplier, dispatchRevenue, dispatchPenaltyOf, energyPart, gain, loss, tccChange, lowestUnit, countsFuel, pastFuel, fuelStands, fuelMultiplierAfter, fuelPenaltyUnder, priorFuel, fuelMultiplier, fuelPenaltyOf, multiplier, penalty}
-use Rattle.worked_cases.specs.Files.{fileOf, unitBytes, referenceBytes, entryBytes, units}
-use Rattle.worked_cases.specs.Cases.{tightUnit, cellBytes, eventOf, areaUnits, pastInstances, sanctionedEvents, sanctioned, twoDaysEvents, twoDays}
+use Rattle.worked_files.specs.Files.{fileOf, unitBytes, referenceBytes, entryBytes, units}
+use Rattle.worked_files.specs.Cases.{tightUnit, cellBytes, eventOf, areaUnits, pastInstances, sanctionedEvents, sanctioned, twoDaysEvents, twoDays}
 use lib.Dec.{ltb, lit<, lit≤}
 use borrow.Author.Tests.{ltb-true}
 use Rattle.binary.proofs.Implies.{and-l, and-r}

@@ -17,7 +17,7 @@ use Rattle.casefile.specs.Lookup.{isUnit, isListed, placeOf, isReference, refer
 use Rattle.limits.specs.Refusal.{lengthFine, versionFine, sectionsFine, pairsFine, sizeFine, sizesFine, recordNumbersFine, unitNumbersFine, referenceNumbersFine, eventNumbersFine, numbersFine, rises, unitFieldsFine, unitFine, unitsFine, referenceFieldsFine, referenceFine, referencesFine, correctionFine, violationFine, entryFine, pastFine, maskFine, quantitiesFine, fieldsFine, cellFine, hourFine, eventFine, eventsFine, daysFine, periodsFine, eventKey, orderFine, eventListed, eventsListed, withinCapability, amountFine, amountsFine, referenceFound, referencesFound, rowsFine, refusal, limits, DecidedBy}
 use Rattle.limits.proofs.LimitLaws.{refused-decided}
 use Rattle.casefile.specs.File.{headed, fileIn}
-use Rattle.worked_cases.specs.Files.{fileOf, unitBytes, referenceBytes, entryBytes, eventBytes, units, withheld, listing}
+use Rattle.worked_files.specs.Files.{fileOf, unitBytes, referenceBytes, entryBytes, eventBytes, units, withheld, listing}
 
 -- accepted: the empty case, the listing's case, and one with every section and a correction; then the table's examples in number order, and four easy to get wrong
 pub record Examples : Type 0 where

@@ -24,8 +24,8 @@ use Rattle.sanctions.specs.Penalties.{flaggedWithImpact, isInstance, countsHere
 use Rattle.default_bids.specs.Mitigation.{hit, mitigated, mitigatedMask, correctOf, bidInForce, makeUpTenths, makeUpOf, totalMakeUp}
 use Rattle.settlement.specs.Row.{bidBytes, rowOf, rowsOf}
 use Rattle.settlement.specs.Settled.{refusedAnswer, accepted, answerOf, rowsAfter, settled}
-use Rattle.worked_cases.specs.Files.{fileOf, unitBytes, referenceBytes, entryBytes, eventBytes, units, withheld, listing}
-use Rattle.worked_cases.specs.Cases.{at, tightUnit, cellBytes, eventOf, rowBytes, noBids, bidReferences, bidEvents, bids, bidRows, minimumGeneration}
+use Rattle.worked_files.specs.Files.{fileOf, unitBytes, referenceBytes, entryBytes, eventBytes, units, withheld, listing}
+use Rattle.worked_files.specs.Cases.{at, tightUnit, cellBytes, eventOf, rowBytes, noBids, bidReferences, bidEvents, bids, bidRows, minimumGeneration}
 
 -- the byte beyond the last row stays
 pub record Examples : Type 0 where

@@ -1,1 +1,1 @@
-// Cases settled and hours worked by computation.
+// Cases refused and settled by computation: proofs alone.

@@ -26,8 +26,8 @@ use Rattle.sanctions.specs.Penalties.{flaggedWithImpact, isInstance, countsHere
 use Rattle.default_bids.specs.Mitigation.{hit, mitigated, mitigatedMask, correctOf, bidInForce, makeUpTenths, makeUpOf, totalMakeUp}
 use Rattle.settlement.specs.Row.{bidBytes, rowOf, rowsOf}
 use Rattle.settlement.specs.Settled.{accepted, answerOf, settlementOf, answerOfSettlement, rowsAfter, settled}
-use Rattle.worked_cases.specs.Files.{unitBytes, entryBytes, eventBytes, withheld}
-use Rattle.worked_cases.specs.Cases.{rowBytes, noBids}
+use Rattle.worked_files.specs.Files.{unitBytes, entryBytes, eventBytes, withheld}
+use Rattle.worked_files.specs.Cases.{rowBytes, noBids}
 use Rattle.worse_conduct.specs.Changes.{Change, cell, entry, TakesAll, cellPlace, cellWritten, entryPlace, entryPut, longerPast, laterEvents, headerMoved, apply, applyAll, moreWithheld, lowerBid, movedBid, worseBid, worseAmount}
 use Rattle.worse_conduct.specs.Promise.{EnergyNotNegative, NoSmaller}
 use Rattle.demands.proofs.Demands.{demand-3}

@@ -32,8 +32,8 @@ use Rattle.default_bids.specs.Mitigation.{hit, mitigated, mitigatedMask, correc
 use Rattle.settlement.specs.Row.{bidBytes, rowOf, rowsOf}
 use Rattle.settlement.specs.Settled.{Settled, accepted, answerOf, settlementOf, answerOfSettlement, rowsAfter, settled}
 use Rattle.settlement.specs.declared.settle.Settlement.{Settlement}
-use Rattle.worked_cases.specs.Files.{fileOf, unitBytes, referenceBytes, entryBytes, units}
-use Rattle.worked_cases.specs.Cases.{minus, at, cellBytes, eventOf, empty, rowBytes, noBids}
+use Rattle.worked_files.specs.Files.{fileOf, unitBytes, referenceBytes, entryBytes, units}
+use Rattle.worked_files.specs.Cases.{minus, at, cellBytes, eventOf, empty, rowBytes, noBids}
 use Rattle.worse_conduct.specs.Changes.{Change, cell, entry, TakesAll, cellPlace, cellWritten, entryPlace, entryPut, longerPast, laterEvents, headerMoved, apply, applyAll, moreWithheld, lowerBid, movedBid, worseBid, worseAmount}
 use Rattle.worse_conduct.specs.Promise.{EnergyNotNegative, NoSmaller}
 use Rattle.demands.specs.Demands.{Run, NeverCheaper}

@@ -34,8 +34,8 @@ use Rattle.counted_instances.specs.CountedInstances.{countedHere, countedPast, 
 use Rattle.counted_instances.proofs.CountLaws.{counts-agree}
 use Rattle.make_up_terms.specs.MakeUpWorking.{correctRead, restored, energyBid, hourMakeUpTenths, makeUpWorkingAt, refusedMakeUp, makeUpWorkingOf}
 use Rattle.make_up_terms.proofs.ByTermsLaws.{by-terms}
-use Rattle.worked_cases.specs.Files.{fileOf, unitBytes, referenceBytes, entryBytes, units}
-use Rattle.worked_cases.specs.Cases.{tightUnit, cellBytes, eventOf, bidReferences, bidEvents, bids, minimumGeneration, areaUnits, pastInstances, sanctionedEvents, sanctioned}
+use Rattle.worked_files.specs.Files.{fileOf, unitBytes, referenceBytes, entryBytes, units}
+use Rattle.worked_files.specs.Cases.{tightUnit, cellBytes, eventOf, bidReferences, bidEvents, bids, minimumGeneration, areaUnits, pastInstances, sanctionedEvents, sanctioned}
 
 -- a working of kind 1 or 2
 abbrev terms : (kind multiplier n3 n2 row amount revenue penalty : ℕ) (hours : List ℕ) → PenaltyWorking

@@ -5,7 +5,7 @@ use mathlib.Core.List.{List, [], _++_}
 use lib.Dec.{eqb}
 use lib.ListN.{replicate}
 use Rattle.binary.specs.Bytes.{bytesOf}
-use Rattle.worked_cases.specs.Files.{fileOf, unitBytes, referenceBytes, entryBytes, units}
+use Rattle.worked_files.specs.Files.{fileOf, unitBytes, referenceBytes, entryBytes, units}
 use Rattle.binary.specs.Lists.{joinTo}
 
 -- the word of a negative amount

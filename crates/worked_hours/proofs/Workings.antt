@@ -25,8 +25,8 @@ use Rattle.conduct.specs.Flags.{tight, sumTogether, timeBid, timeTotal, bidFlag
 use Rattle.sanctions.specs.Penalties.{flaggedWithImpact, isInstance, countsHere, countsPast, instances, N3, N2}
 use Rattle.working.specs.declared.figures.Working.{Working}
 use Rattle.working.specs.Working.{fuelEvents, sumsOf, totalOf, figuresWith, figuresOf, comparisonsFor, decrease, workingFrom, countsOf, workingAt, refusedWorking, workingOf}
-use Rattle.worked_cases.specs.Files.{fileOf, unitBytes, referenceBytes, entryBytes, eventBytes, units, withheld, listing}
-use Rattle.worked_cases.specs.Cases.{tightUnit, cellBytes, eventOf, areaUnits, pastInstances, sanctionedEvents, sanctioned, bidReferences, bidEvents, bids}
+use Rattle.worked_files.specs.Files.{fileOf, unitBytes, referenceBytes, entryBytes, eventBytes, units, withheld, listing}
+use Rattle.worked_files.specs.Cases.{tightUnit, cellBytes, eventOf, areaUnits, pastInstances, sanctionedEvents, sanctioned, bidReferences, bidEvents, bids}
 
 abbrev shown : (flagged tight : Bool) (failed taken a reference increase decrease s g total n3 n2 : ℕ) (left right : List ℕ) → Working
 shown flagged tight failed taken a reference increase decrease s g total n3 n2 left right =

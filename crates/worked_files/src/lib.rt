@@ -1,0 +1,1 @@
+// The files of worked cases: definitions alone.

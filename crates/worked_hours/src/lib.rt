@@ -1,0 +1,1 @@
+// Hours worked by computation: proofs alone.
