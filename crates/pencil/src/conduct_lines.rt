@@ -1,5 +1,5 @@
 // Pencil lines of the conduct tests.
-use crate::call_lines;
+use pencil_lines::call_lines;
 
 pub fn withheld() {
     call_lines::heading(b"Withheld and dispatch\n");

@@ -1,5 +1,5 @@
 // Pencil lines of mitigated hours, bids in force and make-up.
-use crate::call_lines;
+use pencil_lines::call_lines;
 
 pub fn spans() {
     call_lines::heading(b"Mitigated hours of component 1 Day-Ahead\n");

@@ -1,8 +1,6 @@
 // The pencil sheet (docs/RULES.md, C18), run on the small public calls: each line with its answer.
-mod call_lines;
 mod conduct_lines;
 mod default_bid_lines;
-mod print;
 mod refused_lines;
 mod sanction_lines;
 

@@ -1,5 +1,5 @@
 // Arguments on the edge of their range and just past it: first 7, then 10.
-use crate::call_lines;
+use pencil_lines::call_lines;
 
 pub fn reference_refusals() {
     call_lines::heading(b"Refused: 7, a reference out of its component's range\n");

@@ -1,5 +1,5 @@
 // Pencil lines of multipliers, penalties and windows.
-use crate::call_lines;
+use pencil_lines::call_lines;
 
 pub fn penalties() {
     call_lines::heading(b"Multipliers in halves, penalties in cents\n");

@@ -1,8 +1,8 @@
 use Prim.Native.Nat.{_≤_, _-_}
 use native.Mathlib.Omega.{arith}
 use lib.ListN.{length}
-use Rattle.pencil.proofs.print.list.Statement.{statement}
-use Rattle.pencil.proofs.print.list.Tie as tie
+use Rattle.pencil_lines.proofs.print.list.Statement.{statement}
+use Rattle.pencil_lines.proofs.print.list.Tie as tie
 
 abbrev Inv-loop : tie.InvT-loop
 Inv-loop xs i₀ i = i ≤ length xs

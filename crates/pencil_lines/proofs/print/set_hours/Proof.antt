@@ -1,7 +1,7 @@
 use Prim.Native.Nat.{_≤_, _-_}
 use native.Mathlib.Omega.{arith}
-use Rattle.pencil.proofs.print.set_hours.Statement.{statement}
-use Rattle.pencil.proofs.print.set_hours.Tie as tie
+use Rattle.pencil_lines.proofs.print.set_hours.Statement.{statement}
+use Rattle.pencil_lines.proofs.print.set_hours.Tie as tie
 
 abbrev Inv-loop : tie.InvT-loop
 Inv-loop mask h₀ h = h ≤ 32
