@@ -16,7 +16,7 @@ use Rattle.casefile.specs.Case.{Case}
 use Rattle.casefile.specs.Decode.{unitsIn, eventsIn, caseIn, cellsFrom}
 use Rattle.casefile.specs.Lookup.{unitOf}
 use Rattle.casefile.specs.StageRead.{cellOf}
-use Rattle.conduct.specs.declared.hour_tests.Bid.{Bid}
+use Rattle.hour_masks.specs.declared.bid_hours.Bid.{Bid}
 use Rattle.conduct.specs.declared.hour_tests.Withheld.{Withheld}
 use Rattle.conduct.specs.declared.hour_tests.ConductTest.the-variants as test
 use Rattle.conduct.specs.Flags.{tight, sumTogether, groupCapability, groupSum, withheldFlag, dispatchFlag, fuelFlag}

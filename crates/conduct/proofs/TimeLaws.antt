@@ -291,16 +291,6 @@ module _ (format : Format) (e levels : List ℕ) (i : ℕ) where
             (sym own ∙ reads (caseIn format [] [] [] e) i o l);
       }
 
-  -- no total is above 2 ^ 40
-  pub small-totals : (row : List ℕ) → eventsIn format e .count ≤ mostEvents → HasRow (totalRead (caseIn format [] [] [] e) levels i) row → SmallRow row
-  unfolding totalRead timeTotalIn caseIn eventsIn
-  small-totals row q r h l =
-      let s =
-      sum-bound (caseIn format [] [] [] e .events .count)
-      (λ j. cond (timeBid (caseIn format [] [] [] e) i j) (increase (getD levels j 0) (caseIn format [] [] [] e .a j h)) 0) 4294967295
-      (λ j m. cond-le (timeBid (caseIn format [] [] [] e) i j) _ _ (increase-le (getD levels j 0) (caseIn format [] [] [] e .a j h))) in
-      rw (r .each h l) (cond-le (leb 4 (caseIn format [] [] [] e .events .component i) && leb (caseIn format [] [] [] e .events .component i) 6) _ _ (omega arith))
-
 -- ---- carried from event to event
 
 module _ (c : Case) (levels row : List ℕ) (i : ℕ) where

@@ -10,7 +10,7 @@ use Rattle.tariff.specs.StageSums.{highestSum}
 use Rattle.casefile.specs.Layout.{mostHours}
 use Rattle.casefile.specs.Case.{Units, Events}
 use Rattle.casefile.specs.StageRead.{cellOf}
-use Rattle.conduct.specs.declared.hour_tests.Bid.{Bid}
+use Rattle.hour_masks.specs.declared.bid_hours.Bid.{Bid}
 use Rattle.conduct.specs.declared.hour_tests.ConductTest.{ConductTest}
 use Rattle.conduct.specs.declared.hour_tests.ConductTest.the-variants as test
 
@@ -46,8 +46,12 @@ failsIn (test.Bid bid) a sum tight =
     bidTest (bid .component) (bid .reference) a (bid .market) tight (bid .«average_price») (bid .«constrained_hours») sum
 failsIn test.NoTest a sum tight = false
 
+-- a of hour h
+abbrev pub amountOf : (cells : List ℕ) (h : ℕ) → ℕ
+amountOf cells h = cellOf cells h .a
+
 unfoldable pub failsAt : ConductTest → (tight : ℕ) → (cells sums : List ℕ) → (h : ℕ) → Bool
-failsAt t tight cells sums h = failsIn t (cellOf cells h .a) (getD sums h 0) (bitOf tight h)
+failsAt t tight cells sums h = failsIn t (amountOf cells h) (getD sums h 0) (bitOf tight h)
 
 -- a row of sums, none of them above the highest
 abbrev pub SmallRow : (row : List ℕ) → Type 0

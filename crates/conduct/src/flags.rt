@@ -9,7 +9,6 @@ ghost use Rattle.casefile.specs.Lookup.{unitOf, groupOf, bidLevel};
 ghost use Rattle.limits.specs.StageChecked.{AcceptedFile};
 ghost use Rattle.party_runs.specs.StageParties.{RunsTogether, RunEnd, leaderOf};
 ghost use Rattle.conduct.specs.Flags.{flagMask};
-ghost use Rattle.conduct.specs.StageMasks.{SmallRow};
 ghost use Rattle.conduct.specs.StageFlags.{flagMaskIn, maskIn, memberMask, Led, EndCarried, bidMask, LeaderFlagged, PartyFlagged};
 ghost use Rattle.conduct.specs.StageTime.{BidsInOrder};
 use crate::hour_tests::failing_hours;
@@ -40,7 +39,6 @@ fn event_mask(
     i: usize,
 ) -> u32
     requires { ⌜ (i < eventsIn format (now events) .count) × (place < unitsIn format (now units) .count) ⌝ }
-    requires { ⌜ SmallRow (now sums) ⌝ }
     ensures { λ r. ⌜ r ≡ maskIn format (now (units .entry)) (now (events .entry)) place level g (now (sums .entry)) i ⌝ }
 {
     let test = test_of(format, units, events, place, level, g, i);
@@ -60,7 +58,6 @@ fn member_mask(
     j: usize,
 ) -> u32
     requires { ⌜ (j < eventsIn format (now events) .count) × (place < unitsIn format (now units) .count) ⌝ }
-    requires { ⌜ SmallRow (now sums) ⌝ }
     ensures { λ r. ⌜ r ≡ memberMask format (now (units .entry)) (now (events .entry)) place first g (now (sums .entry)) j ⌝ }
 {
     let event = event_at(format, events, j);
@@ -113,7 +110,6 @@ fn bid_mask(
     i: usize,
 ) -> u32
     requires { ⌜ (i < eventsIn format (now events) .count) × (place < unitsIn format (now units) .count) ⌝ }
-    requires { ⌜ SmallRow (now totals) ⌝ }
     ensures { λ r. ⌜ r ≡ bidMask format (now (units .entry)) (now (events .entry)) place level (now (totals .entry)) i ⌝ }
 {
     let event = event_at(format, events, i);

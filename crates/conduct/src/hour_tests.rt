@@ -1,36 +1,28 @@
-// The hours of an event that fail its conduct test: one loop for every kind.
+// The hours of an event that fail its conduct test, by its kind.
 ghost use mathlib.Core.Path.{_≡_};
 ghost use Prim.Native.Nat.{_*_, _≤_, _<_};
 ghost use lib.ListN.{length};
 ghost use Rattle.binary.specs.Bounded.{maskTo};
-ghost use Rattle.tariff.specs.StageSums.{highestSum};
+ghost use Rattle.binary.specs.Lists.{listTo};
 ghost use Rattle.casefile.specs.Layout.{cellWidth, mostHours};
 ghost use Rattle.casefile.specs.Decode.{unitsIn, eventsIn};
-ghost use Rattle.conduct.specs.StageMasks.{bidOf, testOf, tightHours, failsIn, failsAt, SmallRow};
-use binary::masks::bit_of;
+ghost use Rattle.conduct.specs.StageMasks.{bidOf, testOf, tightHours, amountOf, failsAt};
 use binary::numbers::choose_u32;
 use casefile::cells::cell_at;
 use casefile::events::event_at;
 use casefile::layout;
 use casefile::layout::Format;
 use casefile::units::unit_at;
-use tariff::conduct_tests::bid_test;
-use tariff::conduct_tests::dispatch_test;
-use tariff::conduct_tests::withheld_test;
+use hour_masks::bid_hours::Bid;
+use hour_masks::bid_hours::bid_hours;
+use hour_masks::columns::sums_over;
+use hour_masks::megawatt_hours::dispatch_hours;
+use hour_masks::megawatt_hours::withheld_hours;
 
 // What the test of a withheld event reads beside its hours.
 pub struct Withheld {
     pub capability: u32,
     pub group_capability: u64,
-}
-
-// What the test of a bid reads beside its hours.
-pub struct Bid {
-    pub component: u8,
-    pub reference: u32,
-    pub market: u8,
-    pub average_price: u32,
-    pub constrained_hours: u16,
 }
 
 // A conduct test with what it reads beside the hours; Dispatch holds the unit's response rate.
@@ -42,32 +34,23 @@ pub enum ConductTest {
     NoTest,
 }
 
-// Whether an hour fails; sum is S for kinds 1 and 2, the events that have the hour for kind 3, and the time total for kind 4.
-fn fails(test: ConductTest, a: u32, sum: u64, tight: bool) -> bool
-    requires { ⌜ sum ≤ highestSum ⌝ }
-    ensures { λ r. ⌜ r ≡ failsIn test a sum tight ⌝ }
+// a of every hour, side by side.
+fn amounts_of(cells: &[u8]) -> [u32; layout::HOURS]
+    requires { ⌜ cellWidth * mostHours ≤ length (now cells) ⌝ }
+    ensures { λ r. ⌜ r ≡ listTo mostHours (amountOf (now (cells .entry))) ⌝ }
 {
-    match test {
-        ConductTest::Withheld(w) => {
-            let capability = w.capability;
-            let g = w.group_capability;
-            withheld_test(a, capability, sum, g, tight)
-        }
-        ConductTest::Dispatch(rate) => dispatch_test(a, rate, sum, tight),
-        ConductTest::Fuel => 0 < sum,
-        ConductTest::Bid(bid) => {
-            let component = bid.component;
-            let reference = bid.reference;
-            let market = bid.market;
-            let price = bid.average_price;
-            let hours = bid.constrained_hours;
-            bid_test(component, reference, a, market, tight, price, hours, sum)
-        }
-        ConductTest::NoTest => false,
+    let mut column = [0u32; layout::HOURS];
+    let mut h = 0;
+    while h < layout::HOURS {
+        let cell = cell_at(cells, h);
+        column[h] = cell.a;
+        h += 1;
     }
+    column
 }
 
-// The hours that fail; tight are the tight hours, and sums those that the test reads.
+// The hours that fail; tight are the tight hours. Of sums the test reads S for kinds 1 and 2, the events that have the hour for kind 3, and the
+// time totals for kind 4.
 pub fn failing_hours(
     test: ConductTest,
     tight: u32,
@@ -75,21 +58,26 @@ pub fn failing_hours(
     sums: &[u64; layout::HOURS],
 ) -> u32
     requires { ⌜ cellWidth * mostHours ≤ length (now cells) ⌝ }
-    requires { ⌜ SmallRow (now sums) ⌝ }
     ensures { λ r. ⌜ r ≡ maskTo mostHours (failsAt test tight (now (cells .entry)) (now (sums .entry))) ⌝ }
 {
-    let mut mask: u32 = 0;
-    let mut weight: u32 = 1;
-    let mut h = 0;
-    while h < layout::HOURS {
-        let cell = cell_at(cells, h);
-        let a = cell.a;
-        let failed = fails(test, a, sums[h], bit_of(tight, h));
-        mask += choose_u32(failed, weight, 0);
-        weight *= 2;
-        h += 1;
+    match test {
+        ConductTest::Withheld(w) => {
+            let capability = w.capability;
+            let g = w.group_capability;
+            let column = amounts_of(cells);
+            withheld_hours(&column, sums, tight, capability, g)
+        }
+        ConductTest::Dispatch(rate) => {
+            let column = amounts_of(cells);
+            dispatch_hours(&column, sums, tight, rate)
+        }
+        ConductTest::Fuel => sums_over(sums, 0),
+        ConductTest::Bid(bid) => {
+            let column = amounts_of(cells);
+            bid_hours(&column, sums, tight, bid)
+        }
+        ConductTest::NoTest => 0,
     }
-    mask
 }
 
 // The tight hours of event i: P where its unit's area is 1.

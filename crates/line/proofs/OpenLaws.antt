@@ -50,7 +50,7 @@ unfolding clauseAsked
 clause-hours market tight H e = leb-true 1 H (and-r (eqb market 1 && tight) (leb 1 H) e)
 
 -- a number above one of two is above the lower
-above-lower : (l k A : ℕ) → (ltb l A || ltb k A) ≡ ltb (min l k) A
+pub above-lower : (l k A : ℕ) → (ltb l A || ltb k A) ≡ ltb (min l k) A
 above-lower l k A = go (ltb l A) refl
   where
     go : (b : Bool) → ltb l A ≡ b → (b || ltb k A) ≡ ltb (min l k) A

@@ -7,7 +7,7 @@ use Rattle.party_runs.proofs.PartyLaws.{run-end-next}
 use Rattle.party_runs.proofs.StageLaws.{place-in}
 use Rattle.conduct.specs.StageTime.{totalBefore}
 use Rattle.conduct.specs.StageFlags.{HasRow, EndCarried, bidMask, Flagged}
-use Rattle.conduct.proofs.TimeLaws.{small-totals, totals-first, totals-next}
+use Rattle.conduct.proofs.TimeLaws.{totals-first, totals-next}
 use Rattle.conduct.proofs.FlagLaws.{flags-none, flags-turn, bid-flags, flags-all}
 use Rattle.conduct.proofs.flags.flag_masks.Statement.{statement}
 use Rattle.conduct.proofs.flags.flag_masks.Tie as tie
@@ -43,7 +43,7 @@ flag-masks-spec =
     let s = c .before .before .before .before .before .before .before .before .before .before in
     let f = s .pre .0 in
     let l = inside (c .before .before .before .before .before) in
-    ((l, place-in _ _ [] [] _ (s .args .places .now) _ l (f .listed) (f .placed)), small-totals _ _ _ _ _ (f .few) (c .before .before .before .before .bid-totals .ensures)))
+    (l, place-in _ _ [] [] _ (s .args .places .now) _ l (f .listed) (f .placed)))
     (λ c κs. (c .before .before .before .before .before .before .before .before .before .before .before .before .pre .0, (inside (c .before .before .before .before .before .before .before), c .before .before .before .before .before .carried-end .ensures)))
     (λ c. omega arith)
     (λ c. omega arith)

@@ -63,7 +63,7 @@ party-flags-spec =
     let s = c .before .before .before .before .before .before in
     let f = s .pre .0 in
     let l = s .pre .1 .0 .0 in
-    ((l, place-in _ _ [] [] _ (s .args .places .now) _ l (f .listed) (f .placed)), c .before .before .before .party-sums .ensures .1))
+    (l, place-in _ _ [] [] _ (s .args .places .now) _ l (f .listed) (f .placed)))
     (λ c. let few = c .before .before .before .before .before .before .before .before .pre .0 .few in omega arith)
     (λ c. let few = c .before .before .before .before .before .before .before .before .pre .0 .few in search needs)
     (λ c. let few = c .before .before .before .before .before .before .before .before .pre .0 .few in omega arith)
@@ -83,7 +83,7 @@ party-flags-spec =
     let f = s .pre .0 in
     let r = s .pre .1 .1 in
     let l : c .before .before .before .before .before .loop .j < eventsIn (s .args .format) (s .args .events .now) .count = omega arith in
-    ((l, place-in _ _ [] [] _ (s .args .places .now) _ l (f .listed) (f .placed)), c .before .before .before .before .before .before .before .before .before .before .before .party-sums .ensures .1))
+    (l, place-in _ _ [] [] _ (s .args .places .now) _ l (f .listed) (f .placed)))
     (λ c. let few = c .before .before .before .before .before .before .before .before .before .before .before .before .before .before .before .pre .0 .few in let r = c .before .before .before .before .before .before .before .before .before .before .before .before .before .before .before .pre .1 .1 in omega arith)
     (λ c. let few = c .before .before .before .before .before .before .before .before .before .before .before .before .before .before .before .pre .0 .few in let r = c .before .before .before .before .before .before .before .before .before .before .before .before .before .before .before .pre .1 .1 in search needs)
     (λ c. let few = c .before .before .before .before .before .before .before .before .before .before .before .before .pre .0 .few in let r = c .before .before .before .before .before .before .before .before .before .before .before .before .pre .1 .1 in omega arith)

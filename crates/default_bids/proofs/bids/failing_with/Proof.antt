@@ -1,7 +1,4 @@
-use Prim.Native.Nat.{zero-le}
 use borrow.Author.Needs.{needs}
-use Rattle.casefile.specs.Layout.{mostHours}
-use Rattle.conduct.proofs.SumLaws.{zeros-at}
 use Rattle.default_bids.proofs.BidLaws.{tested-with}
 use Rattle.default_bids.proofs.bids.failing_with.Statement.{statement}
 use Rattle.default_bids.proofs.bids.failing_with.Tie as tie
@@ -13,7 +10,7 @@ failing-with-spec =
     (λ c κs. search needs)
     (λ c κs. search needs)
     (λ c κs. search needs)
-    (λ c κs. (search needs, λ h l. rw (zeros-at mostHours h) zero-le))
+    (λ c κs. search needs)
     (λ c.
     let t = c .before .before .before in
     let a = t .before .before .before .before .args in

@@ -1,0 +1,2 @@
+pub mod StageColumns
+pub mod StageHours
