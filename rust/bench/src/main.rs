@@ -1,5 +1,5 @@
-//! Times of the proved check and settlement, beside a plain copy of the same bytes and beside the second
-//! implementation: one process, the best of many rounds, seeded. Single cases are timed again and again;
+//! Times of the proved check and settlement, beside a plain copy of the same bytes, beside the tuned settlement and
+//! beside the second implementation: one process, the best of many rounds, seeded. Single cases are timed again and again;
 //! forty generated ones also in turn, since the processor's branch predictor learns a case that comes
 //! again at once. Cases of version 2 are timed beside the same case in version 1, its units numbered through.
 //!
@@ -11,7 +11,6 @@
 //! microseconds and with tabs between them, and of version 2 also those of the same case in version 1:
 //! so scripts/compare times two archives by turns.
 
-mod shapes;
 mod times;
 
 use std::env;
@@ -19,6 +18,7 @@ use std::io;
 use std::slice;
 
 use attachment_h::check;
+use bench::shapes;
 use cases::growth::{CASES, SEED, STEPS, full_cases_in, with_events};
 use cases::{Case, Generated, Input, Version};
 use times::{Calls, Times, assert_alike, proved};
@@ -54,7 +54,7 @@ fn print_tables(version: Version, rounds: usize) {
     let full = full_cases_in(version);
     let name = version.number();
     println!(
-        "version {name}, seed {SEED}, best of {rounds}, in microseconds; second is the second implementation"
+        "version {name}, seed {SEED}, best of {rounds}, in microseconds; tuned is the settlement in plain loops, second the second implementation"
     );
     Times::print_head();
     for (name, shape) in shapes::all(version, &full) {
@@ -76,11 +76,13 @@ fn print_tables(version: Version, rounds: usize) {
         times.print(&format!("in turn, {events}"));
     }
     println!(
-        "times as long from {} to {} events: check {:.1}, settle {:.1}; second check {:.1}, second settle {:.1}",
+        "times as long from {} to {} events: check {:.1}, settle {:.1}; tuned check {:.1}, tuned settle {:.1}; second check {:.1}, second settle {:.1}",
         STEPS[0],
         STEPS[STEPS.len() - 1],
         most.proved.check / fewest.proved.check,
         most.proved.settle / fewest.proved.settle,
+        most.tuned.check / fewest.tuned.check,
+        most.tuned.settle / fewest.tuned.settle,
         most.second.check / fewest.second.check,
         most.second.settle / fewest.second.settle,
     );

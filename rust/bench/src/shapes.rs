@@ -11,7 +11,7 @@ const ALONE: usize = 5;
 /// The day of a shape's first events, 26 November 2021: its last ones are in the same capability period.
 const FIRST_DAY: u32 = 8_000;
 
-/// Every single case of a version with its name, the generated ones from `full`.
+/// Every single case of a version with its name, the generated ones from `full`, the first of its seed.
 pub fn all(version: Version, full: &[Generated]) -> Vec<(String, Generated)> {
     let mut shapes: Vec<_> = full[..ALONE]
         .iter()
