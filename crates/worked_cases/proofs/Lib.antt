@@ -1,4 +1,2 @@
-pub mod Refusals
 pub mod MixedSettlements
 pub mod Settlements
-pub mod Multipliers

@@ -1,1 +1,1 @@
-// Cases refused and settled by computation: proofs alone.
+// Cases settled by computation: proofs alone.

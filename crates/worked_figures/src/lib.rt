@@ -1,0 +1,1 @@
+// Hours worked, and multipliers, by computation: proofs alone.

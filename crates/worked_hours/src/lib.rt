@@ -1,1 +1,0 @@
-// Hours worked by computation: proofs alone.

@@ -1,0 +1,1 @@
+// Cases refused by computation: proofs alone.
