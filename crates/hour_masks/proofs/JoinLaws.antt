@@ -1,6 +1,6 @@
 -- Masks joined, bit by bit.
 use Prim.Native.Nat.{ℕ, zero, suc, _/_, _%_, _^_, _<_}
-use mathlib.Core.Bool.{Bool, true, false, _&&_, _||_}
+use mathlib.Core.Bool.{Bool, false, _&&_, _||_}
 use mathlib.Core.Path.{_≡_, refl, sym, ap, ap₂, _∙_}
 use native.Mathlib.Nat.{mod-lt, lt-of-le-of-lt}
 use native.Mathlib.Omega.{arith}

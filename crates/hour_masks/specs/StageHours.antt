@@ -3,7 +3,6 @@ use Prim.Native.Nat.{ℕ, _^_, min}
 use mathlib.Core.Bool.{Bool, _||_}
 use mathlib.Core.List.{List}
 use lib.ListN.{getD}
-use lib.Dec.{ltb}
 use Rattle.binary.specs.Bounded.{bitOf}
 use Rattle.tariff.specs.ConductTests.{unitLimit, groupLimit, withheldTest, dispatchTest, bidTest}
 use Rattle.line.specs.OpenLine.{overSum, openLine}

@@ -1,6 +1,5 @@
 // The hours of a bid that fail: past its line, or by the sum of the times.
 ghost use mathlib.Core.Path.{_≡_};
-ghost use Prim.Native.Nat.{min};
 ghost use Rattle.binary.specs.Bounded.{maskTo};
 ghost use Rattle.casefile.specs.Layout.{mostHours};
 ghost use Rattle.hour_masks.specs.StageHours.{capped, lineIn, sumHour, bidHour};

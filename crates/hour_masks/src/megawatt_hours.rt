@@ -1,11 +1,9 @@
 // The hours of withheld and of dispatch events that fail: over the unit's line, or over the line of the group's sum.
 ghost use mathlib.Core.Path.{_≡_};
-ghost use mathlib.Core.Bool.{Bool, _||_};
-ghost use Prim.Native.Nat.{ℕ, min};
+ghost use Prim.Native.Nat.{min};
 ghost use Rattle.binary.specs.Bounded.{maskTo};
-ghost use Rattle.tariff.specs.ConductTests.{unitLimit, groupLimit};
+ghost use Rattle.tariff.specs.ConductTests.{unitLimit};
 ghost use Rattle.casefile.specs.Layout.{mostHours};
-ghost use Rattle.hour_masks.specs.StageColumns.{over};
 ghost use Rattle.hour_masks.specs.StageHours.{eitherOver, overShares, withheldHour, dispatchHour};
 use crate::columns::hours_over;
 use crate::columns::sums_over;
