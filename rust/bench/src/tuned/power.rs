@@ -1,9 +1,9 @@
 //! Capacity withheld and dispatch not followed: the party's power hour by hour, the flags, and the penalties.
 
 use super::columns::{Hours, add, either_above, sum, value};
+use super::instances::{Instances, multiplier};
 use super::parties::List;
 use super::row::{ROW_BYTES, Row};
-use super::standing::{Standings, multiplier};
 use super::{Case, Scratch};
 
 /// The lines of one unit and of its party, and what they come down to in a tight hour.
@@ -29,7 +29,7 @@ pub fn settle_withheld(case: &Case, scratch: &mut Scratch, rows: &mut [[u8; ROW_
     let sums = scratch.sums(case.parties.count(List::Withheld));
     let amounts = case.columns(list, scratch.columns);
     add_up(case, list, amounts, sums);
-    let mut standings = Standings::new(case, list.len());
+    let mut instances = Instances::new(case, list.len());
     let mut penalties = 0;
     for (&place, a) in list.iter().zip(amounts) {
         let event = case.events.event(place);
@@ -46,7 +46,7 @@ pub fn settle_withheld(case: &Case, scratch: &mut Scratch, rows: &mut [[u8; ROW_
             ..Row::default()
         };
         if (event.impact() == 1) & (flags != 0) {
-            (row.n3, row.n2) = standings.count(unit.party, event.market(), event.period());
+            (row.n3, row.n2) = instances.count(unit.party, event.market(), event.period());
             row.multiplier = multiplier(row.n3, row.n2);
             // In twentieths of a cent, to the nearest cent.
             row.penalty = (row.multiplier * value(a, &event.b(), flags) + 10) / 20;

@@ -8,15 +8,15 @@ use super::sections::MOST_UNITS;
 const NEVER: u16 = 0xFF00;
 
 /// The instances so far.
-pub struct Standings {
+pub struct Instances {
     /// Party, market and period of each, those of the past too.
     keys: Vec<u16>,
-    standings: [Standing; 2 * MOST_UNITS],
+    counts: [Counts; 2 * MOST_UNITS],
 }
 
 /// Instances of a party and a market as they are counted in a period.
 #[derive(Clone, Copy)]
-struct Standing {
+struct Counts {
     /// One more than the period; 0 where none was counted yet.
     counted: u16,
     in_period: u16,
@@ -24,8 +24,8 @@ struct Standing {
     two_back: u16,
 }
 
-impl Standing {
-    const NONE: Standing = Standing {
+impl Counts {
+    const NONE: Counts = Counts {
         counted: 0,
         in_period: 0,
         one_back: 0,
@@ -40,9 +40,9 @@ fn key(party: u32, market: u8, period: u32) -> u16 {
     (party as u16) << 9 | u16::from(market) << 8 | period as u16
 }
 
-impl Standings {
+impl Instances {
     /// Those of the past, with room for so many more.
-    pub fn new(case: &Case, more: usize) -> Standings {
+    pub fn new(case: &Case, more: usize) -> Instances {
         let entries = case.past.entries();
         let mut keys = Vec::with_capacity(entries.len() + more);
         keys.extend(
@@ -51,30 +51,30 @@ impl Standings {
                 _ => NEVER,
             }),
         );
-        Standings {
+        Instances {
             keys,
-            standings: [Standing::NONE; 2 * MOST_UNITS],
+            counts: [Counts::NONE; 2 * MOST_UNITS],
         }
     }
 
     /// Counts one more instance: its N3 and N2, with itself.
     pub fn count(&mut self, party: u32, market: u8, period: u32) -> (u64, u64) {
         let key = key(party, market, period);
-        let standing = &mut self.standings[usize::from(key >> 8) % (2 * MOST_UNITS)];
+        let counts = &mut self.counts[usize::from(key >> 8) % (2 * MOST_UNITS)];
         let counted = period as u16 + 1;
-        if standing.counted != counted {
+        if counts.counted != counted {
             // Periods rise with the events, so that this comes once for each.
-            *standing = Standing {
+            *counts = Counts {
                 counted,
                 in_period: count_of(&self.keys, key),
                 one_back: count_of(&self.keys, key.wrapping_sub(1)),
                 two_back: count_of(&self.keys, key.wrapping_sub(2)),
             };
         }
-        standing.in_period += 1;
+        counts.in_period += 1;
         self.keys.push(key);
-        let n2 = standing.in_period + standing.one_back;
-        (u64::from(n2 + standing.two_back), u64::from(n2))
+        let n2 = counts.in_period + counts.one_back;
+        (u64::from(n2 + counts.two_back), u64::from(n2))
     }
 }
 
