@@ -1,4 +1,6 @@
 // Numbers in bytes, signed words and masks: the vocabulary of the crates above.
+#![tactic(auto)]
+
 pub mod bytes;
 pub mod masks;
 pub mod numbers;

@@ -1,0 +1,12 @@
+use borrow.Author.Tests.{lt-ltb, le-ltb}
+use native.Mathlib.Omega.{arith}
+use Rattle.binary.specs.Word.{negative_part}
+use Rattle.binary.proofs.words.negative_part_u64.Goals as goal
+
+pub returns-then-w-lt9223372036854775808 : goal.returns-then-w-lt9223372036854775808
+unfolding negative_part
+returns-then-w-lt9223372036854775808 c = simp (lt-ltb _ _ c.if-w-lt9223372036854775808.true)
+
+pub returns-else-w-lt9223372036854775808 : goal.returns-else-w-lt9223372036854775808
+unfolding negative_part
+returns-else-w-lt9223372036854775808 c = simp (le-ltb _ _ c.if-w-lt9223372036854775808.false) (omega arith)
