@@ -1,14 +1,14 @@
 -- The dates, counted day by day, are those of the months; so six months back and the period are by dates too.
 use Prim.Native.Nat.{ℕ, zero, suc, ◌+◌, ◌-◌, ◌*◌, ◌/◌, ◌%◌, ◌≤◌, ◌<◌, min}
 use mathlib.Core.Bool.{Bool, true, false, cond}
-use mathlib.Core.Path.{◌≡◌, refl, sym, ap, ap₂, subst, ◌∙◌}
+use mathlib.Core.Path.{◌≡◌, refl, sym, ap, ap₂, ◌∙◌}
 use native.Mathlib.Omega.{arith}
 use lib.Dec.{ltb}
-use borrow.Author.Tests.{ltb-true, ltb-false, lt-ltb, le-ltb}
+use borrow.Author.Tests.{ltb-true, ltb-false}
 use Rattle.calendar.specs.Months.{month_length, month_start, month_from, month_of, day_of_month}
 use Rattle.calendar.specs.Periods.{day_within, window_start, period_of}
-use Rattle.calendar.specs.Dates.{Date, date, next_day, date_of, day_of, at_most_last, six_months_before, periods_begun, ByDates, EveryDayByDates}
-use Rattle.calendar.proofs.MonthLaws.{InMonth, length_least, start_first, start_more, month_is, day_of_month_is}
+use Rattle.calendar.specs.Dates.{Date, date, next_day, date_of, day_of, at_most_last, six_months_before, periods_begun, EveryDayByDates}
+use Rattle.calendar.proofs.MonthLaws.{InMonth, length_least, start_more, month_is, day_of_month_is}
 
 -- day x of month k, as a date
 abbrev date_in : (k x : ℕ) → Date

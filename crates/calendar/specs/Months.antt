@@ -1,5 +1,5 @@
 -- Months and days (docs/RULES.md, K17): months are counted from January 2000, days from 1 January 2000, both from 0.
-use Rattle.std.specs.Prelude.{ℕ, zero, suc, ◌+◌, ◌-◌, ◌/◌, ◌%◌, Bool, cond, not, ◌&&◌, ◌||◌, List, [], ◌∷◌, ltb, eqb, get_or}
+use Rattle.std.specs.Prelude.{ℕ, zero, suc, ◌+◌, ◌-◌, ◌/◌, ◌%◌, Bool, cond, not, ◌&&◌, ◌||◌, [], ◌∷◌, ltb, eqb, get_or}
 
 -- the calendar of this program is the hundred years from 2000 to 2099
 abbrev pub most_months : ℕ
