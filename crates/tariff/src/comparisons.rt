@@ -14,7 +14,7 @@ use binary::numbers::{product, smaller};
 use binary::words::positive_part;
 
 // A comparison; it counts where it is taken.
-#[derive(Drop)]
+#[derive(Clone, Copy)]
 pub struct Comparison {
     pub taken: bool,
     pub left: u64,

@@ -1,4 +1,6 @@
 // The rules on plain numbers.
+#![tactic(auto)]
+
 pub mod comparisons;
 pub mod conduct_tests;
 pub mod default_bid_rules;

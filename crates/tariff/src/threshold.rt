@@ -2,7 +2,7 @@
 ghost use Rattle.std.specs.Prelude.{◌≡◌};
 ghost use Rattle.tariff.specs.Threshold.{threshold_of};
 
-#[derive(Drop)]
+#[derive(Clone, Copy)]
 pub struct Threshold {
     pub percent: u32,
     pub step: u32,

@@ -1,0 +1,6 @@
+use Rattle.tariff.specs.DefaultBidRules.{lesser}
+use Rattle.tariff.proofs.default_bid_rules.lesser.Goals as goal
+
+pub returns : goal.returns
+unfolding lesser
+returns c = rw (c.choose_u32.ensures, c.at_most.ensures)

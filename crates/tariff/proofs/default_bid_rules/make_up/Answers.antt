@@ -1,0 +1,6 @@
+use Rattle.tariff.specs.DefaultBidRules.{make_up}
+use Rattle.tariff.proofs.default_bid_rules.make_up.Goals as goal
+
+pub returns : goal.returns
+unfolding make_up
+returns c = rw (c.choose_u64.ensures, c.cents.ensures)
