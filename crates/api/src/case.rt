@@ -15,7 +15,7 @@ use working::hour::working;
 
 // The refusal's number, or 0 and the row count and both totals in cents.
 #[repr(C)]
-#[derive(Drop)]
+#[derive(Clone, Copy)]
 pub struct Outcome {
     pub number: u8,
     pub rows: usize,

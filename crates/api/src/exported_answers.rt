@@ -7,7 +7,7 @@ use calls::answers::{Figure, TimeVerdict, Verdict};
 
 // The refusal's number, or 0 and the figure; a question's figure is 1 for yes.
 #[repr(C)]
-#[derive(Drop)]
+#[derive(Clone, Copy)]
 pub struct ExportedAnswer {
     pub number: u8,
     pub figure: u64,
@@ -15,7 +15,7 @@ pub struct ExportedAnswer {
 
 // The refusal's number, or 0 and which of the three times fail.
 #[repr(C)]
-#[derive(Drop)]
+#[derive(Clone, Copy)]
 pub struct ExportedTimes {
     pub number: u8,
     pub start_up: bool,

@@ -8,7 +8,8 @@ use lib.Dec.{ltb}
 use lib.IntN.{ℤ, pos, negsuc, neg_ℤ, sub_ℕ, ◌+ℤ◌, ◌-ℤ◌, ◌*ℤ◌, +ℤ_assoc, +ℤ_comm, neg_ℤ-+ℤ}
 use borrow.Author.Tests.{ltb-true, ltb-false, lt-ltb, le-ltb}
 use Rattle.binary.specs.Bounded.{sum_to}
-use Rattle.binary.specs.Integers.{signed, word, sum_ℤ_to, ◌≤ℤ◌}
+use Rattle.std.specs.Prelude.{◌≤ℤ◌}
+use Rattle.binary.specs.Integers.{signed, word, sum_ℤ_to}
 use Rattle.binary.specs.Word.{positive_part, negative_part}
 use Rattle.binary.proofs.WordLaws.{double}
 
@@ -30,7 +31,7 @@ pub at_least : (x y : ℕ) → pos 0 ≤ℤ sub_ℕ x y → y ≤ x
 at_least x y h = go (ltb x y) refl h
   where
     go : (b : Bool) → ltb x y ≡ b → pos 0 ≤ℤ cond b (negsuc (y - suc x)) (pos (x - y)) → y ≤ x
-    go true e h = absurd h
+    go true e h = absurd h.le
     go false e h = ltb-false x y e
 
 -- ---- sums and products of differences

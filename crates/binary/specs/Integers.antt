@@ -1,5 +1,5 @@
--- Signed words as integers, the library's ℤ, with their order and their sums below a bound.
-use Rattle.std.specs.Prelude.{ℕ, zero, suc, ◌-◌, ◌^◌, ◌≤◌, ℤ, pos, negsuc, ◌+ℤ◌}
+-- Signed words as integers, the library's ℤ, and their sums below a bound.
+use Rattle.std.specs.Prelude.{ℕ, zero, suc, ◌-◌, ◌^◌, ℤ, pos, negsuc, ◌+ℤ◌}
 use Rattle.std.proofs.Math.IntN.{sub_ℕ}
 use Rattle.binary.specs.Word.{positive_part, negative_part}
 
@@ -16,10 +16,3 @@ word bits (negsuc n) = 2 ^ bits - suc n
 unfoldable pub sum_ℤ_to : ℕ → (ℕ → ℤ) → ℤ
 sum_ℤ_to zero f = pos 0
 sum_ℤ_to (suc n) f = sum_ℤ_to n f +ℤ f n
-
-infix 4 ◌≤ℤ◌
-abbrev pub ◌≤ℤ◌ : ℤ → ℤ → Type 0
-pos m ≤ℤ pos n = m ≤ n
-pos m ≤ℤ negsuc n = ⊥
-negsuc m ≤ℤ pos n = Unit {0}
-negsuc m ≤ℤ negsuc n = n ≤ m

@@ -3,7 +3,7 @@ ghost use Rattle.std.specs.Prelude.{◌≡◌};
 ghost use Rattle.calls.specs.Answers.{verdict_of, figure_of, times_of, answer, time_answered, bit};
 
 // The answer to a question.
-#[derive(Drop)]
+#[derive(Clone, Copy)]
 pub enum Verdict {
     Refused(u8),
     No,
@@ -11,14 +11,14 @@ pub enum Verdict {
 }
 
 // The answer of a computation.
-#[derive(Drop)]
+#[derive(Clone, Copy)]
 pub enum Figure {
     Refused(u8),
     Value(u64),
 }
 
 // Which of start-up, minimum run and minimum down time fail.
-#[derive(Drop)]
+#[derive(Clone, Copy)]
 pub enum TimeVerdict {
     Refused(u8),
     Fails(bool, bool, bool),

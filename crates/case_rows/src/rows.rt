@@ -99,7 +99,7 @@ fn row_of(
     }
 }
 
-#[derive(Drop)]
+#[derive(Clone, Copy)]
 pub struct Totals {
     pub penalties: u64,
     pub make_ups: u64,

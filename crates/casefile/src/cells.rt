@@ -6,7 +6,7 @@ ghost use Rattle.casefile.specs.StageRead.{cell_of};
 use crate::layout;
 use binary::bytes::load_u32;
 
-#[derive(Drop)]
+#[derive(Clone, Copy)]
 pub struct Cell {
     pub a: u32,
     pub b: u32,

@@ -72,13 +72,13 @@ pub const SECOND_REFERENCE_WIDTH: usize = REFERENCE_WIDTH + NUMBER_WIDTH;
 pub const SECOND_EVENT_WIDTH: usize = EVENT_WIDTH + NUMBER_WIDTH;
 
 // What a file says of its own layout.
-#[derive(Drop)]
+#[derive(Clone, Copy)]
 pub struct Format {
     pub version: u16,
 }
 
 // The widths of the records, and where a unit's number stands in each, with its width.
-#[derive(Drop)]
+#[derive(Clone, Copy)]
 pub struct Widths {
     pub unit_width: usize,
     pub unit_number: usize,

@@ -21,7 +21,7 @@ pub fn correct_references<'a>(correction: &'a [u8], own: &'a [u8]) -> &'a [u8]
 }
 
 // A reference level: its unit, its component and the level.
-#[derive(Drop)]
+#[derive(Clone, Copy)]
 pub struct Reference {
     pub unit: u32,
     pub component: u8,

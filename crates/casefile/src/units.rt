@@ -8,7 +8,7 @@ use crate::layout::{Format, widths_of};
 use crate::records::{count_of, number_at, record_at};
 use binary::bytes::{load_u8, load_u16, load_u32};
 
-#[derive(Drop)]
+#[derive(Clone, Copy)]
 pub struct Unit {
     pub number: u32,
     pub group: u16,

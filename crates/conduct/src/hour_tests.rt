@@ -17,14 +17,14 @@ use hour_masks::columns::sums_over;
 use hour_masks::megawatt_hours::{dispatch_hours, withheld_hours};
 
 // What the test of a withheld event reads beside its hours.
-#[derive(Drop)]
+#[derive(Clone, Copy)]
 pub struct Withheld {
     pub capability: u32,
     pub group_capability: u64,
 }
 
 // A conduct test with what it reads beside the hours; Dispatch holds the unit's response rate.
-#[derive(Drop)]
+#[derive(Clone, Copy)]
 pub enum ConductTest {
     Withheld(Withheld),
     Dispatch(u32),

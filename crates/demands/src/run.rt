@@ -3,7 +3,7 @@ ghost use Rattle.demands.specs.Demands.{Run, Demand1, Demand2, Demand3};
 
 use settlement::settle::{Settlement, settle};
 
-#[derive(Drop)]
+#[derive(Clone, Copy)]
 pub struct Answers {
     pub before: Settlement,
     pub after: Settlement,

@@ -23,7 +23,7 @@ use limits::lookup::{Level, level_of, next_place, unit_place};
 use limits::refusal::unless;
 use tariff::ranges;
 
-#[derive(Drop)]
+#[derive(Clone, Copy)]
 pub enum EventRead {
     Event(Event),
     Unreadable,
@@ -192,7 +192,7 @@ fn reads_correct(component: u8) -> bool
 }
 
 // r and c of an event, each where it is read; found: whether all that is read is there.
-#[derive(Drop)]
+#[derive(Clone, Copy)]
 pub struct Levels {
     pub found: bool,
     pub level: u32,

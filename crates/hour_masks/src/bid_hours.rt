@@ -10,7 +10,7 @@ use line::open_line::open_line;
 use tariff::{conduct_tests, ranges};
 
 // What the test of a bid reads beside its hours.
-#[derive(Drop)]
+#[derive(Clone, Copy)]
 pub struct Bid {
     pub component: u8,
     pub reference: u32,

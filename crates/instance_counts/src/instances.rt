@@ -11,7 +11,7 @@ use casefile::past::{entry_at, entry_count};
 use tariff::sanction_rules::period_counts;
 
 // Over the own period and the two before, and over the own and the one before.
-#[derive(Drop)]
+#[derive(Clone, Copy)]
 pub struct Instances {
     pub n3: u16,
     pub n2: u16,

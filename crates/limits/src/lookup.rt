@@ -25,7 +25,7 @@ fn unit_from(format: Format, units: &[u8], number: u32) -> usize
 }
 
 // Whether a number is listed, and the place of its unit, or 0 where it is not.
-#[derive(Drop)]
+#[derive(Clone, Copy)]
 pub struct Place {
     pub listed: bool,
     pub at: usize,
@@ -92,7 +92,7 @@ fn reference_from(format: Format, references: &[u8], key: u64) -> usize
 }
 
 // Whether a unit and component have a reference, and then its level.
-#[derive(Drop)]
+#[derive(Clone, Copy)]
 pub struct Level {
     pub there: bool,
     pub level: u32,

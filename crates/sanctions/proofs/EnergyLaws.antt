@@ -5,7 +5,8 @@ use mathlib.Core.Path.{◌≡◌, refl, ◌∙◌, ap, ap₂, subst}
 use native.Mathlib.Omega.{arith}
 use lib.IntN.{ℤ, pos, sub_ℕ, ◌+ℤ◌, ◌*ℤ◌}
 use Rattle.binary.specs.Bounded.{sum_to}
-use Rattle.binary.specs.Integers.{signed, sum_ℤ_to, ◌≤ℤ◌}
+use Rattle.std.specs.Prelude.{◌≤ℤ◌}
+use Rattle.binary.specs.Integers.{signed, sum_ℤ_to}
 use Rattle.binary.specs.Word.{positive_part, negative_part}
 use Rattle.binary.proofs.IntegerLaws.{less_plus, less_times, less_where, less_sum, at_least}
 use Rattle.casefile.specs.Case.{Case}

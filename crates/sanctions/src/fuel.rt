@@ -23,14 +23,14 @@ use party_runs::parties::run_end;
 use tariff::sanction_rules::fuel_penalty;
 
 // E is gain less loss.
-#[derive(Drop)]
+#[derive(Clone, Copy)]
 pub struct Energy {
     pub gain: u64,
     pub loss: u64,
 }
 
 // The sums of a party-day: E is gain less loss, and the sum of R is rise less fall.
-#[derive(Drop)]
+#[derive(Clone, Copy)]
 pub struct PartyDay {
     pub gain: u64,
     pub loss: u64,

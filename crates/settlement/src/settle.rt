@@ -15,7 +15,7 @@ use casefile::header::{format_of, section};
 use casefile::layout;
 use conduct::flags::find_flags;
 
-#[derive(Drop)]
+#[derive(Clone, Copy)]
 pub enum Settlement {
     Refused(u8),
     Settled {

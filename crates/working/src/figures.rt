@@ -1,7 +1,7 @@
 // The figures of one hour of one event, and what its working says of them.
 
 // S, G, and how many events of the party-day have the hour in P; 0 where the kind has no such figure.
-#[derive(Drop)]
+#[derive(Clone, Copy)]
 pub struct Sums {
     pub s: u64,
     pub g: u64,
@@ -9,7 +9,7 @@ pub struct Sums {
 }
 
 // What the test of the hour reads; reference and sums are 0 where the kind has none.
-#[derive(Drop)]
+#[derive(Clone, Copy)]
 pub struct Figures {
     pub kind: u8,
     pub component: u8,
@@ -28,7 +28,7 @@ pub struct Figures {
 }
 
 // N3 and N2 of a row.
-#[derive(Drop)]
+#[derive(Clone, Copy)]
 pub struct Counts {
     pub n3: u16,
     pub n2: u16,

@@ -1,8 +1,7 @@
 -- What demand 3 compares, and its premise (docs/RULES.md, W).
-use Rattle.std.specs.Prelude.{ℕ, ◌+◌, ◌*◌, ◌≤◌, ◌<◌, true, ◌≡◌, pos}
+use Rattle.std.specs.Prelude.{ℕ, ◌+◌, ◌*◌, ◌≤◌, ◌<◌, true, ◌≡◌, pos, ◌≤ℤ◌}
 use Rattle.binary.specs.Bounded.{bit_of}
 use Rattle.binary.specs.Bytes.{byte_at, u32_at, u64_at}
-use Rattle.binary.specs.Integers.{◌≤ℤ◌}
 use Rattle.casefile.specs.declared.layout.Format.{Format}
 use Rattle.casefile.specs.Layout.{row_width}
 use Rattle.casefile.specs.Case.{Case}

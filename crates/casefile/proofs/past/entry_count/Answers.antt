@@ -1,0 +1,7 @@
+use borrow.Author.Rules.{rules}
+use Rattle.casefile.specs.Decode.{past_in}
+use Rattle.casefile.proofs.past.entry_count.Goals as goal
+
+pub returns : goal.returns
+unfolding past_in
+returns c = rw c.count_of.ensures

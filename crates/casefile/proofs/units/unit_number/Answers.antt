@@ -1,0 +1,7 @@
+use borrow.Author.Rules.{rules}
+use Rattle.casefile.specs.StageRead.{unit_at}
+use Rattle.casefile.proofs.units.unit_number.Goals as goal
+
+pub returns : goal.returns
+unfolding unit_at
+returns c = rw c.unit_at-unit.ensures
