@@ -1,5 +1,4 @@
 use Prim.Native.Nat.{◌+◌, ◌*◌}
-use borrow.Author.Rules.{rules}
 use native.Mathlib.Omega.{arith}
 use Rattle.binary.proofs.ByteLaws.{value_take}
 use Rattle.casefile.specs.Layout.{cell_width, most_hours}

@@ -1,4 +1,3 @@
-use borrow.Author.Rules.{rules}
 use Rattle.casefile.specs.Decode.{events_in}
 use Rattle.casefile.proofs.events.event_count.Goals as goal
 

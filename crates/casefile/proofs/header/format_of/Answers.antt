@@ -1,4 +1,3 @@
-use borrow.Author.Rules.{rules}
 use Rattle.casefile.specs.Decode.{format_in}
 use Rattle.casefile.proofs.header.format_of.Goals as goal
 

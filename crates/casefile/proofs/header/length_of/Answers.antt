@@ -1,4 +1,3 @@
-use borrow.Author.Rules.{rules}
 use Rattle.casefile.specs.Decode.{length_of}
 use Rattle.casefile.proofs.header.length_of.Goals as goal
 

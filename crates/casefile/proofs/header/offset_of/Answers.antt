@@ -1,4 +1,3 @@
-use borrow.Author.Rules.{rules}
 use Rattle.casefile.specs.Decode.{offset_of}
 use Rattle.casefile.proofs.header.offset_of.Goals as goal
 

@@ -1,4 +1,3 @@
-use borrow.Author.Rules.{rules}
 use Rattle.casefile.specs.Decode.{past_in, violation_in}
 use Rattle.casefile.specs.StageRead.{entry_at}
 use Rattle.casefile.proofs.past.entry_at.Goals as goal

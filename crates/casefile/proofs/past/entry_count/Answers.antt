@@ -1,4 +1,3 @@
-use borrow.Author.Rules.{rules}
 use Rattle.casefile.specs.Decode.{past_in}
 use Rattle.casefile.proofs.past.entry_count.Goals as goal
 

@@ -1,4 +1,3 @@
-use borrow.Author.Rules.{rules}
 use Rattle.casefile.specs.Decode.{entry_spare_fine}
 use Rattle.casefile.proofs.past.entry_spare_fine.Goals as goal
 

@@ -33,5 +33,6 @@ slice_bounds-result-end c = let e = ends c in search rules
 pub returns : goal.returns
 unfolding record_at
 returns c =
-    let e = ends c.before in
+    let ends : c.args.width * c.args.i + c.args.width ≤ length c.args.records.now = record_end c.args.width (length c.args.records.now) c.args.i c.requires in
+    let e = ends in
     (rw add-sub_cancel_left, simp (add-sub_cancel_left, length-take, length-drop) (omega arith))

@@ -1,4 +1,3 @@
-use borrow.Author.Rules.{rules}
 use Rattle.casefile.specs.Decode.{references_in}
 use Rattle.casefile.proofs.references.reference_count.Goals as goal
 

@@ -1,4 +1,3 @@
-use borrow.Author.Rules.{rules}
 use native.Mathlib.Nat.{div-le_self}
 use Rattle.casefile.specs.Decode.{units_in}
 use Rattle.casefile.proofs.units.unit_count.Goals as goal

@@ -1,4 +1,3 @@
-use borrow.Author.Rules.{rules}
 use Rattle.casefile.specs.StageRead.{unit_at}
 use Rattle.casefile.proofs.units.unit_number.Goals as goal
 

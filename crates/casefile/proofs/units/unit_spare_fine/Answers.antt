@@ -1,4 +1,3 @@
-use borrow.Author.Rules.{rules}
 use Rattle.casefile.specs.Decode.{unit_spare_fine}
 use Rattle.casefile.proofs.units.unit_spare_fine.Goals as goal
 
