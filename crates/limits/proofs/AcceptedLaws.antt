@@ -37,64 +37,64 @@ own_found own correct e i h =
 
 module _ (f k : List ℕ) (n : ℕ) (h : refusal f k n ≡ 0) where
   pub header : HeaderFine f
-  header = (stages.header-fine f _ (sym (stages.in-stages f k n) ∙ h)).0
+  header = (stages.header_fine f _ (sym (stages.in_stages f k n) ∙ h)).0
 
   records_and_rest : RecordsFine (format_in f) (section_of f 0) (section_of f 1) k (section_of f 2) (section_of f 3)
       × (fields_refusal (format_in f) (section_of f 2) (section_of f 3) (found_refusal (format_in f) (section_of f 0) (section_of f 1) (correct_references k (section_of f 1)) (section_of f 3) n)
       ≡ 0)
   records_and_rest =
-      stages.records-fine (format_in f) (section_of f 0) (section_of f 1) k (section_of f 2) (section_of f 3) _ (stages.header-fine f _ (sym (stages.in-stages f k n) ∙ h)).1
+      stages.records_fine (format_in f) (section_of f 0) (section_of f 1) k (section_of f 2) (section_of f 3) _ (stages.header_fine f _ (sym (stages.in_stages f k n) ∙ h)).1
 
   pub records : RecordsFine (format_in f) (section_of f 0) (section_of f 1) k (section_of f 2) (section_of f 3)
   records = records_and_rest.0
 
   fields_and_found : FieldsFine (format_in f) (section_of f 2) (section_of f 3)
       × (found_refusal (format_in f) (section_of f 0) (section_of f 1) (correct_references k (section_of f 1)) (section_of f 3) n ≡ 0)
-  fields_and_found = stages.fields-fine (format_in f) (section_of f 2) (section_of f 3) _ records_and_rest.1
+  fields_and_found = stages.fields_fine_is (format_in f) (section_of f 2) (section_of f 3) _ records_and_rest.1
 
   pub fields : FieldsFine (format_in f) (section_of f 2) (section_of f 3)
   fields = fields_and_found.0
 
   pub found : FoundFine (format_in f) (section_of f 0) (section_of f 1) (correct_references k (section_of f 1)) (section_of f 3) n
-  found = stages.found-fine (format_in f) (section_of f 0) (section_of f 1) (correct_references k (section_of f 1)) (section_of f 3) n fields_and_found.1
+  found = stages.found_fine (format_in f) (section_of f 0) (section_of f 1) (correct_references k (section_of f 1)) (section_of f 3) n fields_and_found.1
 
   -- the file
 
   pub file_short : length f ≤ longest_file
-  file_short = stages.header-short f header
+  file_short = stages.header_short f header
 
   pub follows : FollowOn f
-  follows = stages.follow-on f header
+  follows = stages.follow_on f header
 
   pub has_section : (i : ℕ) → i < section_count → HasSection f i
-  has_section = stages.has-section f header
+  has_section = stages.has_section f header
 
   pub section_length : (i : ℕ) → i < section_count → length (section_of f i) ≡ length_of f i
-  section_length = section.section-length f header
+  section_length = section.section_length f header
 
   -- sizes
 
   pub units_count : (decode f).units.count ≤ most_units
   unfolding decode case_in
-  units_count = section.units-fit f header
+  units_count = section.units_fit f header
 
   pub past_count : (decode f).past.count ≤ most_past
   unfolding decode case_in
-  past_count = section.past-fit f header
+  past_count = section.past_fit f header
 
   pub events_count : (decode f).events.count ≤ most_events
   unfolding decode case_in
-  events_count = section.events-fit f header
+  events_count = section.events_fit f header
 
   -- events
 
   pub event_ranges : (i : ℕ) → i < (decode f).events.count → EventRange (decode f).events i
   unfolding decode case_in
-  event_ranges i l = section.event-ranges (format_in f) (section_of f 3) fields.events_fine_holds i l
+  event_ranges i l = section.event_ranges (format_in f) (section_of f 3) fields.events_fine_holds i l
 
   pub events_rise : Rising (event_key (decode f).events) (decode f).events.count
   unfolding decode case_in
-  events_rise i j l m = section.events-rise (events_in (format_in f) (section_of f 3)) fields.order_fine_holds i j l m
+  events_rise i j l m = section.events_rise (events_in (format_in f) (section_of f 3)) fields.order_fine_holds i j l m
 
   pub days_in_order : (i j : ℕ) → i < j → j < (decode f).events.count → (decode f).events.unit j < number_limit
       → (decode f).events.day i ≤ (decode f).events.day j
@@ -123,7 +123,7 @@ module _ (f k : List ℕ) (n : ℕ) (h : refusal f k n ≡ 0) where
 
   most_rows_holds : rows_fine (format_in f) (events_in (format_in f) (section_of f 3)) (most_rows f) ≡ true
   unfolding rows_fine
-  most_rows_holds = le-leb _ _ (mul-le-mul_left (row_width (format_in f)) (section.events-fit f header))
+  most_rows_holds = le-leb _ _ (mul-le-mul_left (row_width (format_in f)) (section.events_fit f header))
 
   -- it is accepted with no correction too, and with rows for every case
   pub alone : refusal f [] (most_rows f) ≡ 0

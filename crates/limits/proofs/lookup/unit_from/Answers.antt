@@ -1,0 +1,41 @@
+use Prim.Native.Nat.{ℕ, ◌+◌}
+use mathlib.Core.Path.{◌≡◌, sym, ap}
+use native.Mathlib.Nat.{le_refl, not-suc-le-zero}
+use native.Mathlib.Omega.{arith}
+use lib.Dec.{ltb}
+use Rattle.casefile.specs.Decode.{units_in}
+use Rattle.limits.specs.StageLookup.{Between}
+use Rattle.limits.proofs.SearchLaws.{count_turn}
+use Rattle.limits.proofs.lookup.unit_from.Goals as goal
+
+-- one more counted
+turn : (c : goal.After-choose_usize-at) →
+    let l = c.loop-k in
+    let s = c.args in
+    Between (units_in s.format s.units.now).number (l.k + 1) s.number (l.at + c.choose_usize-at.result) (l.at + c.choose_usize-at.result)
+turn c =
+    let k = c in
+    let l = k.loop-k in
+    let s = k in
+    rw c.choose_usize-at.ensures
+    (count_turn (units_in s.args.format s.args.units.now).number (units_in s.args.format s.args.units.now).count s.args.number l.k l.at s.requires
+    (omega arith) l.invariant.1 _ (ap (λ (x : ℕ). ltb x s.args.number) (sym k.unit_number.ensures)))
+
+pub loop-k-init : goal.loop-k-init
+loop-k-init c = (
+  omega arith,
+  record { order = le_refl _; end = le_refl _; before = λ j l. absurd (not-suc-le-zero l); after = λ j g l. absurd (not-suc-le-zero l) },
+)
+
+pub overflow_add-at : goal.overflow_add-at
+overflow_add-at c = omega (arith, (turn c).end)
+
+pub loop-k-preserved : goal.loop-k-preserved
+loop-k-preserved c = (omega arith, turn c)
+
+pub returns : goal.returns
+returns c =
+    let l = c.loop-k in
+    let s = c.args in
+    let e : l.k ≡ (units_in s.format s.units.now).count = omega arith in
+    rw e at l.invariant.1
