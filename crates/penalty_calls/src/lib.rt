@@ -1,2 +1,4 @@
 // The smaller public calls of multipliers, penalties and windows, each with its refusals.
+#![tactic(auto)]
+
 pub mod sanction_calls;
