@@ -1,6 +1,6 @@
 -- The line is in range and passes, and of the bids in range just those on its good side do.
 use Prim.Native.Nat.{ℕ, zero, suc, ◌+◌, ◌-◌, ◌^◌, ◌≤◌, ◌<◌, min}
-use mathlib.Core.Bool.{Bool, true, false, cond, not, ◌&&◌, ◌||◌, or_false, and-false}
+use mathlib.Core.Bool.{Bool, true, false, cond, not, ◌&&◌, ◌||◌, or-false, and-false}
 use mathlib.Core.Path.{◌≡◌, refl, sym, ap, subst, ◌∙◌}
 use native.Mathlib.Nat.{suc-ne-zero}
 use native.Mathlib.Omega.{arith}
@@ -118,7 +118,7 @@ module _ (r a market : ℕ) (tight : Bool) (p H : ℕ) where
   unfolding good_side line_of crosses over_sum
   upper k h e reference fits =
       bid_crosses r a market tight p H 0 k h
-      ∙ rw (e, above_line a (line_of k r market tight p H) (cut_le k r market tight p H), and-false, and-false, or_false)
+      ∙ rw (e, above_line a (line_of k r market tight p H) (cut_le k r market tight p H), and-false, and-false, or-false)
       (go (open_line k r market tight p H) (positive_part 32 a) (highest_bid k) (at_most a k h fits))
     where
       go : (o A n : ℕ) → A ≤ n → ltb o A ≡ ltb (min o n) A
@@ -218,8 +218,8 @@ module _ (r a market : ℕ) (tight : Bool) (p H total : ℕ) where
   both : (l k : ℕ) → k ≤ 8 → Both l k
   unfolding crosses is_time over_sum
   both l =
-      by_component (Both l) (simp or_false) (simp or_false) (simp or_false) (simp or_false)
-      (simp (or_false, and-false)) (simp (or_false, and-false)) (simp (or_false, and-false)) (simp or_false) (simp or_false)
+      by_component (Both l) (simp or-false) (simp or-false) (simp or-false) (simp or-false)
+      (simp (or-false, and-false)) (simp (or-false, and-false)) (simp (or-false, and-false)) (simp or-false) (simp or-false)
 
   pub beside_sum : (k : ℕ) → k ≤ 8 → bid_test k r a market tight p H total ≡ (bid_test k r a market tight p H 0 || over_sum k r a total)
   beside_sum k h =

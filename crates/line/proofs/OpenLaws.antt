@@ -1,6 +1,6 @@
 -- A bid, one below 0 taken as 0, fails its conduct test exactly where it crosses the line, for every word: no range is asked.
 use Prim.Native.Nat.{ℕ, zero, suc, ◌+◌, ◌-◌, ◌*◌, ◌/◌, ◌≤◌, ◌<◌, min, max}
-use mathlib.Core.Bool.{Bool, true, false, cond, ◌&&◌, ◌||◌, or_false}
+use mathlib.Core.Bool.{Bool, true, false, cond, ◌&&◌, ◌||◌, or-false}
 use mathlib.Core.Path.{◌≡◌, refl, sym, ap}
 use native.Mathlib.Nat.{div-lt_iff_lt-mul}
 use native.Mathlib.Omega.{arith}
@@ -66,7 +66,7 @@ energy_crosses t r a market tight p H f =
     go : (l A : ℕ) (b : Bool) → clause_asked market tight H ≡ b
         → (ltb l A || (b && ltb (year_share * p) (hour_tenths * ((A - r) * H)))) ≡ ltb (cond b (min l (constrained_line r p H)) l) A
     go l A true e = rw (clause_crosses r A p H (clause_hours market tight H e)) (above_lower l (constrained_line r p H) A)
-    go l A false e = or_false (ltb l A)
+    go l A false e = or-false (ltb l A)
 
 percent_crosses : (t : Threshold) (r a : ℕ) → percent_test t r (increase r a) ≡ ltb (percent_line t r) (positive_part 32 a)
 unfolding percent_test percent_line increase
@@ -126,12 +126,12 @@ module _ (r a market : ℕ) (tight : Bool) (p H total : ℕ) where
   unfolding bid_test crosses open_line is_time over_sum threshold_of
   bid_crosses =
       by_component Crosses
-      (simp or_false (energy_crosses (threshold_of 0) r a market tight p H (omega arith)))
-      (simp or_false (energy_crosses (threshold_of 1) r a market tight p H (omega arith)))
-      (simp or_false (lower_crosses (threshold_of 2) r a (omega arith)))
-      (simp or_false (percent_crosses (threshold_of 3) r a))
-      (simp or_false (time_crosses (threshold_of 4) r a total))
-      (simp or_false (time_crosses (threshold_of 5) r a total))
-      (simp or_false (time_crosses (threshold_of 6) r a total))
-      (simp or_false (minimum_crosses (threshold_of 7) r a))
+      (simp or-false (energy_crosses (threshold_of 0) r a market tight p H (omega arith)))
+      (simp or-false (energy_crosses (threshold_of 1) r a market tight p H (omega arith)))
+      (simp or-false (lower_crosses (threshold_of 2) r a (omega arith)))
+      (simp or-false (percent_crosses (threshold_of 3) r a))
+      (simp or-false (time_crosses (threshold_of 4) r a total))
+      (simp or-false (time_crosses (threshold_of 5) r a total))
+      (simp or-false (time_crosses (threshold_of 6) r a total))
+      (simp or-false (minimum_crosses (threshold_of 7) r a))
       (maximum_crosses (threshold_of 8) r a (omega arith))
