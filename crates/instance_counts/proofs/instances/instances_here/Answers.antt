@@ -7,8 +7,7 @@ use Rattle.casefile.specs.Case.{Events}
 use Rattle.casefile.specs.Decode.{events_in}
 use Rattle.casefile.proofs.RecordLaws.{first_widths_is, events_by_widths}
 use Rattle.instance_counts.specs.StageInstances.{with_impact, instance_at, instance_of, row_counts, instances_here}
-use Rattle.instance_counts.proofs.instances.instances_here.Statement.{statement}
-use Rattle.instance_counts.proofs.instances.instances_here.Tie as tie
+use Rattle.instance_counts.proofs.instances.instances_here.Goals as goal
 
 -- a format is its version
 abbrev of-version : ℕ → Format
@@ -34,18 +33,21 @@ module _ (a b : Format) (events groups masks : List ℕ) (group market period : 
         n2 = count_same i _ _ (λ j l. row_same 1 j) x;
       }
 
-pub instances-here-spec : {M : Type 1} → statement M
-instances-here-spec =
-    tie.close
-    (tie.spec
-    (λ c κs.
-    let s = c.before.before.before in
-    rw (ap of-version (sym c.if1.true)) s.requires)
-    (λ c. rw (c.counted-here.ensures, ap of-version (sym c.before.if1.true)))
-    (λ c κs.
-    let s = c.before.before.before in
-    rw (events_by_widths _ _ s.args.events.now (first_widths_is s.args.format c.if1.false)) s.requires)
-    (λ c.
-    let s = c.before.before.before.before.args in
-    let e = events_by_widths _ _ s.events.now (first_widths_is s.format c.before.if1.false) in
-    rw (c.counted-here2.ensures, here-same _ _ s.events.now s.groups.now s.masks.now s.group s.market s.period e s.i)))
+pub counted_here-requires : goal.counted_here-requires
+counted_here-requires c =
+    let s = c in
+    rw (ap of-version (sym c.if-format-eq-SECOND_VERSION.true)) s.requires
+
+pub returns-then-format-eq-SECOND_VERSION : goal.returns-then-format-eq-SECOND_VERSION
+returns-then-format-eq-SECOND_VERSION c = rw (c.counted_here.ensures, ap of-version (sym c.if-format-eq-SECOND_VERSION.true))
+
+pub counted_here-requires-2 : goal.counted_here-requires-2
+counted_here-requires-2 c =
+    let s = c in
+    rw (events_by_widths _ _ s.args.events.now (first_widths_is s.args.format c.if-format-eq-SECOND_VERSION.false)) s.requires
+
+pub returns : goal.returns
+returns c =
+    let s = c.args in
+    let e = events_by_widths _ _ s.events.now (first_widths_is s.format c.if-format-eq-SECOND_VERSION.false) in
+    rw (c.counted_here-2.ensures, here-same _ _ s.events.now s.groups.now s.masks.now s.group s.market s.period e s.i)

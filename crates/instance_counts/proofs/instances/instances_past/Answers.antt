@@ -1,0 +1,31 @@
+use mathlib.Core.Path.{◌≡◌}
+use native.Mathlib.Omega.{arith}
+use Rattle.binary.proofs.BoundedLaws.{count_none, count_more}
+use Rattle.casefile.specs.Decode.{past_in}
+use Rattle.instance_counts.specs.StageInstances.{entry_counts, instances_past}
+use Rattle.instance_counts.proofs.instances.instances_past.Goals as goal
+
+pub loop-j-init : goal.loop-j-init
+unfolding entry_counts instances_past
+loop-j-init c = (omega arith, omega arith, omega arith, count_none _, count_none _)
+
+pub loop-j-preserved : goal.loop-j-preserved
+unfolding entry_counts instances_past
+loop-j-preserved c =
+    let t = c in
+    let p = t in
+    let l = p.loop-j in (
+      omega arith,
+      omega arith,
+      omega arith,
+      rw (l.invariant.3, t.one_where-three.ensures.0, t.period_counts.ensures, p.entry_period-its_period.ensures, p.is_entry-same.ensures, count_more),
+      rw (l.invariant.4, c.one_where-two.ensures.0, c.period_counts-in-loop-j.ensures, p.entry_period-its_period.ensures, p.is_entry-same.ensures, count_more),
+    )
+
+pub returns : goal.returns
+unfolding entry_counts instances_past
+returns c =
+    let s = c.args in
+    let l = c.loop-j in
+    let e : l.j ≡ (past_in s.past.now).count = omega arith in
+    rw (l.invariant.3, l.invariant.4, e)
