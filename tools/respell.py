@@ -104,6 +104,11 @@ def prose(text, names):
 
 def antt(text, names, fields):
     out = []
+    modules = set(re.findall(r"(?m)^use [^\n]* as (\w+)$", text))
+    # what a file takes from the library has the library's name
+    for head, items in re.findall(r"(?m)^use ([^\s{]+)\.\{([^}]*)\}", text):
+        if not re.match(r"Rattle\.(?!std\b)", head):
+            names = {a: b for a, b in names.items() if a not in re.split(r"[,\s]+", items)}
     for line in text.split("\n"):
         code, dash, comment = line, "", ""
         m = re.search(r"(?:^|(?<=\s))--", line)
@@ -114,7 +119,8 @@ def antt(text, names, fields):
             word, dotted = m[0], code[m.start() - 1 : m.start()] == "."
             if word not in names:
                 return word
-            if dotted and not (word in fields or re.search(r"[A-Z]", word)):
+            of_module = dotted and re.search(r"(?<![\w.])(\w+)\.$", code[: m.start()])
+            if dotted and not (word in fields or re.search(r"[A-Z]", word) or (of_module and of_module[1] in modules)):
                 return word
             return names[word]
 

@@ -84,7 +84,7 @@ module _ (f k : List ℕ) (n : ℕ) (ok : refusal f k n ≡ 0) (i h : ℕ) (at :
   given_line : answer_at (decode f) i h ≡ given (line_at (decode f) i h)
   unfolding answer_at line_at decode case_in unit_of
   given_line =
-      let ranges = accepted.event-ranges f k n ok i at.event in
+      let ranges = accepted.event_ranges f k n ok i at.event in
       let unit = unit_in_range (format_in f) (section_of f 0) (events_in (format_in f) (section_of f 3)) i (accepted.records f k n ok).units_fine_holds
       (accepted.found f k n ok).events_listed_holds at.event in
       line_given _ _ _ _ _ _ ranges.component reference ranges.market unit.0 unit.1
@@ -94,7 +94,7 @@ module _ (f k : List ℕ) (n : ℕ) (ok : refusal f k n ≡ 0) (i h : ℕ) (at :
       || over_sum ((decode f).events.component i) (reference_of (decode f) i) ((decode f).a i h) (time_total (decode f) i h))
   unfolding flagged bid_flag line_at
   flagged_by_line =
-      let component = (accepted.event-ranges f k n ok i at.event).component in
+      let component = (accepted.event_ranges f k n ok i at.event).component in
       rw at.bid
       (beside_sum (reference_of (decode f) i) ((decode f).a i h) _ _ _ _ (time_total (decode f) i h) ((decode f).events.component i) component
       ∙ ap (λ (b : Bool). b || over_sum ((decode f).events.component i) (reference_of (decode f) i) ((decode f).a i h) (time_total (decode f) i h))

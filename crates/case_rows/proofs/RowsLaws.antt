@@ -28,7 +28,7 @@ use Rattle.case_rows.specs.StageRows.{FoundFlags, row_in, rows_in, totals_in}
 
 module _ (f : List ℕ) (acc : AcceptedFile f) where
   pub few : (decode f).events.count ≤ most_events
-  few = case.events-count f acc.correction acc.rows_length acc.accepted
+  few = case.events_count f acc.correction acc.rows_length acc.accepted
 
   -- the format and the sections, as they are handed on
   module _ (format : Format) (u p e : List ℕ) (ef : format ≡ format_in f) (eu : u ≡ section_of f 0) (ep : p ≡ section_of f 2) (ee : e ≡ section_of f 3) where

@@ -107,23 +107,23 @@ module _ (format : Format) (u r p e levels : List ℕ) (t : Holds (events_in for
 
 module _ (f : List ℕ) (a : AcceptedFile f) where
   pub has_section : (i : ℕ) → i < section_count → HasSection f i
-  has_section = case.has-section f a.correction a.rows_length a.accepted
+  has_section = case.has_section f a.correction a.rows_length a.accepted
 
   short : length (section_of f 0) ≤ longest_file
   short =
-      let t = case.file-short f a.correction a.rows_length a.accepted in
-      omega (arith, case.section-length f a.correction a.rows_length a.accepted 0 (omega arith), (has_section 0 (omega arith)).inside)
+      let t = case.file_short f a.correction a.rows_length a.accepted in
+      omega (arith, case.section_length f a.correction a.rows_length a.accepted 0 (omega arith), (has_section 0 (omega arith)).inside)
 
   pub header_long : header_width ≤ length f
   header_long = (has_section 0 (omega arith)).header
 
   few : (events_in (format_in f) (section_of f 3)).count ≤ most_events
   unfolding decode case_in
-  few = case.events-count f a.correction a.rows_length a.accepted
+  few = case.events_count f a.correction a.rows_length a.accepted
 
   pub past_few : (p : List ℕ) → p ≡ section_of f 2 → (past_in p).count ≤ most_past
   unfolding decode case_in
-  past_few p q = rw q (case.past-count f a.correction a.rows_length a.accepted)
+  past_few p q = rw q (case.past_count f a.correction a.rows_length a.accepted)
 
   -- the sections, as they are handed on
   module _ (format : Format) (u e : List ℕ) (ef : format ≡ format_in f) (eu : u ≡ section_of f 0) (ee : e ≡ section_of f 3) where

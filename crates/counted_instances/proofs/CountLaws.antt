@@ -141,7 +141,7 @@ counts_agree f k i out e = go (eqb (refusal f k (most_rows f)) 0) refl (ltb i (d
         → (bits_from (after a b s) 0 ≡ n3 (decode f) i - 1) × (bits_from (after a b s) list_bytes ≡ n2 (decode f) i - 1)
     go true q true t false z =
         let h = eqb-true _ 0 q in
-        counts_written (decode f) i out (omega (arith, ltb-true i (decode f).events.count t, case.events-count f k (most_rows f) h)) (case.past-count f k (most_rows f) h)
+        counts_written (decode f) i out (omega (arith, ltb-true i (decode f).events.count t, case.events_count f k (most_rows f) h)) (case.past_count f k (most_rows f) h)
     go true q true t true z = absurd (omega arith)
     go true q false t s z = absurd (omega arith)
     go false q b t s z = absurd (eqb-false (refusal f k (most_rows f)) 0 q z)

@@ -77,4 +77,4 @@ module _ (f : List ℕ) (acc : AcceptedFile f) where
 
   pub bare : (i : ℕ) → i < (decode f).events.count → (decode f).events.kind i ≡ 3 → (decode f).events.component i ≡ 0
   unfolding decode case_in
-  bare = sanctions.bare-component (format_in f) (section_of f 0) (section_of f 2) (section_of f 3) accepted
+  bare = sanctions.bare_component (format_in f) (section_of f 0) (section_of f 2) (section_of f 3) accepted

@@ -70,7 +70,7 @@ module _ (f k : List ℕ) (n : ℕ) (h : refusal f k n ≡ 0) where
 
   pub place_low : (j : ℕ) → j < c.events.count → unit_of c j < most_units
   unfolding unit_of
-  place_low j l = omega (arith, listed_place c.units (c.events.unit j) (listed j l), case.units-count f k n h)
+  place_low j l = omega (arith, listed_place c.units (c.events.unit j) (listed j l), case.units_count f k n h)
 
   -- a lower unit number stands at a lower place
   lower_place : (j m : ℕ) → j < c.events.count → m < c.events.count → c.events.unit j < c.events.unit m → unit_of c j < unit_of c m
@@ -106,7 +106,7 @@ module _ (f k : List ℕ) (n : ℕ) (h : refusal f k n ≡ 0) where
 
   module _ (i : ℕ) (kind : c.events.kind i ≡ 3) where
     bare : (j : ℕ) → j < c.events.count → together c i j ≡ true → c.events.component j ≡ 0
-    bare j l t = (case.event-ranges f k n h j l).plain (omega (arith, (together_fields c i j t).kind))
+    bare j l t = (case.event_ranges f k n h j l).plain (omega (arith, (together_fields c i j t).kind))
 
     rise : (j m : ℕ) → j < m → m < c.events.count → together c i j ≡ true → together c i m ≡ true → unit_of c j < unit_of c m
     rise j m l lm tj tm =
@@ -125,7 +125,7 @@ module _ (f k : List ℕ) (n : ℕ) (h : refusal f k n ≡ 0) where
     unfolding energy_part decode case_in events_in
     energy_most part q j l t =
         let kj : c.events.kind j ≡ 3 = (together_fields c i j t).kind ∙ kind in
-        let a = q highest_fuel_money (c.events.Q j) ((case.event-ranges f k n h j l).guarantee kj) in
+        let a = q highest_fuel_money (c.events.Q j) ((case.event_ranges f k n h j l).guarantee kj) in
         let s =
         sum_bound most_hours (λ x. cond (fuel_flag c i x) (c.a j x * part (c.events.b j x)) 0) (highest_energy * highest_price_change)
         (λ x m. cond_bound (fuel_flag c i x)
@@ -146,6 +146,6 @@ module _ (f k : List ℕ) (n : ℕ) (h : refusal f k n ≡ 0) where
     tcc_most =
         let s =
         party_le c i rise highest_fuel_money (λ j. positive_part 32 (c.events.R j))
-        (λ j l t. within_positive 32 highest_fuel_money (c.events.R j) ((case.event-ranges f k n h j l).congestion ((together_fields c i j t).kind ∙ kind)))
+        (λ j l t. within_positive 32 highest_fuel_money (c.events.R j) ((case.event_ranges f k n h j l).congestion ((together_fields c i j t).kind ∙ kind)))
         most_units (λ j l t. place_low j l) in
         omega arith

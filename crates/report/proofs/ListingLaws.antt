@@ -79,7 +79,7 @@ module _ (f rows : List ℕ) (n p m : ℕ) (e : settlement.Settled n p m ≡ set
   count format events ef ee = rw (ef, ee) all_rows
 
   pub few : n ≤ most_events
-  few = omega (arith, all_rows, case.events-count f [] (length rows) fine)
+  few = omega (arith, all_rows, case.events_count f [] (length rows) fine)
 
   pub rows_long : row_width (format_in f) * n ≤ length rows
   rows_long = omega (arith, all_rows, case.rows_long f [] (length rows) fine)

@@ -44,8 +44,8 @@ accepted f k n h =
     let fields = case.fields f k n h in
     let found = case.found f k n h in
     record {
-      few_past = case.past-count f k n h;
-      few_events = case.events-count f k n h;
+      few_past = case.past_count f k n h;
+      few_events = case.events_count f k n h;
       units_fine_holds = records.units_fine_holds;
       events_fine_holds = fields.events_fine_holds;
       days_fine_holds = fields.days_fine_holds;

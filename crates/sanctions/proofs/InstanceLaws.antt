@@ -51,5 +51,5 @@ unfolding n3 n2
 instances_by_ladder f k n i h l e =
     let c : Case = decode f in
     let range : InstancesInRange (n3 c i) (n2 c i) =
-    rw e (instances_positive c 1 i, instances_wider c i, omega (arith, instances_bound c 2 i, case.past-count f k n h, case.events-count f k n h)) in
+    rw e (instances_positive c 1 i, instances_wider c i, omega (arith, instances_bound c 2 i, case.past_count f k n h, case.events_count f k n h)) in
     record { range = range; printed = ladder_as_printed _ _ range; on_row = on_row c i e }

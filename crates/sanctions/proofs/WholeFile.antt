@@ -1,7 +1,7 @@
 -- A prior fuel penalty is looked for on the rows before the event. Days rise, so that the rows from it on hold none that counts:
 -- M is that of the whole file.
 use Prim.Native.Nat.{ℕ, zero, suc, ◌+◌, ◌-◌, ◌≤◌, ◌<◌}
-use mathlib.Core.Bool.{false, ◌&&◌, and-false, or_false}
+use mathlib.Core.Bool.{false, ◌&&◌, and-false, or-false}
 use mathlib.Core.List.{List}
 use mathlib.Core.Logic.{⊎_elim}
 use mathlib.Core.Path.{◌≡◌, refl, sym, ◌∙◌, ap}
@@ -33,7 +33,7 @@ unfolding prior_fuel
 no_further c i zero d g rise = rw (add-zero i) refl
 no_further c i (suc k) d g rise =
     rw (add-suc i k, not_later c (i + k) d g (rise (i + k) (omega arith) (omega arith)))
-    (no_further c i k d g (λ j a b. rise j a (omega arith)) ∙ sym (or_false (prior_fuel c (i + k) d g)))
+    (no_further c i k d g (λ j a b. rise j a (omega arith)) ∙ sym (or-false (prior_fuel c (i + k) d g)))
 
 whole_file : (c : Case) (i g : ℕ) → i ≤ c.events.count
     → ((j : ℕ) → i ≤ j → j < c.events.count → c.events.day i ≤ c.events.day j)
@@ -46,7 +46,7 @@ whole_file c i g l rise =
 
 module _ (f k : List ℕ) (n : ℕ) (b : Bytes f) (h : refusal f k n ≡ 0) where
   days_rise : (i j : ℕ) → i ≤ j → j < (decode f).events.count → (decode f).events.day i ≤ (decode f).events.day j
-  days_rise i j l m = ⊎_elim (λ e. rw e (le_refl _)) (λ lt. case.days-in-order f k n h i j lt m (unit_lt f k n b h j m)) (eq-or-lt_of_le l)
+  days_rise i j l m = ⊎_elim (λ e. rw e (le_refl _)) (λ lt. case.days_in_order f k n h i j lt m (unit_lt f k n b h j m)) (eq-or-lt_of_le l)
 
   by_rows : (i g : ℕ) → i < (decode f).events.count
       → prior_fuel (decode f) i ((decode f).events.day i) g

@@ -53,19 +53,19 @@ module _ (f k : List ℕ) (n : ℕ) (both : BothAccepted f k n) where
   unfolding sizes_fine widths_of first_widths
   units_whole =
       let t = rw format at (laws.header f k n both.own).sizes in
-      rw (laws.section-length f k n both.own 0 (omega arith)) (whole_records 24 (length_of f 0) (sized (length_of f 0) 24 most_units (search (and_l, and_r))).0)
+      rw (laws.section_length f k n both.own 0 (omega arith)) (whole_records 24 (length_of f 0) (sized (length_of f 0) 24 most_units (search (and_l, and_r))).0)
 
   references_whole : length (section_of f 1) ≡ 8 * (length (section_of f 1) / 8)
   unfolding sizes_fine widths_of first_widths
   references_whole =
       let t = rw format at (laws.header f k n both.own).sizes in
-      rw (laws.section-length f k n both.own 1 (omega arith)) (whole_records 8 (length_of f 1) (sized (length_of f 1) 8 most_references (search (and_l, and_r))).0)
+      rw (laws.section_length f k n both.own 1 (omega arith)) (whole_records 8 (length_of f 1) (sized (length_of f 1) 8 most_references (search (and_l, and_r))).0)
 
   events_whole : length (section_of f 3) ≡ 312 * (length (section_of f 3) / 312)
   unfolding sizes_fine widths_of first_widths
   events_whole =
       let t = rw format at (laws.header f k n both.own).sizes in
-      rw (laws.section-length f k n both.own 3 (omega arith)) (whole_records 312 (length_of f 3) (sized (length_of f 3) 312 most_events (search (and_l, and_r))).0)
+      rw (laws.section_length f k n both.own 3 (omega arith)) (whole_records 312 (length_of f 3) (sized (length_of f 3) 312 most_events (search (and_l, and_r))).0)
 
   correction_whole : length k ≡ 8 * (length k / 8)
   unfolding correction_fine widths_of first_widths
@@ -85,23 +85,23 @@ module _ (f k : List ℕ) (n : ℕ) (both : BothAccepted f k n) where
   short : header_width + length u + length r + length (section_of f 2) + length e ≤ longest_file
   unfolding copy_of
   short =
-      let l = sections.file-length u r (section_of f 2) e in
-      let s = laws.file-short (copy_of f) (copy_references k) n both.copied in
+      let l = sections.file_length u r (section_of f 2) e in
+      let s = laws.file_short (copy_of f) (copy_references k) n both.copied in
       omega arith
 
   copy_format : format_in (copy_of f) ≡ second
   unfolding copy_of
-  copy_format = sections.file-format u r (section_of f 2) e
+  copy_format = sections.file_format u r (section_of f 2) e
 
   pub same_case : decode (copy_of f) ≡ decode f
   unfolding decode copy_of
   same_case =
       rw (
         copy_format,
-        sections.units-are u r (section_of f 2) e short,
-        sections.references-are u r (section_of f 2) e short,
-        sections.past-are u r (section_of f 2) e short,
-        sections.events-are u r (section_of f 2) e short,
+        sections.units_are u r (section_of f 2) e short,
+        sections.references_are u r (section_of f 2) e short,
+        sections.past_are u r (section_of f 2) e short,
+        sections.events_are u r (section_of f 2) e short,
         format,
       )
       (case_same (section_of f 0) (section_of f 1) (section_of f 2) (section_of f 3) units_whole references_whole events_whole)
@@ -109,7 +109,7 @@ module _ (f k : List ℕ) (n : ℕ) (both : BothAccepted f k n) where
   pub same_correct : correct_in (copy_of f) (copy_references k) ≡ correct_in f k
   unfolding correct_in correct_references copy_of
   same_correct =
-      rw (copy_format, sections.references-are u r (section_of f 2) e short, format, copy_empty k correction_whole) (go (eqb (length k) 0))
+      rw (copy_format, sections.references_are u r (section_of f 2) e short, format, copy_empty k correction_whole) (go (eqb (length k) 0))
     where
       go : (b : Bool) → references_in second (cond b r (copy_references k)) ≡ references_in first (cond b (section_of f 1) k)
       go true = references_same (section_of f 1) references_whole

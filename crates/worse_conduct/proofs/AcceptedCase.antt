@@ -20,6 +20,6 @@ unfolding decode
 accepted_case f k n h =
     record {
       follow = case.follows f k n h;
-      short = case.file-short f k n h;
+      short = case.file_short f k n h;
       ranges = sanctions.ranges (format_in f) (section_of f 0) (section_of f 2) (section_of f 3) (sanctions.accepted f k n h) (section_of f 1);
     }

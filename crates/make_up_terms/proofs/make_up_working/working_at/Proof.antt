@@ -8,7 +8,7 @@ use Rattle.make_up_terms.proofs.make_up_working.working_at.Tie as tie
 inside : (s : tie.Start) → s.args.i < most_events
 inside s =
     let a = s.requires.0.0 in
-    omega (arith, s.requires.0.1, case.events-count s.args.file.now a.correction a.rows_length a.accepted)
+    omega (arith, s.requires.0.1, case.events_count s.args.file.now a.correction a.rows_length a.accepted)
 
 pub working-at-spec : {M : Type 1} → statement M
 working-at-spec =

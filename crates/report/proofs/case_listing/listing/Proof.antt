@@ -22,11 +22,11 @@ listing-spec =
     (λ c κs.
     let a = c.before.before.before.before.before.before.before.before.before.before.before.before.args in
     let e = sym c.before.n.given.1 ∙ c.before.before.before.before.before.settle.ensures.0 in
-    (case.has-section a.file.now _ _ (fine a.file.now a.rows.now _ _ _ e) 0 (omega arith)).header)
+    (case.has_section a.file.now _ _ (fine a.file.now a.rows.now _ _ _ e) 0 (omega arith)).header)
     (λ c κs.
     let a = c.before.before.before.before.before.before.before.before.before.before.before.before.before.args in
     let e = sym c.before.before.n.given.1 ∙ c.before.before.before.before.before.before.settle.ensures.0 in
-    case.has-section a.file.now _ _ (fine a.file.now a.rows.now _ _ _ e) 3 (omega arith))
+    case.has_section a.file.now _ _ (fine a.file.now a.rows.now _ _ _ e) 3 (omega arith))
     (λ c κs.
     let a = c.before.before.before.before.before.before.before.before.before.before.before.before.before.before.before.before.args in
     let e = sym c.before.before.before.before.before.n.given.1 ∙ c.before.before.before.before.before.before.before.before.before.settle.ensures.0 in (

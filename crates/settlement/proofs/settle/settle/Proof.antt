@@ -42,11 +42,11 @@ settle-spec =
     (λ c κs.
     let e = c.before.before.before.before.before.before.before in
     let a = (first e).args in
-    (case.has-section a.file.now a.correction.now _ (fine e) 0 (omega arith)).header)
+    (case.has_section a.file.now a.correction.now _ (fine e) 0 (omega arith)).header)
     (λ c κs.
     let e = c.before.before.before.before.before.before.before.before in
     let a = (first e).args in
-    case.has-section a.file.now a.correction.now _ (fine e) 3 (omega arith))
+    case.has_section a.file.now a.correction.now _ (fine e) 3 (omega arith))
     (λ c κs. tt)
     (λ c. search rules)
     (λ c.
