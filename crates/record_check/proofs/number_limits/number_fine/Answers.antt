@@ -10,8 +10,7 @@ use Rattle.binary.specs.Bytes.{value_at}
 use Rattle.casefile.specs.Layout.{highest_number, number_limit}
 use Rattle.casefile.specs.Decode.{record_at, old_number}
 use Rattle.limits.specs.Refusal.{number_fine}
-use Rattle.record_check.proofs.number_limits.number_fine.Statement.{statement}
-use Rattle.record_check.proofs.number_limits.number_fine.Tie as tie
+use Rattle.record_check.proofs.number_limits.number_fine.Goals as goal
 
 -- one comparison for both: an old field that is not 0 is above the limit by itself
 one-comparison : (old number : ℕ) → leb (number_limit * old + number) highest_number ≡ (eqb old 0 && leb number highest_number)
@@ -24,19 +23,17 @@ one-comparison old number = go (eqb old 0) refl
         ap (λ (x : ℕ). leb x highest_number) same
     go false e = let z = eqb-false old 0 e in lt-leb (number_limit * old + number) highest_number (omega arith)
 
-pub number-fine-spec : {M : Type 1} → statement M
+pub number_at-old_number-requires : goal.number_at-old_number-requires
 unfolding number_fine old_number
-number-fine-spec =
-    tie.close
-    (tie.spec
-    (λ c κs. search rules)
-    (λ c κs. (search rules, inl refl))
-    (λ c. search rules)
-    (λ c κs. (search rules, inr refl))
-    (λ c. search rules)
-    (λ c. omega arith)
-    (λ c. omega arith)
-    (λ c.
-    let s = c.before.before.before.before.args in
-    rw (c.number-at2.ensures, c.before.number_at.ensures, c.before.before.record-at.ensures.0)
-    (one-comparison (old_number s.width s.old s.records.now s.i) (value_at 4 (record_at s.width s.records.now s.i) s.at))))
+number_at-old_number-requires c = (search rules, inl refl)
+
+pub number_at-number-requires : goal.number_at-number-requires
+unfolding number_fine old_number
+number_at-number-requires c = (search rules, inr refl)
+
+pub returns : goal.returns
+unfolding number_fine old_number
+returns c =
+    let s = c.args in
+    rw (c.number_at-number.ensures, c.number_at-old_number.ensures, c.record_at-record.ensures.0)
+    (one-comparison (old_number s.width s.old s.records.now s.i) (value_at 4 (record_at s.width s.records.now s.i) s.at))

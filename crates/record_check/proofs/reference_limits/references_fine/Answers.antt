@@ -1,0 +1,44 @@
+use mathlib.Core.Path.{◌≡◌}
+use native.Mathlib.Omega.{arith}
+use Rattle.binary.proofs.BoundedLaws.{all_none, all_more}
+use Rattle.casefile.specs.Decode.{references_in}
+use Rattle.casefile.specs.StageRead.{reference_at}
+use Rattle.limits.specs.Refusal.{reference_fine, references_fine}
+use Rattle.limits.specs.StageLookup.{reference_fine_where}
+use Rattle.record_check.proofs.reference_limits.references_fine.Goals as goal
+
+pub returns-then-n-eq0 : goal.returns-then-n-eq0
+unfolding references_fine reference_fine reference_fine_where reference_at
+returns-then-n-eq0 c =
+    let s = c.args in
+    let e : (references_in s.format s.references.now).count ≡ 0 = omega arith in
+    rw e (all_none _)
+
+pub loop-i-init : goal.loop-i-init
+unfolding references_fine reference_fine reference_fine_where reference_at
+loop-i-init c = (omega arith, all_none _, c.unit_place-place.ensures)
+
+pub next_place-place-requires : goal.next_place-place-requires
+unfolding references_fine reference_fine reference_fine_where reference_at
+next_place-place-requires c = (c.requires, c.loop-i.invariant.2)
+
+pub loop-i-preserved : goal.loop-i-preserved
+unfolding references_fine reference_fine reference_fine_where reference_at
+loop-i-preserved c = (
+  omega arith,
+  rw (
+    c.loop-i.invariant.1,
+    c.reference_fine-fine.ensures,
+    c.next_place-place.ensures.0,
+    c.reference_at-reference.ensures,
+    all_more,
+  ),
+  c.next_place-place.ensures,
+)
+
+pub returns : goal.returns
+unfolding references_fine reference_fine reference_fine_where reference_at
+returns c =
+    let s = c.args in
+    let e : c.loop-i.i ≡ (references_in s.format s.references.now).count = omega arith in
+    rw (c.loop-i.invariant.1, e)
