@@ -1,6 +1,8 @@
 // The lengths of months, and their starts.
 ghost use Rattle.std.specs.Prelude.{◌≤◌};
 
+use std::io;
+
 // By fours, not by hundreds, but by four hundreds.
 fn is_leap(year: u32) -> bool {
     ((year % 4 == 0) & (year % 100 != 0)) | (year % 400 == 0)
@@ -22,17 +24,15 @@ fn days_in(year: u32, month: u32) -> u64
     31
 }
 
-fn print_line(start: u64) {
-    io::print_decimal(libc::STDOUT_FILENO, start);
-    io::write_all(libc::STDOUT_FILENO, b"\n");
+fn print_line(rt: &impl Print, start: u64) -> io::Result<()> {
+    println!(rt; "{start}")
 }
 
-pub fn print_starts() {
+pub fn print_starts(rt: &impl Print) -> io::Result<()> {
     let mut start: u64 = 0;
-    let mut month: u32 = 0;
-    while month < 1200 {
-        print_line(start);
+    for month in 0..1200 {
+        print_line(rt, start)?;
         start += days_in(2000 + month / 12, month % 12 + 1);
-        month += 1;
     }
+    Ok(())
 }
