@@ -1,10 +1,15 @@
 // Reads a case from standard input and writes its listing to standard output, in one write.
-fn main() {
+#![tactic(auto)]
+
+use std::io;
+use std::io::Read;
+
+fn main(rt: HostRuntime) -> io::Result<()> {
     // one byte more than a case may have, so that a longer input is seen to be too long
-    let mut file = [0u8; 65001];
-    let n = io::read_full(libc::STDIN_FILENO, &mut file);
-    let mut rows = [0u8; 25600];
-    let mut out = [0u8; 42048];
-    let length = report::case_listing::listing(&file[..n], &mut rows, &mut out);
-    io::write_all(libc::STDOUT_FILENO, &out[..length]);
+    let mut file = Vec::new(rt.alloc());
+    rt.reader().take(65001).read_to_end(&mut file)?;
+    let mut rows = vec![in rt.alloc(); 0u8; 25600]?;
+    let mut out = vec![in rt.alloc(); 0u8; 42048]?;
+    let length = report::case_listing::listing(&file, &mut rows, &mut out);
+    rt.write_all(&out[..length])
 }

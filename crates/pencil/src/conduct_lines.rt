@@ -1,46 +1,50 @@
 // Pencil lines of the conduct tests.
 use pencil_lines::call_lines;
+use std::io;
 
-pub fn withheld() {
-    call_lines::heading(b"Withheld and dispatch\n");
-    call_lines::withheld_fails(500, 5000, 500, 20000, false);
-    call_lines::withheld_fails(501, 5000, 501, 20000, false);
-    call_lines::withheld_fails(1000, 50000, 1000, 50000, false);
-    call_lines::withheld_fails(1000, 50000, 1000, 50000, true);
-    call_lines::withheld_fails(0, 5000, 2001, 50000, false);
-    call_lines::dispatch_fails(450, 30, 450, false);
-    call_lines::dispatch_fails(451, 30, 451, false);
-    call_lines::dispatch_fails(0, 30, 1001, true);
+pub fn withheld(rt: &impl Print) -> io::Result<()> {
+    call_lines::heading(rt, b"Withheld and dispatch\n")?;
+    call_lines::withheld_fails(rt, 500, 5000, 500, 20000, false)?;
+    call_lines::withheld_fails(rt, 501, 5000, 501, 20000, false)?;
+    call_lines::withheld_fails(rt, 1000, 50000, 1000, 50000, false)?;
+    call_lines::withheld_fails(rt, 1000, 50000, 1000, 50000, true)?;
+    call_lines::withheld_fails(rt, 0, 5000, 2001, 50000, false)?;
+    call_lines::dispatch_fails(rt, 450, 30, 450, false)?;
+    call_lines::dispatch_fails(rt, 451, 30, 451, false)?;
+    call_lines::dispatch_fails(rt, 0, 30, 1001, true)
 }
 
-pub fn bids() {
-    call_lines::heading(b"Bids\n");
-    call_lines::bid(0, 625, 2500);
-    call_lines::bid(0, 624, 2500);
-    call_lines::bid(0, 5000, 15000);
-    call_lines::bid(0, 5000, 15001);
-    call_lines::bid_in_market(0, 2000, 2876, 1, true, 5000, 1000);
-    call_lines::bid_in_market(0, 2000, 2877, 1, true, 5000, 1000);
-    other_bids();
+pub fn bids(rt: &impl Print) -> io::Result<()> {
+    call_lines::heading(rt, b"Bids\n")?;
+    call_lines::bid(rt, 0, 625, 2500)?;
+    call_lines::bid(rt, 0, 624, 2500)?;
+    call_lines::bid(rt, 0, 5000, 15000)?;
+    call_lines::bid(rt, 0, 5000, 15001)?;
+    call_lines::bid_in_market(rt, 0, 2000, 2876, 1, true, 5000, 1000)?;
+    call_lines::bid_in_market(rt, 0, 2000, 2877, 1, true, 5000, 1000)?;
+    other_bids(rt)
 }
 
-fn other_bids() {
-    call_lines::bid(2, 0, 499);
-    call_lines::bid(2, 0, 500);
-    call_lines::bid(3, 1000, 3000);
-    call_lines::bid(3, 1000, 3001);
-    call_lines::bid(5, 60, 240);
-    call_lines::bid(5, 60, 241);
-    call_lines::bid(7, 100, 200);
-    call_lines::bid(7, 100, 201);
-    call_lines::bid(8, 100, 50);
-    call_lines::bid(8, 100, 49);
+fn other_bids(rt: &impl Print) -> io::Result<()> {
+    call_lines::bid(rt, 2, 0, 499)?;
+    call_lines::bid(rt, 2, 0, 500)?;
+    call_lines::bid(rt, 3, 1000, 3000)?;
+    call_lines::bid(rt, 3, 1000, 3001)?;
+    call_lines::bid(rt, 5, 60, 240)?;
+    call_lines::bid(rt, 5, 60, 241)?;
+    call_lines::bid(rt, 7, 100, 200)?;
+    call_lines::bid(rt, 7, 100, 201)?;
+    call_lines::bid(rt, 8, 100, 50)?;
+    call_lines::bid(rt, 8, 100, 49)
 }
 
-pub fn times() {
-    call_lines::heading(b"Time increases together: start-up, minimum run, minimum down\n");
-    call_lines::times_fail(120, 120, 120);
-    call_lines::times_fail(121, 120, 120);
-    call_lines::times_fail(181, 0, 4294967236);
-    call_lines::times_fail(360, 1, 0);
+pub fn times(rt: &impl Print) -> io::Result<()> {
+    call_lines::heading(
+        rt,
+        b"Time increases together: start-up, minimum run, minimum down\n",
+    )?;
+    call_lines::times_fail(rt, 120, 120, 120)?;
+    call_lines::times_fail(rt, 121, 120, 120)?;
+    call_lines::times_fail(rt, 181, 0, 4294967236)?;
+    call_lines::times_fail(rt, 360, 1, 0)
 }

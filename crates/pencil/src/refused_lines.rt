@@ -1,137 +1,147 @@
 // Arguments on the edge of their range and just past it: first 7, then 10.
 use pencil_lines::call_lines;
+use std::io;
 
-pub fn reference_refusals() {
-    call_lines::heading(b"Refused: 7, a reference out of its component's range\n");
-    call_lines::bid(2, 1000000, 0);
-    call_lines::bid(0, 1000001, 0);
-    call_lines::bid(1, 1000001, 0);
-    call_lines::bid(2, 1000001, 0);
-    call_lines::bid(3, 1000000000, 0);
-    call_lines::bid(3, 1000000001, 0);
-    call_lines::bid(8, 1000000001, 0);
-    call_lines::bid(0, 1000001, 1000001);
-    call_lines::bid(9, 4000000000, 0);
-    correct_refusals();
+pub fn reference_refusals(rt: &impl Print) -> io::Result<()> {
+    call_lines::heading(
+        rt,
+        b"Refused: 7, a reference out of its component's range\n",
+    )?;
+    call_lines::bid(rt, 2, 1000000, 0)?;
+    call_lines::bid(rt, 0, 1000001, 0)?;
+    call_lines::bid(rt, 1, 1000001, 0)?;
+    call_lines::bid(rt, 2, 1000001, 0)?;
+    call_lines::bid(rt, 3, 1000000000, 0)?;
+    call_lines::bid(rt, 3, 1000000001, 0)?;
+    call_lines::bid(rt, 8, 1000000001, 0)?;
+    call_lines::bid(rt, 0, 1000001, 1000001)?;
+    call_lines::bid(rt, 9, 4000000000, 0)?;
+    correct_refusals(rt)
 }
 
-fn correct_refusals() {
-    call_lines::bid_in_force(0, 0, 1000001, true);
-    call_lines::corrected_bid(3, 0, 1000000001, 0);
-    call_lines::corrected_bid(3, 0, 0, 1000000001);
-    call_lines::make_up(0, 0, 0, 1000001, 0);
-    call_lines::make_up(0, 0, 0, 0, 1000001);
+fn correct_refusals(rt: &impl Print) -> io::Result<()> {
+    call_lines::bid_in_force(rt, 0, 0, 1000001, true)?;
+    call_lines::corrected_bid(rt, 3, 0, 1000000001, 0)?;
+    call_lines::corrected_bid(rt, 3, 0, 0, 1000000001)?;
+    call_lines::make_up(rt, 0, 0, 0, 1000001, 0)?;
+    call_lines::make_up(rt, 0, 0, 0, 0, 1000001)
 }
 
-pub fn bid_refusals() {
-    call_lines::heading(b"Refused: 10, a bid, market, price or hours out of range\n");
-    call_lines::bid(0, 0, 4293967296);
-    call_lines::bid(0, 0, 4293967295);
-    call_lines::bid(1, 0, 1000001);
-    call_lines::bid(2, 0, 4294967295);
-    call_lines::bid(2, 0, 1000001);
-    call_lines::bid(3, 0, 1000000001);
-    call_lines::bid(8, 0, 4294967295);
-    call_lines::bid(9, 0, 0);
-    market_refusals();
+pub fn bid_refusals(rt: &impl Print) -> io::Result<()> {
+    call_lines::heading(
+        rt,
+        b"Refused: 10, a bid, market, price or hours out of range\n",
+    )?;
+    call_lines::bid(rt, 0, 0, 4293967296)?;
+    call_lines::bid(rt, 0, 0, 4293967295)?;
+    call_lines::bid(rt, 1, 0, 1000001)?;
+    call_lines::bid(rt, 2, 0, 4294967295)?;
+    call_lines::bid(rt, 2, 0, 1000001)?;
+    call_lines::bid(rt, 3, 0, 1000000001)?;
+    call_lines::bid(rt, 8, 0, 4294967295)?;
+    call_lines::bid(rt, 9, 0, 0)?;
+    market_refusals(rt)
 }
 
-fn market_refusals() {
-    call_lines::bid_in_market(0, 0, 0, 2, false, 0, 0);
-    call_lines::bid_in_market(0, 0, 0, 0, false, 1000001, 0);
-    call_lines::bid_in_market(0, 0, 0, 0, false, 0, 8784);
-    call_lines::bid_in_market(0, 0, 0, 0, false, 0, 8785);
-    call_lines::times_fail(1000000001, 0, 0);
-    call_lines::times_fail(0, 1000000001, 0);
-    call_lines::times_fail(0, 0, 3294967295);
+fn market_refusals(rt: &impl Print) -> io::Result<()> {
+    call_lines::bid_in_market(rt, 0, 0, 0, 2, false, 0, 0)?;
+    call_lines::bid_in_market(rt, 0, 0, 0, 0, false, 1000001, 0)?;
+    call_lines::bid_in_market(rt, 0, 0, 0, 0, false, 0, 8784)?;
+    call_lines::bid_in_market(rt, 0, 0, 0, 0, false, 0, 8785)?;
+    call_lines::times_fail(rt, 1000000001, 0, 0)?;
+    call_lines::times_fail(rt, 0, 1000000001, 0)?;
+    call_lines::times_fail(rt, 0, 0, 3294967295)
 }
 
-pub fn withheld_refusals() {
-    call_lines::heading(b"Refused: 10, withheld and dispatch\n");
-    call_lines::withheld_fails(0, 0, 0, 0, false);
-    call_lines::withheld_fails(0, 50001, 0, 0, false);
-    call_lines::withheld_fails(5001, 5000, 0, 0, false);
-    call_lines::withheld_fails(0, 5000, 3200001, 0, false);
-    call_lines::withheld_fails(0, 5000, 0, 3200001, false);
-    call_lines::dispatch_fails(50001, 0, 0, false);
-    call_lines::dispatch_fails(0, 50001, 0, false);
-    call_lines::dispatch_fails(0, 0, 3200001, false);
+pub fn withheld_refusals(rt: &impl Print) -> io::Result<()> {
+    call_lines::heading(rt, b"Refused: 10, withheld and dispatch\n")?;
+    call_lines::withheld_fails(rt, 0, 0, 0, 0, false)?;
+    call_lines::withheld_fails(rt, 0, 50001, 0, 0, false)?;
+    call_lines::withheld_fails(rt, 5001, 5000, 0, 0, false)?;
+    call_lines::withheld_fails(rt, 0, 5000, 3200001, 0, false)?;
+    call_lines::withheld_fails(rt, 0, 5000, 0, 3200001, false)?;
+    call_lines::dispatch_fails(rt, 50001, 0, 0, false)?;
+    call_lines::dispatch_fails(rt, 0, 50001, 0, false)?;
+    call_lines::dispatch_fails(rt, 0, 0, 3200001, false)
 }
 
-pub fn sanction_refusals() {
-    call_lines::heading(b"Refused: 10, sanctions\n");
-    call_lines::multiplier(456, 456);
-    call_lines::multiplier(457, 1);
-    call_lines::multiplier(0, 0);
-    call_lines::multiplier(1, 0);
-    call_lines::multiplier(3, 4);
-    megawatts();
-    prices();
-    hours();
-    revenues();
+pub fn sanction_refusals(rt: &impl Print) -> io::Result<()> {
+    call_lines::heading(rt, b"Refused: 10, sanctions\n")?;
+    call_lines::multiplier(rt, 456, 456)?;
+    call_lines::multiplier(rt, 457, 1)?;
+    call_lines::multiplier(rt, 0, 0)?;
+    call_lines::multiplier(rt, 1, 0)?;
+    call_lines::multiplier(rt, 3, 4)?;
+    megawatts(rt)?;
+    prices(rt)?;
+    hours(rt)?;
+    revenues(rt)
 }
 
-fn megawatts() {
+fn megawatts(rt: &impl Print) -> io::Result<()> {
     let a0 = [1u32];
     let b0 = [1u32];
-    call_lines::withheld_penalty(3, &a0, &b0);
+    call_lines::withheld_penalty(rt, 3, &a0, &b0)?;
     let a1 = [50001u32];
     let b1 = [0u32];
-    call_lines::withheld_penalty(2, &a1, &b1);
+    call_lines::withheld_penalty(rt, 2, &a1, &b1)
 }
 
-fn prices() {
+fn prices(rt: &impl Print) -> io::Result<()> {
     let a0 = [1u32];
     let b0 = [1000001u32];
-    call_lines::withheld_penalty(2, &a0, &b0);
+    call_lines::withheld_penalty(rt, 2, &a0, &b0)?;
     let a1 = [1u32];
     let b1 = [4293967295u32];
-    call_lines::withheld_penalty(2, &a1, &b1);
+    call_lines::withheld_penalty(rt, 2, &a1, &b1)
 }
 
-fn hours() {
+fn hours(rt: &impl Print) -> io::Result<()> {
     let a0 = [1u32, 1];
     let b0 = [1u32];
-    call_lines::withheld_penalty(2, &a0, &b0);
+    call_lines::withheld_penalty(rt, 2, &a0, &b0)?;
     let a1 = [0u32; 25];
     let b1 = [0u32; 25];
-    call_lines::withheld_penalty(2, &a1, &b1);
+    call_lines::withheld_penalty(rt, 2, &a1, &b1)
 }
 
-fn revenues() {
+fn revenues(rt: &impl Print) -> io::Result<()> {
     let b0 = [100000001u32];
-    call_lines::dispatch_penalty(&b0);
+    call_lines::dispatch_penalty(rt, &b0)?;
     let b1 = [0u32; 25];
-    call_lines::dispatch_penalty(&b1);
+    call_lines::dispatch_penalty(rt, &b1)
 }
 
-pub fn fuel_refusals() {
-    call_lines::heading(b"Refused: 10, fuel and windows\n");
-    call_lines::fuel_penalty(100000000000000, 64000000000, 3);
-    call_lines::fuel_penalty(100000000000001, 0, 2);
-    call_lines::fuel_penalty(18446644073709551615, 0, 2);
-    call_lines::fuel_penalty(0, 64000000001, 2);
-    call_lines::fuel_penalty(0, 0, 1);
-    call_lines::fuel_penalty(0, 0, 4);
-    call_lines::fuel_day_counts(36525, 36524);
-    call_lines::fuel_day_counts(36524, 36525);
-    call_lines::period_of(36525);
-    call_lines::period_counts(0, 44, 44);
-    call_lines::period_counts(3, 44, 44);
+pub fn fuel_refusals(rt: &impl Print) -> io::Result<()> {
+    call_lines::heading(rt, b"Refused: 10, fuel and windows\n")?;
+    call_lines::fuel_penalty(rt, 100000000000000, 64000000000, 3)?;
+    call_lines::fuel_penalty(rt, 100000000000001, 0, 2)?;
+    call_lines::fuel_penalty(rt, 18446644073709551615, 0, 2)?;
+    call_lines::fuel_penalty(rt, 0, 64000000001, 2)?;
+    call_lines::fuel_penalty(rt, 0, 0, 1)?;
+    call_lines::fuel_penalty(rt, 0, 0, 4)?;
+    call_lines::fuel_day_counts(rt, 36525, 36524)?;
+    call_lines::fuel_day_counts(rt, 36524, 36525)?;
+    call_lines::period_of(rt, 36525)?;
+    call_lines::period_counts(rt, 0, 44, 44)?;
+    call_lines::period_counts(rt, 3, 44, 44)
 }
 
-pub fn default_bid_refusals() {
-    call_lines::heading(b"Refused: 10, mitigated hours, bids in force and make-up\n");
-    call_lines::mitigated_span(16777216, 0);
-    call_lines::mitigated_span(1, 25);
-    call_lines::bid_in_force(9, 0, 4000000000, true);
-    call_lines::bid_in_force(0, 1000001, 0, true);
-    call_lines::corrected_bid(9, 0, 4000000000, 4000000000);
-    call_lines::corrected_bid(1, 1000001, 0, 0);
-    call_lines::corrected_bid_in_market(2, 0, 0);
-    call_lines::corrected_bid_in_market(0, 1000001, 0);
-    call_lines::corrected_bid_in_market(0, 0, 8785);
-    call_lines::make_up(1000001, 0, 0, 0, 0);
-    call_lines::make_up(0, 4293967295, 0, 0, 0);
-    call_lines::make_up(0, 0, 50001, 0, 0);
+pub fn default_bid_refusals(rt: &impl Print) -> io::Result<()> {
+    call_lines::heading(
+        rt,
+        b"Refused: 10, mitigated hours, bids in force and make-up\n",
+    )?;
+    call_lines::mitigated_span(rt, 16777216, 0)?;
+    call_lines::mitigated_span(rt, 1, 25)?;
+    call_lines::bid_in_force(rt, 9, 0, 4000000000, true)?;
+    call_lines::bid_in_force(rt, 0, 1000001, 0, true)?;
+    call_lines::corrected_bid(rt, 9, 0, 4000000000, 4000000000)?;
+    call_lines::corrected_bid(rt, 1, 1000001, 0, 0)?;
+    call_lines::corrected_bid_in_market(rt, 2, 0, 0)?;
+    call_lines::corrected_bid_in_market(rt, 0, 1000001, 0)?;
+    call_lines::corrected_bid_in_market(rt, 0, 0, 8785)?;
+    call_lines::make_up(rt, 1000001, 0, 0, 0, 0)?;
+    call_lines::make_up(rt, 0, 4293967295, 0, 0, 0)?;
+    call_lines::make_up(rt, 0, 0, 50001, 0, 0)
 }
