@@ -1,0 +1,20 @@
+use Rattle.casefile.specs.StageRead.{event_at}
+use Rattle.party_runs.proofs.StageLaws.{leader_bid, leader_from}
+use Rattle.party_runs.proofs.parties.event_leader.Goals as goal
+
+pub returns-then-kind-eq4 : goal.returns-then-kind-eq4
+unfolding event_at
+returns-then-kind-eq4 c = leader_bid _ _ _ (rw c.event_at-event.ensures at c.if-kind-eq4.true)
+
+pub leader-requires : goal.leader-requires
+unfolding event_at
+leader-requires c =
+    let start = c in
+    (start.requires.run_start.reached, start.requires.in_range.1)
+
+pub returns : goal.returns
+unfolding event_at
+returns c =
+    let k = c in
+    let start = k in
+    leader_from _ _ _ _ _ start.requires.run_start (rw k.event_at-event.ensures at c.if-kind-eq4.false) c.leader.ensures

@@ -1,0 +1,9 @@
+use mathlib.Core.List.{[]}
+use mathlib.Core.Path.{◌∙◌}
+use Rattle.party_runs.proofs.StageLaws.{leader_in_is}
+use Rattle.party_runs.proofs.parties.find_parties.Goals as goal
+
+pub returns : goal.returns
+returns c =
+    let g = c in
+    let a = g.args in record { grouped = g.party_groups.ensures; led = (λ i m. c.party_leaders.ensures i m ∙ leader_in_is a.format a.units.now [] [] a.events.now _ _ i g.party_groups.ensures m) }

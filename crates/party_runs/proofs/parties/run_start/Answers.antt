@@ -1,0 +1,14 @@
+use borrow.Author.Rules.{rules}
+use native.Mathlib.Omega.{arith}
+use Rattle.casefile.specs.Decode.{events_in}
+use Rattle.party_runs.proofs.PartyLaws.{run_turn}
+use Rattle.party_runs.proofs.parties.run_start.Goals as goal
+
+pub same_run-goes_on-requires : goal.same_run-goes_on-requires
+same_run-goes_on-requires c = (search rules, let e = c.place_before.ensures in omega arith)
+
+pub returns : goal.returns
+returns c =
+    let start = c in
+    run_turn (events_in start.args.format start.args.events.now) _ _ start.requires.in_range start.requires.runs_together start.requires.run_start _ _
+    (rw c.place_before.ensures at c.same_run-goes_on.ensures) c.choose_usize.ensures
