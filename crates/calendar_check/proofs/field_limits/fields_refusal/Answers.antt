@@ -8,8 +8,7 @@ use Rattle.limits.specs.Refusal.{events_fine, days_fine, periods_fine, order_fin
 use Rattle.limits.specs.StageRefusal.{events_in_calendar, fields_refusal}
 use Rattle.limits.proofs.RefusalLaws.{passed}
 use Rattle.calendar_check.proofs.CalendarLaws.{events_dated}
-use Rattle.calendar_check.proofs.field_limits.fields_refusal.Statement.{statement}
-use Rattle.calendar_check.proofs.field_limits.fields_refusal.Tie as tie
+use Rattle.calendar_check.proofs.field_limits.fields_refusal.Goals as goal
 
 -- what one loop finds of the events
 abbrev found : (fine dated order : Bool) → ℕ
@@ -41,42 +40,51 @@ later : (fine dated order days periods : Bool) → (found fine dated order ≡ 1
     → found fine dated order ≡ unless fine 10 (unless days 18 (unless periods 19 (unless order 11 0)))
 later fine dated order days periods n d p e = rw (d, p, e)
 
-pub fields-refusal-spec : {M : Type 1} → statement M
+pub order_refusal-order-requires : goal.order_refusal-order-requires
 unfolding fields_refusal
-fields-refusal-spec =
-    tie.close
-    (tie.spec
-    (λ c κs. c.before.before.requires)
-    (λ c.
-    let s = c.before.before.before.before.args in
+order_refusal-order-requires c = c.requires
+
+pub returns-then-order-eq10 : goal.returns-then-order-eq10
+unfolding fields_refusal
+returns-then-order-eq10 c =
+    let s = c.args in
     let e = events_in s.format s.events.now in
-    unread (events_fine s.format s.events.now) (events_in_calendar e) (order_fine e) _ (sym c.before.order-refusal.ensures ∙ c.if1.true))
-    (λ c κs.
-    let s = c.before.before.before.before.args in
+    unread (events_fine s.format s.events.now) (events_in_calendar e) (order_fine e) _ (sym c.order_refusal-order.ensures ∙ c.if-order-eq10.true)
+
+pub calendar_refusal-calendar-requires : goal.calendar_refusal-calendar-requires
+unfolding fields_refusal
+calendar_refusal-calendar-requires c =
+    let s = c.args in
     let e = events_in s.format s.events.now in
-    let q = c.before.order-refusal.ensures in
+    let q = c.order_refusal-order.ensures in
     ap (λ (x : ℕ). not (eqb x 19)) q
-    ∙ dated-is (events_fine s.format s.events.now) (events_in_calendar e) (order_fine e) (λ z. c.if1.false (q ∙ z)))
-    (λ c.
-    let o = c.before.before in
-    let s = o.before.before.before.before.args in
+    ∙ dated-is (events_fine s.format s.events.now) (events_in_calendar e) (order_fine e) (λ z. c.if-order-eq10.false (q ∙ z))
+
+pub returns-then-calendar-ne0 : goal.returns-then-calendar-ne0
+unfolding fields_refusal
+returns-then-calendar-ne0 c =
+    let o = c in
+    let s = o.args in
     let e = events_in s.format s.events.now in
-    let q = o.before.order-refusal.ensures in
-    let r = c.before.calendar-refusal.ensures in
+    let q = o.order_refusal-order.ensures in
+    let r = c.calendar_refusal-calendar.ensures in
     r
     ∙ calendar (events_fine s.format s.events.now) (events_in_calendar e) (order_fine e) (days_fine (past_in s.past.now) e) (periods_fine (past_in s.past.now) e)
-    (λ z. o.if1.false (q ∙ z))
-    (λ z. c.if2.true (r ∙ z)))
-    (λ c.
-    let o = c.before.before in
-    let s = o.before.before.before.before.args in
+    (λ z. o.if-order-eq10.false (q ∙ z))
+    (λ z. c.if-calendar-ne0.true (r ∙ z))
+
+pub returns : goal.returns
+unfolding fields_refusal
+returns c =
+    let o = c in
+    let s = o.args in
     let e = events_in s.format s.events.now in
-    let q = o.before.order-refusal.ensures in
-    let d = passed (days_fine (past_in s.past.now) e) 17 _ (sym c.before.calendar-refusal.ensures ∙ c.if2.false) in
+    let q = o.order_refusal-order.ensures in
+    let d = passed (days_fine (past_in s.past.now) e) 17 _ (sym c.calendar_refusal-calendar.ensures ∙ c.if-calendar-ne0.false) in
     let p = (passed (periods_fine (past_in s.past.now) e) 18 0 d.1).0 in
     q
     ∙ later (events_fine s.format s.events.now) (events_in_calendar e) (order_fine e) (days_fine (past_in s.past.now) e) (periods_fine (past_in s.past.now) e)
-    (λ z. o.if1.false (q ∙ z))
+    (λ z. o.if-order-eq10.false (q ∙ z))
     d.0
     p
-    (events_dated (past_in s.past.now) e d.0 p)))
+    (events_dated (past_in s.past.now) e d.0 p)

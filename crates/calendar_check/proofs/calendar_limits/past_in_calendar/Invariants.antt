@@ -1,0 +1,13 @@
+use Prim.Native.Nat.{◌≤◌, ◌-◌}
+use mathlib.Core.Path.{◌≡◌}
+use Rattle.binary.specs.Bounded.{all_to}
+use Rattle.calendar.specs.Periods.{has_period}
+use Rattle.casefile.specs.Decode.{past_in}
+use Rattle.calendar_check.proofs.calendar_limits.past_in_calendar.Given as goal
+
+abbrev pub invariant-loop-i : goal.invariant-loop-i
+invariant-loop-i l =
+    (l.i ≤ (past_in l.past).count) × (l.fine ≡ all_to l.i (λ j. has_period ((past_in l.past).entry j).day ((past_in l.past).entry j).period))
+
+abbrev pub decreases-loop-i : goal.decreases-loop-i
+decreases-loop-i l = (past_in l.past).count - l.i
