@@ -1,0 +1,47 @@
+use borrow.Author.Rules.{rules}
+use native.Mathlib.Omega.{arith}
+use Rattle.casefile.specs.StageRead.{event_at}
+use Rattle.conduct.proofs.FlagLaws.{leads_none, leads_bid, leads_party}
+use Rattle.conduct.proofs.flags.leader_flags.Goals as goal
+
+pub offset_bounds-leaders-i : goal.offset_bounds-leaders-i
+unfolding event_at
+offset_bounds-leaders-i c = let f = c.requires.led.few in omega arith
+
+pub bounds-leaders-i : goal.bounds-leaders-i
+unfolding event_at
+bounds-leaders-i c = let f = c.requires.led.few in omega arith
+
+pub returns-then-leaders-i : goal.returns-then-leaders-i
+unfolding event_at
+returns-then-leaders-i c = let s = c in leads_none _ _ _ _ _ _ s.requires.led _ s.requires.in_range _ c.if-leaders-i.true
+
+pub offset_bounds-table-i : goal.offset_bounds-table-i
+unfolding event_at
+offset_bounds-table-i c = let few = c.requires.led.few in omega arith
+
+pub bounds-table-i : goal.bounds-table-i
+unfolding event_at
+bounds-table-i c = let few = c.requires.led.few in search rules
+
+pub returns-then-kind-eq4 : goal.returns-then-kind-eq4
+unfolding event_at
+returns-then-kind-eq4 c =
+    let s = c in
+    let few = s.requires.led.few in
+    let kind = rw c.event_at-event.ensures at c.if-kind-eq4.true in
+    leads_bid _ _ _ _ _ _ s.requires.led _ s.requires.in_range _ kind c.if-leaders-i.false (omega arith)
+
+pub party_flags-requires : goal.party_flags-requires
+unfolding event_at
+party_flags-requires c =
+    let s = c in
+    let kind = rw c.event_at-event.ensures at c.if-kind-eq4.false in
+    record { led = s.requires.led; in_range = (s.requires.in_range, c.if-leaders-i.false, kind); run_end = s.requires.run_end }
+
+pub returns : goal.returns
+unfolding event_at
+returns c =
+    let s = c in
+    let kind = rw c.event_at-event.ensures at c.if-kind-eq4.false in
+    leads_party _ _ _ _ _ _ s.requires.led _ s.requires.in_range _ _ kind c.party_flags.ensures

@@ -1,0 +1,23 @@
+use mathlib.Core.Path.{sym, ◌∙◌}
+use Rattle.conduct.proofs.TimeLaws.{small_table, totals_of, totals_none}
+use Rattle.conduct.proofs.time.time_totals.Goals as goal
+
+pub time_increases-requires : goal.time_increases-requires
+time_increases-requires c =
+    let start = c in
+    record { in_range = start.requires.in_range; bids_in_order = (start.requires.bids_in_order, sym c.time_bid.ensures ∙ c.if-time_bid.true) }
+
+pub hour_totals-requires : goal.hour_totals-requires
+hour_totals-requires c =
+    let start = c in
+    small_table _ _ _ _ _ _ start.requires.in_range.1 c.time_increases.ensures
+
+pub returns-then-time_bid : goal.returns-then-time_bid
+returns-then-time_bid c =
+    totals_of _ _ _ _ _ _ (sym c.time_bid.ensures ∙ c.if-time_bid.true) c.time_increases.ensures
+    c.hour_totals.ensures
+
+pub returns : goal.returns
+returns c =
+    let start = c in
+    totals_none _ _ _ _ start.requires.bids_in_order start.requires.in_range.0 (sym c.time_bid.ensures ∙ c.if-time_bid.false)
