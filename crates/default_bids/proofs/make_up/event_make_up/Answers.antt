@@ -1,0 +1,53 @@
+use mathlib.Core.Bool.{true, false, ◌&&◌}
+use mathlib.Core.Path.{◌≡◌}
+use borrow.Author.Rules.{rules}
+use native.Mathlib.Omega.{arith}
+use lib.Dec.{eqb}
+use Rattle.binary.proofs.Implies.{and_l}
+use Rattle.casefile.specs.Decode.{events_in}
+use Rattle.casefile.specs.StageRead.{event_at}
+use Rattle.default_bids.specs.StageFigures.{make_up_by}
+use Rattle.default_bids.proofs.MakeUpBounds.{megawatts_fine, make_up_most}
+use Rattle.default_bids.proofs.make_up.event_make_up.Goals as goal
+
+-- it is none
+other : (c : goal.Else-kind-component) → let a = c.args in
+    (eqb ((events_in a.format a.events.now).kind a.i) 4 && eqb ((events_in a.format a.events.now).component a.i) 0) ≡ false
+unfolding event_at
+other c = rw c.event_at-event.ensures at c.if-kind-component.false
+
+found : (c : goal.After-make_up) → let a = c.args in
+    c.make_up.result ≡ make_up_by a.format a.events.now a.i a.reference a.correct a.mitigated
+unfolding make_up_by event_at
+found c =
+    let energy : let a = c.args in
+    (eqb ((events_in a.format a.events.now).kind a.i) 4 && eqb ((events_in a.format a.events.now).component a.i) 0) ≡ true = rw c.event_at-event.ensures at c.if-kind-component.true in
+    let t = c in
+    rw (c.make_up.ensures, c.sum_tenths-tenths.ensures.0, c.event_cells.ensures.0, energy)
+
+pub sum_tenths-tenths-requires : goal.sum_tenths-tenths-requires
+unfolding make_up_by event_at
+sum_tenths-tenths-requires c =
+    let energy : let a = c.args in
+    (eqb ((events_in a.format a.events.now).kind a.i) 4 && eqb ((events_in a.format a.events.now).component a.i) 0) ≡ true = rw c.event_at-event.ensures at c.if-kind-component.true in
+    let t = c in
+    let s = t in (
+      search rules,
+      λ h l. rw c.event_cells.ensures.0
+          (megawatts_fine s.args.format s.args.events.now s.args.i s.requires.1 s.requires.0
+          (and_l (eqb ((events_in s.args.format s.args.events.now).kind s.args.i) 4) _ energy) h l),
+    )
+
+pub make_up-requires : goal.make_up-requires
+unfolding make_up_by
+make_up-requires c = omega (arith, c.sum_tenths-tenths.ensures.1)
+
+pub returns-then-kind-component : goal.returns-then-kind-component
+unfolding make_up_by
+returns-then-kind-component c =
+    let s = c in
+    (found c, rw (found c) (make_up_most s.args.format s.args.events.now s.args.i _ _ _ s.requires.1 s.requires.0))
+
+pub returns : goal.returns
+unfolding make_up_by
+returns c = (rw (other c), omega arith)

@@ -1,0 +1,21 @@
+use mathlib.Core.Path.{◌≡◌}
+use Rattle.default_bids.specs.StageFigures.{tenths_at}
+use Rattle.default_bids.proofs.MakeUpBounds.{tenths_bound}
+use Rattle.default_bids.proofs.make_up.hour_tenths.Goals as goal
+
+found : (c : goal.After-choose_u64) →
+    let a = c.args in
+    c.choose_u64.result ≡ tenths_at a.cells.now a.correct a.mitigated a.h
+unfolding tenths_at
+found c =
+    rw (
+      c.choose_u64.ensures,
+      c.bit_of.ensures,
+      c.hour_make_up-tenths.ensures.0,
+      c.cell_at-cell.ensures,
+    )
+
+pub returns : goal.returns
+returns c =
+    let s = c in
+    (found c, rw (found c) (tenths_bound s.args.cells.now s.args.correct s.args.mitigated s.args.h s.requires.2))
