@@ -1,4 +1,6 @@
 // Multipliers and penalties of the events of a case.
+#![tactic(auto)]
+
 pub mod dispatch;
 pub mod fuel;
 pub mod penalties;
