@@ -19,7 +19,7 @@ use Rattle.sanctions.specs.Penalties.{penalty, total_penalty}
 use Rattle.sanctions.specs.StageGiven.{Sound}
 use Rattle.sanctions.specs.StageTables.{row_at}
 use Rattle.sanctions.proofs.AcceptedFigures as sanctions
-use Rattle.sanctions.proofs.FoundLaws as sanctions-found
+use Rattle.sanctions.proofs.FoundLaws as sanctions_found
 use Rattle.sanctions.proofs.FoundLaws.{SanctionTurn}
 use Rattle.default_bids.specs.StageFigures.{mitigated_by, bid_by, make_up_by}
 use Rattle.case_rows.specs.declared.rows.Row.{Row}
@@ -40,7 +40,7 @@ module _ (f : List ℕ) (acc : AcceptedFile f) where
       unfolding decode case_in
       sound b =
           rw (ef, ee)
-          (sanctions-found.sound (format_in f) (section_of f 0) (section_of f 1) (section_of f 2) (section_of f 3) groups leaders masks
+          (sanctions_found.sound (format_in f) (section_of f 0) (section_of f 1) (section_of f 2) (section_of f 3) groups leaders masks
           (sanctions.accepted f acc.correction acc.rows_length acc.accepted) found.found (accepted_runs f acc.correction acc.rows_length b acc.accepted))
 
       module _ (i : ℕ) (l : i < (decode f).events.count) where
@@ -48,7 +48,7 @@ module _ (f : List ℕ) (acc : AcceptedFile f) where
             → Holds i penalties (penalty (decode f)) → total ≡ sum_to i (penalty (decode f)) → SanctionTurn (decode f) i total s penalties
         unfolding decode case_in
         turn s penalties total q b held t =
-            sanctions-found.sanction_turn (format_in f) (section_of f 0) (section_of f 1) (section_of f 2) (section_of f 3) groups leaders masks
+            sanctions_found.sanction_turn (format_in f) (section_of f 0) (section_of f 1) (section_of f 2) (section_of f 3) groups leaders masks
             (sanctions.accepted f acc.correction acc.rows_length acc.accepted) found.found s penalties i total (q ∙ rw (ef, ep, ee)) l b held t
 
         pub row_is : (levels corrects penalties : List ℕ) (total : ℕ) (s : Sanction) (row : Row) → SanctionTurn (decode f) i total s penalties

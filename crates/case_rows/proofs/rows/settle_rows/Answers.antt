@@ -1,0 +1,211 @@
+use Prim.Native.Nat.{◌+◌, ◌*◌, ◌<◌}
+use mathlib.Core.Path.{◌≡◌, ◌∙◌, refl, ap}
+use borrow.Author.Rules.{rules}
+use native.Mathlib.Nat.{add-sub_cancel_left}
+use native.Mathlib.Omega.{arith}
+use lib.ListN.{length-take, length-drop, length-set}
+use Rattle.binary.proofs.BoundedLaws.{sum_none}
+use Rattle.binary.proofs.ListLaws.{join_none, join_part}
+use Rattle.casefile.specs.Layout.{bids_offset, most_hours}
+use Rattle.casefile.specs.Decode.{format_in, section_of, decode}
+use Rattle.casefile.proofs.RecordLaws.{count_is}
+use Rattle.conduct.proofs.FileLaws.{has_section, past_few, file_place}
+use Rattle.sanctions.proofs.FoundLaws.{SanctionTurn}
+use Rattle.case_rows.specs.StageRow.{written_row}
+use Rattle.case_rows.specs.StageRows.{row_in}
+use Rattle.case_rows.proofs.RowsLaws.{few, fine, sound, turn, row_is, penalty_by, due_more, rows_all}
+use Rattle.case_rows.proofs.WriteLaws.{row_bytes_length}
+use Rattle.case_rows.proofs.rows.settle_rows.Goals as goal
+
+pub format_of-format-requires : goal.format_of-format-requires
+format_of-format-requires c = (has_section _ c.requires.accepted_file.0 0 (omega arith)).header
+
+pub section-units-requires : goal.section-units-requires
+section-units-requires c = has_section _ c.requires.accepted_file.0 0 (omega arith)
+
+pub section-past-requires : goal.section-past-requires
+section-past-requires c = has_section _ c.requires.accepted_file.0 2 (omega arith)
+
+pub section-events-requires : goal.section-events-requires
+section-events-requires c = has_section _ c.requires.accepted_file.0 3 (omega arith)
+
+pub loop-i-init : goal.loop-i-init
+loop-i-init c = (omega arith, refl, join_none _ (bids_offset + 4 * most_hours) _, refl, (λ j q. absurd (let z : ⊥ = omega arith in z)), sum_none _, sum_none _, omega arith)
+
+pub sanction_at-sanction-requires : goal.sanction_at-sanction-requires
+sanction_at-sanction-requires c =
+    let formatted : c.format_of-format.result ≡ format_in c.args.file.now = c.format_of-format.ensures in
+    let events_of : c.section-events.result.now ≡ section_of c.args.file.now 3 = c.section-events.ensures in
+    let count : c.event_count-n.result ≡ (decode c.args.file.now).events.count = c.event_count-n.ensures ∙ count_is _ c.args.file.now _ formatted events_of in
+    let past_of : c.section-past.result.now ≡ section_of c.args.file.now 2 = c.section-past.ensures in
+    let units_of : c.section-units.result.now ≡ section_of c.args.file.now 0 = c.section-units.ensures in
+    let t = c in
+    let l = t in
+    let s = l in
+    let f = s.args.file.now in
+    let a = s.requires.accepted_file.0 in
+    let q = count in record { in_range = (omega arith, omega (arith, few f a), past_few f a _ past_of); sound = sound f a _ _ _ _ formatted units_of past_of events_of _ _ _ _ s.requires.accepted_file.1 (λ b. (l.shared_slice_known-1.given b).fits) }
+
+pub row_of-row-requires : goal.row_of-row-requires
+row_of-row-requires c =
+    let formatted : c.format_of-format.result ≡ format_in c.args.file.now = c.format_of-format.ensures in
+    let events_of : c.section-events.result.now ≡ section_of c.args.file.now 3 = c.section-events.ensures in
+    let count : c.event_count-n.result ≡ (decode c.args.file.now).events.count = c.event_count-n.ensures ∙ count_is _ c.args.file.now _ formatted events_of in
+    let below : c.loop-i.i < (decode c.args.file.now).events.count = let q = count in omega (arith, c.loop-i-test.true) in
+    let inside : c.loop-i.i < 200 = let q = below in let k = few c.args.file.now c.requires.accepted_file.0 in omega arith in
+    let units_of : c.section-units.result.now ≡ section_of c.args.file.now 0 = c.section-units.ensures in
+    let past_of : c.section-past.result.now ≡ section_of c.args.file.now 2 = c.section-past.ensures in
+    let t = c in
+    let l = t in
+    let s = l in
+    let f = s.args.file.now in
+    let a = s.requires.accepted_file.0 in record { in_range = (omega arith, inside, fine f a _ _ _ _ formatted units_of past_of events_of); place_in_range = file_place f a _ _ _ formatted units_of events_of _ _ (s.requires.accepted_file.1.placed _ below) below }
+
+pub offset_bounds-penalties-i : goal.offset_bounds-penalties-i
+offset_bounds-penalties-i c =
+    let formatted : c.format_of-format.result ≡ format_in c.args.file.now = c.format_of-format.ensures in
+    let events_of : c.section-events.result.now ≡ section_of c.args.file.now 3 = c.section-events.ensures in
+    let count : c.event_count-n.result ≡ (decode c.args.file.now).events.count = c.event_count-n.ensures ∙ count_is _ c.args.file.now _ formatted events_of in
+    let below : c.loop-i.i < (decode c.args.file.now).events.count = let q = count in omega (arith, c.loop-i-test.true) in
+    let inside : c.loop-i.i < 200 = let q = below in let k = few c.args.file.now c.requires.accepted_file.0 in omega arith in
+    let q = inside in omega arith
+
+pub bounds-penalties-i : goal.bounds-penalties-i
+bounds-penalties-i c =
+    let formatted : c.format_of-format.result ≡ format_in c.args.file.now = c.format_of-format.ensures in
+    let events_of : c.section-events.result.now ≡ section_of c.args.file.now 3 = c.section-events.ensures in
+    let count : c.event_count-n.result ≡ (decode c.args.file.now).events.count = c.event_count-n.ensures ∙ count_is _ c.args.file.now _ formatted events_of in
+    let below : c.loop-i.i < (decode c.args.file.now).events.count = let q = count in omega (arith, c.loop-i-test.true) in
+    let inside : c.loop-i.i < 200 = let q = below in let k = few c.args.file.now c.requires.accepted_file.0 in omega arith in
+    inside
+
+pub overflow_add-total : goal.overflow_add-total
+overflow_add-total c =
+    let paid : c.row_of-row.result.penalty ≡ c.sanction_at-sanction.result.penalty = penalty_by _ _ _ _ _ _ _ _ _ _ c.row_of-row.ensures.value in
+    let formatted : c.format_of-format.result ≡ format_in c.args.file.now = c.format_of-format.ensures in
+    let units_of : c.section-units.result.now ≡ section_of c.args.file.now 0 = c.section-units.ensures in
+    let past_of : c.section-past.result.now ≡ section_of c.args.file.now 2 = c.section-past.ensures in
+    let events_of : c.section-events.result.now ≡ section_of c.args.file.now 3 = c.section-events.ensures in
+    let count : c.event_count-n.result ≡ (decode c.args.file.now).events.count = c.event_count-n.ensures ∙ count_is _ c.args.file.now _ formatted events_of in
+    let below : c.loop-i.i < (decode c.args.file.now).events.count = let q = count in omega (arith, c.loop-i-test.true) in
+    let inside : c.loop-i.i < 200 = let q = below in let k = few c.args.file.now c.requires.accepted_file.0 in omega arith in
+    let turned : let l = c in
+    SanctionTurn (decode l.args.file.now) l.loop-i.i l.loop-i.total c.sanction_at-sanction.result l.loop-i.penalties = let t = c in
+    let l = t in
+    let s = l in
+    turn s.args.file.now s.requires.accepted_file.0 _ _ _ _ formatted units_of past_of events_of _ _ _ _ s.requires.accepted_file.1
+    l.loop-i.i below _ _ _ c.sanction_at-sanction.ensures (let q = inside in omega (arith, l.loop-i.invariant.3)) l.loop-i.invariant.4 l.loop-i.invariant.5 in
+    let r = c in omega (arith, paid, turned.fits)
+
+pub overflow_add-due : goal.overflow_add-due
+overflow_add-due c =
+    let formatted : c.format_of-format.result ≡ format_in c.args.file.now = c.format_of-format.ensures in
+    let events_of : c.section-events.result.now ≡ section_of c.args.file.now 3 = c.section-events.ensures in
+    let count : c.event_count-n.result ≡ (decode c.args.file.now).events.count = c.event_count-n.ensures ∙ count_is _ c.args.file.now _ formatted events_of in
+    let below : c.loop-i.i < (decode c.args.file.now).events.count = let q = count in omega (arith, c.loop-i-test.true) in
+    let inside : c.loop-i.i < 200 = let q = below in let k = few c.args.file.now c.requires.accepted_file.0 in omega arith in
+    let r = c in let q = inside in omega (arith, r.row_of-row.ensures.make_up_in_range, r.loop-i.invariant.7)
+
+pub overflow_mul-at : goal.overflow_mul-at
+overflow_mul-at c =
+    let formatted : c.format_of-format.result ≡ format_in c.args.file.now = c.format_of-format.ensures in
+    let events_of : c.section-events.result.now ≡ section_of c.args.file.now 3 = c.section-events.ensures in
+    let count : c.event_count-n.result ≡ (decode c.args.file.now).events.count = c.event_count-n.ensures ∙ count_is _ c.args.file.now _ formatted events_of in
+    let below : c.loop-i.i < (decode c.args.file.now).events.count = let q = count in omega (arith, c.loop-i-test.true) in
+    let inside : c.loop-i.i < 200 = let q = below in let k = few c.args.file.now c.requires.accepted_file.0 in omega arith in
+    let q = inside in omega arith
+
+pub overflow_add-end : goal.overflow_add-end
+overflow_add-end c =
+    let formatted : c.format_of-format.result ≡ format_in c.args.file.now = c.format_of-format.ensures in
+    let events_of : c.section-events.result.now ≡ section_of c.args.file.now 3 = c.section-events.ensures in
+    let count : c.event_count-n.result ≡ (decode c.args.file.now).events.count = c.event_count-n.ensures ∙ count_is _ c.args.file.now _ formatted events_of in
+    let below : c.loop-i.i < (decode c.args.file.now).events.count = let q = count in omega (arith, c.loop-i-test.true) in
+    let inside : c.loop-i.i < 200 = let q = below in let k = few c.args.file.now c.requires.accepted_file.0 in omega arith in
+    let q = inside in omega arith
+
+pub slice_bounds-write_row-end : goal.slice_bounds-write_row-end
+slice_bounds-write_row-end c =
+    let formatted : c.format_of-format.result ≡ format_in c.args.file.now = c.format_of-format.ensures in
+    let events_of : c.section-events.result.now ≡ section_of c.args.file.now 3 = c.section-events.ensures in
+    let count : c.event_count-n.result ≡ (decode c.args.file.now).events.count = c.event_count-n.ensures ∙ count_is _ c.args.file.now _ formatted events_of in
+    let below : c.loop-i.i < (decode c.args.file.now).events.count = let q = count in omega (arith, c.loop-i-test.true) in
+    let t = c in
+    omega (arith, below, t.requires.has_room, t.loop-i.invariant.1)
+
+pub write_row-requires : goal.write_row-requires
+write_row-requires c =
+    let formatted : c.format_of-format.result ≡ format_in c.args.file.now = c.format_of-format.ensures in
+    let events_of : c.section-events.result.now ≡ section_of c.args.file.now 3 = c.section-events.ensures in
+    let count : c.event_count-n.result ≡ (decode c.args.file.now).events.count = c.event_count-n.ensures ∙ count_is _ c.args.file.now _ formatted events_of in
+    let below : c.loop-i.i < (decode c.args.file.now).events.count = let q = count in omega (arith, c.loop-i-test.true) in
+    let t = c in
+    simp (add-sub_cancel_left, length-take, length-drop) (omega (arith, below, t.requires.has_room, t.loop-i.invariant.1))
+
+pub overflow_add-i : goal.overflow_add-i
+overflow_add-i c =
+    let formatted : c.format_of-format.result ≡ format_in c.args.file.now = c.format_of-format.ensures in
+    let events_of : c.section-events.result.now ≡ section_of c.args.file.now 3 = c.section-events.ensures in
+    let count : c.event_count-n.result ≡ (decode c.args.file.now).events.count = c.event_count-n.ensures ∙ count_is _ c.args.file.now _ formatted events_of in
+    let below : c.loop-i.i < (decode c.args.file.now).events.count = let q = count in omega (arith, c.loop-i-test.true) in
+    let inside : c.loop-i.i < 200 = let q = below in let k = few c.args.file.now c.requires.accepted_file.0 in omega arith in
+    let q = inside in omega arith
+
+pub loop-i-smaller : goal.loop-i-smaller
+loop-i-smaller c =
+    let formatted : c.format_of-format.result ≡ format_in c.args.file.now = c.format_of-format.ensures in
+    let events_of : c.section-events.result.now ≡ section_of c.args.file.now 3 = c.section-events.ensures in
+    let count : c.event_count-n.result ≡ (decode c.args.file.now).events.count = c.event_count-n.ensures ∙ count_is _ c.args.file.now _ formatted events_of in
+    let below : c.loop-i.i < (decode c.args.file.now).events.count = let q = count in omega (arith, c.loop-i-test.true) in
+    let q = below in omega arith
+
+pub loop-i-preserved : goal.loop-i-preserved
+loop-i-preserved c =
+    let formatted : c.format_of-format.result ≡ format_in c.args.file.now = c.format_of-format.ensures in
+    let events_of : c.section-events.result.now ≡ section_of c.args.file.now 3 = c.section-events.ensures in
+    let count : c.event_count-n.result ≡ (decode c.args.file.now).events.count = c.event_count-n.ensures ∙ count_is _ c.args.file.now _ formatted events_of in
+    let below : c.loop-i.i < (decode c.args.file.now).events.count = let q = count in omega (arith, c.loop-i-test.true) in
+    let units_of : c.section-units.result.now ≡ section_of c.args.file.now 0 = c.section-units.ensures in
+    let past_of : c.section-past.result.now ≡ section_of c.args.file.now 2 = c.section-past.ensures in
+    let inside : c.loop-i.i < 200 = let q = below in let k = few c.args.file.now c.requires.accepted_file.0 in omega arith in
+    let turned : let l = c in
+    SanctionTurn (decode l.args.file.now) l.loop-i.i l.loop-i.total c.sanction_at-sanction.result l.loop-i.penalties = let t = c in
+    let l = t in
+    let s = l in
+    turn s.args.file.now s.requires.accepted_file.0 _ _ _ _ formatted units_of past_of events_of _ _ _ _ s.requires.accepted_file.1
+    l.loop-i.i below _ _ _ c.sanction_at-sanction.ensures (let q = inside in omega (arith, l.loop-i.invariant.3)) l.loop-i.invariant.4 l.loop-i.invariant.5 in
+    let made : let l = c in let a = l.args in
+    c.row_of-row.result ≡ row_in a.file.now a.levels.now a.corrects.now l.loop-i.i = let t = c in
+    let l = t in
+    let s = l in
+    row_is s.args.file.now s.requires.accepted_file.0 _ _ _ _ formatted units_of past_of events_of _ _ _ _ s.requires.accepted_file.1
+    l.loop-i.i below _ _ _ _ _ _ turned c.row_of-row.ensures.value in
+    let paid : c.row_of-row.result.penalty ≡ c.sanction_at-sanction.result.penalty = penalty_by _ _ _ _ _ _ _ _ _ _ c.row_of-row.ensures.value in
+    let w = c in
+    let r = w in
+    let l = r in
+    let a = l.args in (
+      (let q = below in omega arith),
+      search rules,
+      join_part (bids_offset + 4 * most_hours) _ (λ j. row_bytes_length (row_in a.file.now a.levels.now a.corrects.now j)) a.rows.now l.loop-i.rows w.write_row.new.row l.loop-i.i l.loop-i.invariant.2
+          (w.write_row.ensures ∙ ap written_row made),
+      length-set l.loop-i.penalties l.loop-i.i r.row_of-row.result.penalty ∙ l.loop-i.invariant.3,
+      rw paid turned.held,
+      rw paid turned.summed,
+      due_more a.file.now a.levels.now a.corrects.now _ _ _ l.loop-i.invariant.6 made,
+      omega (arith, r.row_of-row.ensures.make_up_in_range, l.loop-i.invariant.7),
+    )
+
+pub shape_of-rows : goal.shape_of-rows
+shape_of-rows c = c.loop-i.invariant.1
+
+pub returns : goal.returns
+returns c =
+    let formatted : c.format_of-format.result ≡ format_in c.args.file.now = c.format_of-format.ensures in
+    let events_of : c.section-events.result.now ≡ section_of c.args.file.now 3 = c.section-events.ensures in
+    let count : c.event_count-n.result ≡ (decode c.args.file.now).events.count = c.event_count-n.ensures ∙ count_is _ c.args.file.now _ formatted events_of in
+    let l = c in
+    let e : l.loop-i.i ≡ (decode l.args.file.now).events.count = let q = count in omega (arith, l.loop-i.invariant.0, c.loop-i-test.false) in
+    let a = l.args in
+    let all = rows_all a.file.now a.levels.now a.corrects.now a.rows.now _ _ _ _ e l.loop-i.invariant.5 l.loop-i.invariant.6 l.loop-i.invariant.2 in
+    record { value = all.0; rows_after = all.1 }
