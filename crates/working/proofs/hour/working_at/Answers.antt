@@ -1,0 +1,107 @@
+use Prim.Native.Nat.{◌≤◌, ◌<◌}
+use mathlib.Core.Path.{refl, ◌∙◌}
+use native.Mathlib.Omega.{arith}
+use Rattle.casefile.specs.Layout.{most_events}
+use Rattle.casefile.specs.Decode.{events_in, decode}
+use Rattle.casefile.proofs.RecordLaws.{count_is}
+use Rattle.conduct.proofs.FileLaws.{has_section, header_long, past_few, file_few, file_bids}
+use Rattle.working.proofs.WorkingLaws.{figures_full, counts_are, flag_is, small_s, working_full}
+use Rattle.working.proofs.hour.working_at.Goals as goal
+
+below : (s : goal.After-section-events) → s.args.i < (events_in s.format_of-format.result s.section-events.result.now).count
+below s = let q = count_is _ s.args.file.now _ s.format_of-format.ensures s.section-events.ensures in omega (arith, s.requires.accepted_file.1)
+
+few : (s : goal.After-section-events) → (events_in s.format_of-format.result s.section-events.result.now).count ≤ most_events
+few s = file_few s.args.file.now s.requires.accepted_file.0 _ _ _ s.format_of-format.ensures refl s.section-events.ensures
+
+inside : (s : goal.After-section-events) → s.args.i < most_events
+inside s = let b = below s in let n = few s in omega arith
+
+pub find_flags-requires : goal.find_flags-requires
+find_flags-requires c = let p = c.requires in record { accepted_file = p.accepted_file.0; places_found = p.places_found; levels_found = p.levels_found }
+
+pub format_of-format-requires : goal.format_of-format-requires
+format_of-format-requires c = header_long _ c.requires.accepted_file.0
+
+pub section-events-requires : goal.section-events-requires
+section-events-requires c = has_section _ c.requires.accepted_file.0 3 (omega arith)
+
+pub offset_bounds-masks-i : goal.offset_bounds-masks-i
+offset_bounds-masks-i c = let b = inside c in omega arith
+
+pub bounds-masks-i : goal.bounds-masks-i
+bounds-masks-i c = let b = inside c in omega arith
+
+pub section-requires : goal.section-requires
+section-requires c = has_section _ c.requires.accepted_file.0 2 (omega arith)
+
+pub instances_at-instances-requires : goal.instances_at-instances-requires
+instances_at-instances-requires c =
+    let below : c.args.i < (events_in c.format_of-format.result c.section-events.result.now).count = let q = count_is _ c.args.file.now _ c.format_of-format.ensures c.section-events.ensures in omega (arith, c.requires.accepted_file.1) in
+    let few : (events_in c.format_of-format.result c.section-events.result.now).count ≤ most_events = file_few c.args.file.now c.requires.accepted_file.0 _ _ _ c.format_of-format.ensures refl c.section-events.ensures in
+    let inside : c.args.i < most_events = let b = below in let n = few in omega arith in
+    let s = c in (below, inside, past_few s.args.file.now s.requires.accepted_file.0 _ c.section.ensures)
+
+pub party_figures-sums-requires : goal.party_figures-sums-requires
+party_figures-sums-requires c = let s = c in record { accepted_file = s.requires.accepted_file; places_found = s.requires.places_found; leaders_found = s.find_flags.ensures.led }
+
+pub time_totals-totals-requires : goal.time_totals-totals-requires
+time_totals-totals-requires c =
+    let below : c.args.i < (events_in c.format_of-format.result c.section-events.result.now).count = let q = count_is _ c.args.file.now _ c.format_of-format.ensures c.section-events.ensures in omega (arith, c.requires.accepted_file.1) in
+    let few : (events_in c.format_of-format.result c.section-events.result.now).count ≤ most_events = file_few c.args.file.now c.requires.accepted_file.0 _ _ _ c.format_of-format.ensures refl c.section-events.ensures in
+    let s = c in
+    record { in_range = (below, few); bids_in_order = file_bids s.args.file.now s.requires.accepted_file.0 _ _ _ s.format_of-format.ensures refl s.section-events.ensures }
+
+pub offset_bounds-places-i : goal.offset_bounds-places-i
+offset_bounds-places-i c =
+    let below : c.args.i < (events_in c.format_of-format.result c.section-events.result.now).count = let q = count_is _ c.args.file.now _ c.format_of-format.ensures c.section-events.ensures in omega (arith, c.requires.accepted_file.1) in
+    let few : (events_in c.format_of-format.result c.section-events.result.now).count ≤ most_events = file_few c.args.file.now c.requires.accepted_file.0 _ _ _ c.format_of-format.ensures refl c.section-events.ensures in
+    let inside : c.args.i < most_events = let b = below in let n = few in omega arith in
+    let b = inside in omega arith
+
+pub bounds-places-i : goal.bounds-places-i
+bounds-places-i c =
+    let below : c.args.i < (events_in c.format_of-format.result c.section-events.result.now).count = let q = count_is _ c.args.file.now _ c.format_of-format.ensures c.section-events.ensures in omega (arith, c.requires.accepted_file.1) in
+    let few : (events_in c.format_of-format.result c.section-events.result.now).count ≤ most_events = file_few c.args.file.now c.requires.accepted_file.0 _ _ _ c.format_of-format.ensures refl c.section-events.ensures in
+    let inside : c.args.i < most_events = let b = below in let n = few in omega arith in
+    let b = inside in omega arith
+
+pub offset_bounds-levels-i : goal.offset_bounds-levels-i
+offset_bounds-levels-i c =
+    let below : c.args.i < (events_in c.format_of-format.result c.section-events.result.now).count = let q = count_is _ c.args.file.now _ c.format_of-format.ensures c.section-events.ensures in omega (arith, c.requires.accepted_file.1) in
+    let few : (events_in c.format_of-format.result c.section-events.result.now).count ≤ most_events = file_few c.args.file.now c.requires.accepted_file.0 _ _ _ c.format_of-format.ensures refl c.section-events.ensures in
+    let inside : c.args.i < most_events = let b = below in let n = few in omega arith in
+    let b = inside in omega arith
+
+pub bounds-levels-i : goal.bounds-levels-i
+bounds-levels-i c =
+    let below : c.args.i < (events_in c.format_of-format.result c.section-events.result.now).count = let q = count_is _ c.args.file.now _ c.format_of-format.ensures c.section-events.ensures in omega (arith, c.requires.accepted_file.1) in
+    let few : (events_in c.format_of-format.result c.section-events.result.now).count ≤ most_events = file_few c.args.file.now c.requires.accepted_file.0 _ _ _ c.format_of-format.ensures refl c.section-events.ensures in
+    let inside : c.args.i < most_events = let b = below in let n = few in omega arith in
+    let b = inside in omega arith
+
+pub offset_bounds-totals-h : goal.offset_bounds-totals-h
+offset_bounds-totals-h c = omega (arith, c.requires.accepted_file.2)
+
+pub bounds-totals-h : goal.bounds-totals-h
+bounds-totals-h c = omega (arith, c.requires.accepted_file.2)
+
+pub figures_at-figures-requires : goal.figures_at-figures-requires
+figures_at-figures-requires c = let p = c.requires in record { accepted_file = p.accepted_file; place_found = p.places_found _ p.accepted_file.1 }
+
+pub working_from-requires : goal.working_from-requires
+working_from-requires c = small_s _ _ _ _ _ _ _ c.figures_at-figures.ensures c.party_figures-sums.ensures.sum_in_range
+
+pub returns : goal.returns
+returns c =
+    let s = c in
+    let a = s.args in
+    let p = s.requires in
+    let ef = s.format_of-format.ensures in
+    let f = s.find_flags.ensures in
+    working_full (decode a.file.now) a.i a.h _ _ _ _ c.working_from.ensures
+    (figures_full _ a.file.now _ ef s.section-events.ensures a.levels.now p.levels_found a.i a.h _ _ _ p.accepted_file.1 c.figures_at-figures.ensures
+    c.party_figures-sums.ensures.value (c.time_totals-totals.ensures.each _ p.accepted_file.2))
+    (c.bit_of-flagged.ensures ∙ flag_is a.file.now a.i a.h _ (f.flagged _ p.accepted_file.1) p.accepted_file.2)
+    (counts_are a.file.now p.accepted_file.0 _ _ _ _ s.find_flags.new.leaders _ a.i _ ef c.section.ensures s.section-events.ensures
+    (record { group_held = f.grouped; leader_held = f.led; mask_held = f.flagged }) p.accepted_file.1 c.instances_at-instances.ensures)
