@@ -29,7 +29,7 @@ use Rattle.sanctions.specs.StageGiven.{Accepted, FoundMasks, Sound}
 use Rattle.sanctions.specs.StageTables.{row_at, sanction_of}
 use Rattle.sanctions.proofs.TableLaws.{after_small}
 use Rattle.sanctions.proofs.AcceptedFigures as sanctions
-use Rattle.sanctions.proofs.FoundLaws as found-laws
+use Rattle.sanctions.proofs.FoundLaws as found_laws
 use Rattle.penalty_terms.specs.declared.penalty_working.PenaltyWorking.{PenaltyWorking}
 use Rattle.penalty_terms.specs.declared.penalty_working.FuelTerms.{FuelTerms}
 use Rattle.penalty_terms.specs.PenaltyWorking.{bearer, charge_of, hour_term, hour_loss, penalty_working_at, refused_penalty, penalty_working_of}
@@ -142,7 +142,7 @@ module _ (f : List ℕ) (acc : AcceptedFile f) (groups leaders masks : List ℕ)
     unfolding decode case_in
     sound b =
         rw (ef, ee)
-        (found-laws.sound (format_in f) (section_of f 0) (section_of f 1) (section_of f 2) (section_of f 3) groups leaders masks accepted found
+        (found_laws.sound (format_in f) (section_of f 0) (section_of f 1) (section_of f 2) (section_of f 3) groups leaders masks accepted found
         (accepted_runs f acc.correction acc.rows_length b acc.accepted))
 
     pub row_found : (penalties : List ℕ) (i : ℕ) (s : Sanction) → i < (decode f).events.count → Holds i penalties (penalty (decode f))
@@ -151,7 +151,7 @@ module _ (f : List ℕ) (acc : AcceptedFile f) (groups leaders masks : List ℕ)
     row_found penalties i s l held q =
         q
         ∙ rw (ef, ep, ee)
-        (found-laws.row_is (format_in f) (section_of f 0) (section_of f 1) (section_of f 2) (section_of f 3) groups leaders masks accepted found penalties i l held)
+        (found_laws.row_is (format_in f) (section_of f 0) (section_of f 1) (section_of f 2) (section_of f 3) groups leaders masks accepted found penalties i l held)
 
   -- ---- the terms of event i
 
@@ -197,7 +197,7 @@ module _ (f : List ℕ) (acc : AcceptedFile f) (groups leaders masks : List ℕ)
     unfolding fuel_in fuel_of charge_of tcc_change multiplier decode case_in
     fuel_is k =
         rw (
-          found-laws.day-is (format_in f) (section_of f 0) (section_of f 1) (section_of f 2) (section_of f 3) groups leaders masks accepted found
+          found_laws.day_is (format_in f) (section_of f 0) (section_of f 1) (section_of f 2) (section_of f 3) groups leaders masks accepted found
               (leader_of (decode f) i) (leader_below (decode f) (ordered f acc) (bare f acc) i l k) (leader_kind (decode f) (ordered f acc) (bare f acc) i l k) (leader_own (decode f) (ordered f acc) (bare f acc) i l k),
           leader_kind (decode f) (ordered f acc) (bare f acc) i l k,
           leader_lowest (decode f) (ordered f acc) (bare f acc) i l k,
@@ -220,8 +220,8 @@ module _ (f : List ℕ) (acc : AcceptedFile f) (groups leaders masks : List ℕ)
         list_same most_hours _ _
         (λ h m.
         rw (
-          found-laws.hour-energy-is (format_in f) (section_of f 0) (section_of f 1) (section_of f 2) (section_of f 3) groups leaders masks accepted found (positive_part 32) i h l m,
-          found-laws.hour-revenue-is (format_in f) (section_of f 0) (section_of f 1) (section_of f 2) (section_of f 3) groups leaders masks accepted found i h l m,
+          found_laws.hour_energy_is (format_in f) (section_of f 0) (section_of f 1) (section_of f 2) (section_of f 3) groups leaders masks accepted found (positive_part 32) i h l m,
+          found_laws.hour_revenue_is (format_in f) (section_of f 0) (section_of f 1) (section_of f 2) (section_of f 3) groups leaders masks accepted found i h l m,
         )
         (pick (flagged (decode f) i h) (eqb ((decode f).events.kind i) 2) (eqb ((decode f).events.kind i) 1 || eqb ((decode f).events.kind i) 3)
         ((decode f).events.b i h) ((decode f).a i h * positive_part 32 ((decode f).events.b i h))))
@@ -237,7 +237,7 @@ module _ (f : List ℕ) (acc : AcceptedFile f) (groups leaders masks : List ℕ)
     losses =
         list_same most_hours _ _
         (λ h m.
-        rw (found-laws.hour-energy-is (format_in f) (section_of f 0) (section_of f 1) (section_of f 2) (section_of f 3) groups leaders masks accepted found (negative_part 32) i h l m))
+        rw (found_laws.hour_energy_is (format_in f) (section_of f 0) (section_of f 1) (section_of f 2) (section_of f 3) groups leaders masks accepted found (negative_part 32) i h l m))
 
     -- the sums of the hours
     amounts : added_in 1 ((decode f).events.kind i) (list_to most_hours (hour_term (decode f) i)) ≡ cond (eqb ((decode f).events.kind i) 1) (withheld_amount (decode f) i) 0

@@ -1,0 +1,44 @@
+use native.Mathlib.Nat.{le_refl}
+use native.Mathlib.Omega.{arith}
+use borrow.Author.Tests.{eq-eqb, ne_eqb}
+use Rattle.sanctions.proofs.TableLaws.{SmallDay, day_small}
+use Rattle.penalty_terms.specs.StageTerms.{fuel_of, no_fuel, fuel_in}
+use Rattle.penalty_terms.proofs.penalty_working.fuel_terms.Goals as goal
+
+pub returns-then-kind-ne3 : goal.returns-then-kind-ne3
+unfolding fuel_in fuel_of no_fuel
+returns-then-kind-ne3 c = rw (ne_eqb _ 3 c.if-kind-ne3.true)
+
+pub offset_bounds-masks-row : goal.offset_bounds-masks-row
+unfolding fuel_in fuel_of no_fuel
+offset_bounds-masks-row c = let p = c.requires in omega (arith, p.in_range.0, p.in_range.1)
+
+pub bounds-masks-row : goal.bounds-masks-row
+unfolding fuel_in fuel_of no_fuel
+bounds-masks-row c = let p = c.requires in omega (arith, p.in_range.0, p.in_range.1)
+
+pub party_day-day-requires : goal.party_day-day-requires
+unfolding fuel_in fuel_of no_fuel
+party_day-day-requires c = let p = c.requires in (p.in_range.0, p.in_range.1, (p.of_fuel c.if-kind-ne3.false).0, p.in_range.2)
+
+pub fuel_charge-x-requires : goal.fuel_charge-x-requires
+unfolding fuel_in fuel_of no_fuel
+fuel_charge-x-requires c =
+    let small : SmallDay c.party_day-day.result = let s = c in
+    rw c.party_day-day.ensures
+    (day_small s.args.format s.args.events.now s.args.leaders.now _ s.args.row (s.requires.of_fuel c.if-kind-ne3.false).0 s.requires.in_range.2 _ (le_refl _) s.requires.in_range.1) in
+    let d = small in
+    let p = c.requires in
+    ((p.of_fuel c.if-kind-ne3.false).1, d.gain_small, d.loss_small, rw c.difference-t.ensures (omega (arith, d.rise_small)))
+
+pub returns : goal.returns
+unfolding fuel_in fuel_of no_fuel
+returns c =
+    rw (
+      c.difference-2.ensures,
+      c.difference.ensures,
+      c.fuel_charge-x.ensures.0,
+      c.difference-t.ensures,
+      c.party_day-day.ensures,
+      eq-eqb _ 3 c.if-kind-ne3.false,
+    )

@@ -1,0 +1,153 @@
+use Prim.Native.Nat.{ℕ, ◌≤◌, ◌<◌}
+use mathlib.Core.Path.{◌≡◌, ◌∙◌, refl, ap, subst}
+use native.Mathlib.Omega.{arith}
+use lib.ListN.{length-set}
+use Rattle.binary.specs.Lists.{Holds}
+use Rattle.binary.proofs.ListLaws.{holds_more}
+use Rattle.casefile.specs.Layout.{most_events, most_past}
+use Rattle.casefile.specs.Decode.{format_in, section_of, past_in, events_in, decode}
+use Rattle.casefile.proofs.RecordLaws.{count_is}
+use Rattle.conduct.proofs.FileLaws.{has_section, header_long, past_few, file_few}
+use Rattle.sanctions.specs.declared.sanction.Sanction.{Sanction}
+use Rattle.sanctions.specs.Penalties.{penalty}
+use Rattle.sanctions.specs.StageGiven.{Sound}
+use Rattle.sanctions.specs.StageTables.{sanction_of}
+use Rattle.penalty_terms.proofs.TermLaws.{sound, row_found}
+use Rattle.penalty_terms.proofs.penalty_working.row_sanction.Goals as goal
+
+-- the sanction of the turn's row
+turned : (c : goal.After-sanction_at-sanction) → let l = c in
+    c.sanction_at-sanction.result ≡ sanction_of (decode l.args.file.now) l.loop-i.i
+turned c =
+    let formatted : c.format_of-format.result ≡ format_in c.args.file.now = c.format_of-format.ensures in
+    let past_of : c.section-past.result.now ≡ section_of c.args.file.now 2 = c.section-past.ensures in
+    let events_of : c.section-events.result.now ≡ section_of c.args.file.now 3 = c.section-events.ensures in
+    let below : c.loop-i.i < (decode c.args.file.now).events.count = omega (arith, c.loop-i-test.true, c.requires.accepted_file.1) in
+    let t = c in
+    let l = t in
+    row_found l.args.file.now l.requires.accepted_file.0 _ _ _ l.requires.found_masks _ _ _ formatted past_of events_of _ _ _ below l.loop-i.invariant.2
+    c.sanction_at-sanction.ensures
+
+pub format_of-format-requires : goal.format_of-format-requires
+format_of-format-requires c = header_long _ c.requires.accepted_file.0
+
+pub section-past-requires : goal.section-past-requires
+section-past-requires c = has_section _ c.requires.accepted_file.0 2 (omega arith)
+
+pub section-events-requires : goal.section-events-requires
+section-events-requires c = has_section _ c.requires.accepted_file.0 3 (omega arith)
+
+pub loop-i-init : goal.loop-i-init
+loop-i-init c = (omega arith, refl, (λ j q. absurd (let z : ⊥ = omega arith in z)))
+
+pub sanction_at-sanction-requires : goal.sanction_at-sanction-requires
+sanction_at-sanction-requires c =
+    let formatted : c.format_of-format.result ≡ format_in c.args.file.now = c.format_of-format.ensures in
+    let events_of : c.section-events.result.now ≡ section_of c.args.file.now 3 = c.section-events.ensures in
+    let few : (decode c.args.file.now).events.count ≤ most_events = let f = c.args.file.now in
+    let q = count_is _ f _ formatted events_of in
+    let n = file_few f c.requires.accepted_file.0 _ _ _ formatted refl events_of in
+    omega arith in
+    let past_of : c.section-past.result.now ≡ section_of c.args.file.now 2 = c.section-past.ensures in
+    let ready : (i : ℕ) → i < (decode c.args.file.now).events.count →
+    let format = c.format_of-format.result in
+    let events = c.section-events.result.now in
+    ((i < (events_in format events).count) × ((events_in format events).count ≤ most_events) × ((past_in c.section-past.result.now).count ≤ most_past))
+    × Sound format events c.args.leaders.now = λ i b. let f = c.args.file.now in
+    let a = c.requires.accepted_file.0 in
+    let q = count_is _ f _ formatted events_of in (
+      (omega arith, omega (arith, few), past_few f a _ past_of),
+      sound f a _ _ _ c.requires.found_masks _ _ _ formatted past_of events_of (λ b. (c.shared_slice_known-1.given b).fits),
+    ) in
+    let below : c.loop-i.i < (decode c.args.file.now).events.count = omega (arith, c.loop-i-test.true, c.requires.accepted_file.1) in
+    let r = ready _ below in
+    record { in_range = r.0; sound = r.1 }
+
+pub offset_bounds-penalties-i : goal.offset_bounds-penalties-i
+offset_bounds-penalties-i c =
+    let below : c.loop-i.i < (decode c.args.file.now).events.count = omega (arith, c.loop-i-test.true, c.requires.accepted_file.1) in
+    let formatted : c.format_of-format.result ≡ format_in c.args.file.now = c.format_of-format.ensures in
+    let events_of : c.section-events.result.now ≡ section_of c.args.file.now 3 = c.section-events.ensures in
+    let few : (decode c.args.file.now).events.count ≤ most_events = let f = c.args.file.now in
+    let q = count_is _ f _ formatted events_of in
+    let n = file_few f c.requires.accepted_file.0 _ _ _ formatted refl events_of in
+    omega arith in
+    let inside : c.loop-i.i < 200 = omega (arith, below, few) in
+    let q = inside in omega arith
+
+pub bounds-penalties-i : goal.bounds-penalties-i
+bounds-penalties-i c =
+    let below : c.loop-i.i < (decode c.args.file.now).events.count = omega (arith, c.loop-i-test.true, c.requires.accepted_file.1) in
+    let formatted : c.format_of-format.result ≡ format_in c.args.file.now = c.format_of-format.ensures in
+    let events_of : c.section-events.result.now ≡ section_of c.args.file.now 3 = c.section-events.ensures in
+    let few : (decode c.args.file.now).events.count ≤ most_events = let f = c.args.file.now in
+    let q = count_is _ f _ formatted events_of in
+    let n = file_few f c.requires.accepted_file.0 _ _ _ formatted refl events_of in
+    omega arith in
+    let inside : c.loop-i.i < 200 = omega (arith, below, few) in
+    inside
+
+pub overflow_add-i : goal.overflow_add-i
+overflow_add-i c =
+    let below : c.loop-i.i < (decode c.args.file.now).events.count = omega (arith, c.loop-i-test.true, c.requires.accepted_file.1) in
+    let formatted : c.format_of-format.result ≡ format_in c.args.file.now = c.format_of-format.ensures in
+    let events_of : c.section-events.result.now ≡ section_of c.args.file.now 3 = c.section-events.ensures in
+    let few : (decode c.args.file.now).events.count ≤ most_events = let f = c.args.file.now in
+    let q = count_is _ f _ formatted events_of in
+    let n = file_few f c.requires.accepted_file.0 _ _ _ formatted refl events_of in
+    omega arith in
+    let inside : c.loop-i.i < 200 = omega (arith, below, few) in
+    let q = inside in omega arith
+
+pub loop-i-smaller : goal.loop-i-smaller
+loop-i-smaller c = omega (arith, c.loop-i-test.true)
+
+pub loop-i-preserved : goal.loop-i-preserved
+loop-i-preserved c =
+    let below : c.loop-i.i < (decode c.args.file.now).events.count = omega (arith, c.loop-i-test.true, c.requires.accepted_file.1) in
+    let formatted : c.format_of-format.result ≡ format_in c.args.file.now = c.format_of-format.ensures in
+    let events_of : c.section-events.result.now ≡ section_of c.args.file.now 3 = c.section-events.ensures in
+    let few : (decode c.args.file.now).events.count ≤ most_events = let f = c.args.file.now in
+    let q = count_is _ f _ formatted events_of in
+    let n = file_few f c.requires.accepted_file.0 _ _ _ formatted refl events_of in
+    omega arith in
+    let inside : c.loop-i.i < 200 = omega (arith, below, few) in
+    let t = c in
+    let l = t in (
+      omega (arith, t.loop-i-test.true),
+      length-set l.loop-i.penalties l.loop-i.i c.sanction_at-sanction.result.penalty ∙ l.loop-i.invariant.1,
+      holds_more l.loop-i.i l.loop-i.penalties (penalty (decode l.args.file.now)) _ (let q = inside in omega (arith, l.loop-i.invariant.1)) l.loop-i.invariant.2
+          (ap (λ (s : Sanction). s.penalty) (turned c)),
+    )
+
+pub sanction_at-requires : goal.sanction_at-requires
+sanction_at-requires c =
+    let formatted : c.format_of-format.result ≡ format_in c.args.file.now = c.format_of-format.ensures in
+    let events_of : c.section-events.result.now ≡ section_of c.args.file.now 3 = c.section-events.ensures in
+    let few : (decode c.args.file.now).events.count ≤ most_events = let f = c.args.file.now in
+    let q = count_is _ f _ formatted events_of in
+    let n = file_few f c.requires.accepted_file.0 _ _ _ formatted refl events_of in
+    omega arith in
+    let past_of : c.section-past.result.now ≡ section_of c.args.file.now 2 = c.section-past.ensures in
+    let ready : (i : ℕ) → i < (decode c.args.file.now).events.count →
+    let format = c.format_of-format.result in
+    let events = c.section-events.result.now in
+    ((i < (events_in format events).count) × ((events_in format events).count ≤ most_events) × ((past_in c.section-past.result.now).count ≤ most_past))
+    × Sound format events c.args.leaders.now = λ i b. let f = c.args.file.now in
+    let a = c.requires.accepted_file.0 in
+    let q = count_is _ f _ formatted events_of in (
+      (omega arith, omega (arith, few), past_few f a _ past_of),
+      sound f a _ _ _ c.requires.found_masks _ _ _ formatted past_of events_of (λ b. (c.shared_slice_known-1.given b).fits),
+    ) in
+    let r = ready _ c.requires.accepted_file.1 in
+    record { in_range = r.0; sound = r.1 }
+
+pub returns : goal.returns
+returns c =
+    let formatted : c.format_of-format.result ≡ format_in c.args.file.now = c.format_of-format.ensures in
+    let past_of : c.section-past.result.now ≡ section_of c.args.file.now 2 = c.section-past.ensures in
+    let events_of : c.section-events.result.now ≡ section_of c.args.file.now 3 = c.section-events.ensures in
+    let l = c in
+    let e : l.loop-i.i ≡ l.args.row = omega (arith, l.loop-i.invariant.0, c.loop-i-test.false) in
+    row_found l.args.file.now l.requires.accepted_file.0 _ _ _ l.requires.found_masks _ _ _ formatted past_of events_of _ _ _ l.requires.accepted_file.1
+    (subst (λ (n : ℕ). Holds n l.loop-i.penalties (penalty (decode l.args.file.now))) e l.loop-i.invariant.2) c.sanction_at.ensures
