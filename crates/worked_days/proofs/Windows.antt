@@ -1,12 +1,12 @@
 -- Months, windows and capability periods of days named by their dates, by computation.
 use Prim.Native.Nat.{ℕ, ◌+◌, zero-le}
-use mathlib.Core.Bool.{Bool, true, false}
+use mathlib.Core.Bool.{true, false}
 use mathlib.Core.Path.{◌≡◌, refl, sym, ◌∙◌}
 use lib.Dec.{lit≤}
 use borrow.Author.Tests.{le-ltb}
 use Rattle.calendar.specs.Months.{month_length, month_start, month_from, month_of, day_of_month}
 use Rattle.calendar.specs.Periods.{day_within, window_start, period_of, has_period, has_day}
-use Rattle.calendar.specs.Dates.{Date, date, next_day, date_of, day_of, at_most_last, six_months_before, periods_begun}
+use Rattle.calendar.specs.Dates.{date, next_day, date_of, day_of, at_most_last, six_months_before}
 use Rattle.calendar.proofs.PeriodLaws.{has_day_is}
 use Rattle.calendar.proofs.DateLaws.{every_day}
 use Rattle.tariff.specs.SanctionRules.{fuel_day_counts}

@@ -1,1 +1,2 @@
 // Days, windows and periods by computation: proofs alone.
+#![tactic(auto)]
