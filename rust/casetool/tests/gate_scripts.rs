@@ -103,7 +103,7 @@ fn the_last_line_of_the_gate_is_its_verdict() {
         (Some(0), Some("3 passed, 0 failed")),
         "{errors}"
     );
-    let said = "test: proves everything from nothing, 20 to 40 minutes on two processors, by the machine; each crate is said as it is done, with its time\n";
+    let said = "test: proves everything from nothing, 20 to 33 minutes on two processors, by the machine; each crate is said as it is done, with its time\n";
     assert_eq!(errors, said);
     assert_eq!(calls(&folder), STEPS);
 }

@@ -70,7 +70,6 @@ fn folder() -> PathBuf {
         "examples/two-plants.txt",
         "examples/two-plants-correction.txt",
         "examples/new-plant.txt",
-        "examples/fuel-day.txt",
         "target/bin/listing",
     ] {
         let copied = fs::copy(repository(name), folder.join(name));

@@ -79,9 +79,8 @@ fn settled(inputs: &Inputs, given: &Given) -> Result<Answer, Failure> {
     let correction = correction_of(inputs);
     let sections =
         Sections::of(&inputs.case.bytes).ok_or_else(|| mistake("sections in this settled case"))?;
-    let parts = money::parts_of_e(inputs, &sections)?;
     let workings = match given.explain {
-        true => Some(money::of_every_event(inputs, sections, &rows, &parts)?),
+        true => Some(money::of_every_event(inputs, sections, &rows)?),
         false => None,
     };
     let settlement = Settlement {
@@ -89,7 +88,6 @@ fn settled(inputs: &Inputs, given: &Given) -> Result<Answer, Failure> {
         rows: &rows,
         correction: correction.as_ref(),
         rows_without: &rows_without,
-        parts: &parts,
         workings: workings.as_deref(),
     };
     Ok(Answer::done(match given.format {

@@ -195,18 +195,16 @@ casetool settle [TEXT or CASE] [--correction FILE] [--format text|json|csv] [--e
                 [--as text|case] [--allow-empty] [-o FILE]
 
 Settles a case by the proved library and prints which correction was used, then a block for each
-plant, with its events in file order, counted from 0: flagged hours, multiplier, penalty and, for
-fuel, part of E; or mitigated hours, bids in force and, for energy, make-up; then the totals. N3
-counts the instances of an event's group and market in its own capability period and the two
-before, the event itself among them, N2 those in its own and the one before. The part of E is what
-the plant adds to the E of its group, day and market; casetool working --event N has all parts over
-the E that they add to. A refused case is described as by casetool check, on standard error.
+plant, with its events in file order, counted from 0: flagged hours, multiplier and penalty, or
+mitigated hours, bids in force and, for energy, make-up; then the totals. N3 counts the instances
+of an event's group and market in its own capability period and the two before, the event itself
+among them, N2 those in its own and the one before. A refused case is described as by casetool
+check, on standard error.
 
   --correction FILE  the correction of the case, as text or as a file of casetool write
                      --correction; it may not be empty
   --format FORMAT    text, or for programs json (docs/casetool.schema.json) or csv
-                     (docs/FORMAT.md): every field of every row and of the totals, and the
-                     parts of E
+                     (docs/FORMAT.md): every field of every row and of the totals
   --explain          under each event the working of its money, as casetool working --event N
                      has it; not with csv
   --as FORM          what is read is a text, or a case file, whatever its bytes look like
@@ -226,9 +224,9 @@ stands as 0 in a comparison.
 Without --hour the working of the event's money, step by step, each under the sentence of the
 tariff that it is: of a withheld event what N3 and N2 counted, the multiplier, and power times
 price hour by hour; of dispatch the added revenue hour by hour; of fuel the events of the same
-group, day and market, E and each plant's part of it, T, M and X; of bids r and c, the mitigated
-hours, and the make-up hour by hour, or which hours a correction restored. Power or energy times a
-price has a third decimal, and X a fourth.
+group, day and market, E, T, M and X; of bids r and c, the mitigated hours, and the make-up hour
+by hour, or which hours a correction restored. Power or energy times a price has a third decimal,
+and X a fourth.
 
 Every figure comes from the proved library, or is a field of the case. Events are counted from 0,
 as casetool settle and casetool show number them; casetool settle --explain has the working of

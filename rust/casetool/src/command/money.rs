@@ -1,14 +1,15 @@
-//! The working of an event's money: `working` without an hour, and `settle --explain`; and each plant's part of E, which
-//! every settlement has.
+//! The working of an event's money: `working` without an hour, and `settle --explain`.
 
 use attachment_h::layout::Sections;
-use attachment_h::{Kind, Refused, Row, instances, make_up_working, penalty_working, subtotal};
+use attachment_h::{
+    Kind, PenaltyWorking, Refused, Row, instances, make_up_working, penalty_working,
+};
 
 use super::arguments::{Format, Given};
 use super::case::{event_of, rows_of};
 use super::input::Inputs;
 use super::{Answer, Failure, mistake};
-use crate::format::money::{Figures, FuelEvent, Money, json};
+use crate::format::money::{Figures, Money, json};
 use crate::record::event::Event;
 
 /// The working of the event that was asked for.
@@ -19,10 +20,7 @@ pub fn worked(inputs: &Inputs, given: &Given) -> Result<Answer, Failure> {
     let number = given.event.unwrap_or_default();
     let event = event_of(&sections, number)?;
     let fuel = match event.kind {
-        Kind::FUEL => {
-            let parts = parts_of_e(inputs, &sections)?;
-            fuel_events(inputs, &parts).map_err(unexpected)?
-        }
+        Kind::FUEL => fuel_events(inputs, &sections).map_err(unexpected)?,
         _ => Vec::new(),
     };
     let money = Case {
@@ -38,18 +36,17 @@ pub fn worked(inputs: &Inputs, given: &Given) -> Result<Answer, Failure> {
     }))
 }
 
-/// The working of every event, in the order of the file, which these parts of E are in too.
+/// The working of every event, in the order of the file.
 pub fn of_every_event<'a>(
     inputs: &'a Inputs,
     sections: Sections<'a>,
     rows: &[u8],
-    parts: &[Option<i64>],
 ) -> Result<Vec<Money<'a>>, Failure> {
     let money = Case {
         inputs,
         sections,
         rows,
-        fuel: fuel_events(inputs, parts).map_err(unexpected)?,
+        fuel: fuel_events(inputs, &sections).map_err(unexpected)?,
     };
     let events = Event::all(&sections).enumerate();
     let workings = events.map(|(number, event)| money.of(number, event));
@@ -64,30 +61,16 @@ fn unexpected(refused: Refused) -> String {
     format!("{refused}: {mistake}")
 }
 
-/// The part of E of each fuel event, in tenths of a cent, and nothing for an event of another kind, in the order of the
-/// file. It reads no correction.
-pub fn parts_of_e(inputs: &Inputs, sections: &Sections<'_>) -> Result<Vec<Option<i64>>, Failure> {
+/// The fuel events of a case with their workings, which say what party-day each is of.
+fn fuel_events(
+    inputs: &Inputs,
+    sections: &Sections<'_>,
+) -> Result<Vec<(usize, PenaltyWorking)>, Refused> {
     let events = Event::all(sections).enumerate();
-    let parts = events.map(|(number, event)| match event.kind {
-        Kind::FUEL => subtotal(&inputs.case.bytes, number).map(Some),
-        _ => Ok(None),
-    });
-    parts
-        .collect::<Result<_, Refused>>()
-        .map_err(|refused| unexpected(refused).into())
-}
-
-/// The fuel events of a case, which have these parts, with their workings, which say what party-day each is of.
-fn fuel_events(inputs: &Inputs, parts: &[Option<i64>]) -> Result<Vec<FuelEvent>, Refused> {
-    let events = parts.iter().enumerate();
-    let fuel = events.filter_map(|(number, part)| Some((number, (*part)?)));
-    let worked = fuel.map(|(number, part)| {
+    let fuel = events.filter(|(_, event)| event.kind == Kind::FUEL);
+    let worked = fuel.map(|(number, _)| {
         let working = penalty_working(&inputs.case.bytes, inputs.correction_bytes(), number)?;
-        Ok(FuelEvent {
-            number,
-            working,
-            part,
-        })
+        Ok((number, working))
     });
     worked.collect()
 }
@@ -98,7 +81,7 @@ struct Case<'a, 'r> {
     sections: Sections<'a>,
     rows: &'r [u8],
     /// Its fuel events, where one is asked about.
-    fuel: Vec<FuelEvent>,
+    fuel: Vec<(usize, PenaltyWorking)>,
 }
 
 impl<'a> Case<'a, '_> {
@@ -126,7 +109,7 @@ impl<'a> Case<'a, '_> {
                 Figures::Withheld(Box::new(working), counted)
             }
             Kind::FUEL => {
-                let same_day = |other: &&FuelEvent| other.working.row == working.row;
+                let same_day = |(_, other): &&(usize, PenaltyWorking)| other.row == working.row;
                 let day = self.fuel.iter().filter(same_day).copied().collect();
                 Figures::Fuel(Box::new(working), day)
             }

@@ -1,12 +1,11 @@
-//! The rows of a settlement for programs, as JSON and as CSV: every field of a row and of the totals, and of a fuel event its
-//! part of E.
+//! The rows of a settlement for programs, as JSON and as CSV: every field of a row and of the totals.
 
 use attachment_h::layout::{Section, Version, u16_at};
 use attachment_h::{Cents, Kind, Mask, Row, Settled};
 
 use super::csv;
 use super::json::{Json, event_fields};
-use super::money::{Money, figures};
+use super::money::Money;
 use super::settlement::Settlement;
 use crate::record::event::Event;
 use crate::record::fields;
@@ -53,7 +52,7 @@ impl Settlement<'_> {
         // The names are those of any row.
         let event = vec![0; Section::Events.width(Version::One)];
         let (event, row) = (Event::of(Version::One, &event), Row::default());
-        let any = fields_of(0, &event, None, (&row, Mask(0)), None);
+        let any = fields_of(0, &event, None, (&row, Mask(0)));
         let names: Vec<String> = columns(&any).into_iter().map(|(name, _)| name).collect();
         let line = |record: &str, rows: String, values: Vec<String>| {
             let first = [record.to_string(), source.clone(), references.clone(), rows];
@@ -77,19 +76,17 @@ impl Settlement<'_> {
             let unit = self.sections.unit(event.unit);
             let group = unit.map(|unit| u16_at(unit, 2));
             let restored = self.restored(place, &event, &row);
-            fields_of(place, &event, group, (&row, restored), self.part(place))
+            fields_of(place, &event, group, (&row, restored))
         })
     }
 }
 
-/// The fields of the row of an event, with the hours that the correction restored and, last, so that the other columns keep
-/// their places, the part of E.
+/// The fields of the row of an event, with the hours that the correction restored.
 fn fields_of(
     place: usize,
     event: &Event<'_>,
     group: Option<u16>,
     (row, restored): (&Row, Mask),
-    part: Option<i64>,
 ) -> Vec<(&'static str, Json)> {
     let measure = (event.kind == Kind::BIDS).then(|| fields::measure_of(event.component));
     let in_dollars = measure.filter(|measure| *measure == Measure::Dollars);
@@ -119,7 +116,6 @@ fn fields_of(
         (BIDS_DOLLARS, in_dollars.into()),
         ("restored_hours", hours_of(restored)),
     ]);
-    fields.extend(figures::part_of_e(part));
     fields
 }
 

@@ -1,6 +1,6 @@
 //! A settlement for people: a block for each plant, a paragraph for each of its events, the totals.
 //!
-//! Every figure is one of the rows, of the result or of a call of its own; none is worked out here.
+//! Every figure is one of the rows or of the result; none is worked out here.
 
 use attachment_h::layout::{HOURS, Section, Sections, cell, u16_at, u32_at};
 use attachment_h::{Component, Kind, Mask, Row, Settled};
@@ -9,7 +9,7 @@ use crate::format::money::Money;
 use crate::format::notes::{self, Correction};
 use crate::record::event::Event;
 use crate::record::fields;
-use crate::text::amounts::{dollars, tenths};
+use crate::text::amounts::dollars;
 use crate::text::calendar;
 use crate::text::hours;
 use crate::text::words;
@@ -24,8 +24,6 @@ pub struct Settlement<'a> {
     pub correction: Option<&'a Correction>,
     /// The rows of the same case settled without the correction; of no use where there was none.
     pub rows_without: &'a [u8],
-    /// Of each fuel event its plant's part of E, in tenths of a cent; nothing of another.
-    pub parts: &'a [Option<i64>],
     /// The working of each event's money, where it was asked for.
     pub workings: Option<&'a [Money<'a>]>,
 }
@@ -86,21 +84,16 @@ impl Settlement<'_> {
         text += &line("flagged hours", &hours::spoken(row.flags.0));
         text += &match event.kind {
             Kind::BIDS => self.bids(place, event, &row),
-            _ => self.sanction(place, event, &row),
+            _ => self.sanction(event, &row),
         };
         let working = self.workings.and_then(|workings| workings.get(place));
         text + &working.map_or(String::new(), |working| working.steps_text("      "))
     }
 
-    /// The figures of an event that may bear a penalty. Fuel alone has a part of E.
-    fn sanction(&self, place: usize, event: &Event<'_>, row: &Row) -> String {
+    /// The figures of an event that may bear a penalty.
+    fn sanction(&self, event: &Event<'_>, row: &Row) -> String {
         let multiplier = notes::multiplier(&self.sections, self.rows, event, row);
-        let mut text = line("multiplier", &multiplier);
-        text += &line("penalty", &notes::penalty(event, row));
-        if let Some(part) = self.part(place) {
-            text += &line("part of E", &tenths(part));
-        }
-        text
+        line("multiplier", &multiplier) + &line("penalty", &notes::penalty(event, row))
     }
 
     /// The figures of bids. Energy alone can have a make-up.
@@ -121,11 +114,6 @@ impl Settlement<'_> {
 }
 
 impl Settlement<'_> {
-    /// The part of E of an event, in tenths of a cent, if it is one of fuel.
-    pub fn part(&self, place: usize) -> Option<i64> {
-        self.parts.get(place).copied().flatten()
-    }
-
     /// The hours in which the entered bid is in force and would not be without the correction.
     pub fn restored(&self, place: usize, event: &Event<'_>, row: &Row) -> Mask {
         if self.correction.is_none() {

@@ -160,39 +160,6 @@ fn workings_as_json() {
     assert!(hours > 150 && flagged > 20 && negative > 20 && copies > 20);
 }
 
-/// What is good in the example as JSON, and bad in its place.
-const CHANGES: [(&str, &str); 26] = [
-    ("\"n3\": 2,", ""),
-    ("\"n3\": 2", "\"n3\": 2, \"n4\": 2"),
-    ("\"n3\": 2", "\"n3\": \"2\""),
-    ("\"n3\": 2", "\"n3\": 457"),
-    ("\"settled\"", "\"accepted\""),
-    ("\"21984.00\"", "\"21984.0\""),
-    ("\"21984.00\"", "\"$21984.00\""),
-    ("\"21984.00\"", "\"\""),
-    ("\"2021-11-26\"", "\"26 November 2021\""),
-    ("\"2021-11-26\"", "\"2100-01-01\""),
-    ("\"day\": 8000", "\"day\": 36525"),
-    ("\"withheld\"", "\"withhold\""),
-    ("[0, 5, 6, 7]", "[0, 5, 6, 24]"),
-    ("[0, 5, 6, 7]", "[0, 5, 6, \"7\"]"),
-    ("\"bids_in_force\": [0, ", "\"bids_in_force\": ["),
-    ("\"restored_hours\": []", "\"restored_hours\": null"),
-    ("\"part_of_e\": null,", ""),
-    ("\"part_of_e\": null", "\"part_of_e\": \"\""),
-    ("\"part_of_e\": 7000000", "\"part_of_e\": \"7000.000\""),
-    ("\"part_of_e\": 7000000", "\"part_of_e\": 1210000000001"),
-    ("\"part_of_e\": 7000000", "\"part_of_e\": -1210000000001"),
-    (",\n      \"part_of_e_dollars\": null", ""),
-    ("\"part_of_e_dollars\": null", "\"part_of_e_dollars\": 0"),
-    ("\"7000.000\"", "\"7000.00\""),
-    ("\"7000.000\"", "\"$7000.000\""),
-    (
-        "\"correction\": null",
-        "\"correction\": {\"source\": \"x\"}",
-    ),
-];
-
 #[test]
 fn the_schema_would_notice() {
     let schema = schema();
@@ -201,7 +168,28 @@ fn the_schema_would_notice() {
         .text()
         .to_string();
     assert_eq!(broken(&parse(&text), &schema, &schema), None);
-    for (good, bad) in CHANGES {
+    for (good, bad) in [
+        ("\"n3\": 2,", ""),
+        ("\"n3\": 2", "\"n3\": 2, \"n4\": 2"),
+        ("\"n3\": 2", "\"n3\": \"2\""),
+        ("\"n3\": 2", "\"n3\": 457"),
+        ("\"settled\"", "\"accepted\""),
+        ("\"21984.00\"", "\"21984.0\""),
+        ("\"21984.00\"", "\"$21984.00\""),
+        ("\"21984.00\"", "\"\""),
+        ("\"2021-11-26\"", "\"26 November 2021\""),
+        ("\"2021-11-26\"", "\"2100-01-01\""),
+        ("\"day\": 8000", "\"day\": 36525"),
+        ("\"withheld\"", "\"withhold\""),
+        ("[0, 5, 6, 7]", "[0, 5, 6, 24]"),
+        ("[0, 5, 6, 7]", "[0, 5, 6, \"7\"]"),
+        ("\"bids_in_force\": [0, ", "\"bids_in_force\": ["),
+        ("\"restored_hours\": []", "\"restored_hours\": null"),
+        (
+            "\"correction\": null",
+            "\"correction\": {\"source\": \"x\"}",
+        ),
+    ] {
         assert!(text.contains(good), "{good}");
         let changed = parse(&text.replacen(good, bad, 1));
         assert!(broken(&changed, &schema, &schema).is_some(), "{bad}");

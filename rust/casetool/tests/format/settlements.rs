@@ -1,6 +1,6 @@
 //! Settlements as JSON and CSV, beside the library's rows, and held to the schema of docs/.
 
-use attachment_h::{ROWS_LENGTH, Row, Settled, settle, subtotal};
+use attachment_h::{ROWS_LENGTH, Row, Settled, settle};
 use cases::case::Input;
 use cases::generator::{Generated, any_case_in};
 use cases::{Event, Kind, Random};
@@ -16,16 +16,11 @@ fn settled_by_the_library(input: &Input) -> (Settled, Vec<Row>) {
     (settled, Row::first(&rows, settled.rows))
 }
 
-/// A count of so many decimals, worked out by its digits.
-fn decimal(count: i128, decimals: usize) -> String {
-    let digits = format!("{:0width$}", count.abs(), width = decimals + 1);
-    let (whole, part) = digits.split_at(digits.len() - decimals);
-    format!("{}{whole}.{part}", if count < 0 { "-" } else { "" })
-}
-
-/// Dollars of cents.
+/// Dollars of cents, worked out by their digits.
 fn dollars(cents: i128) -> String {
-    decimal(cents, 2)
+    let digits = format!("{:03}", cents.abs());
+    let (whole, part) = digits.split_at(digits.len() - 2);
+    format!("{}{whole}.{part}", if cents < 0 { "-" } else { "" })
 }
 
 fn hours(mask: u32) -> Vec<i128> {
@@ -115,22 +110,6 @@ fn same_bids(value: &Value, row: &Row, event: &Event) {
     assert_eq!(*value.at("component") == Value::Null, component.is_none());
 }
 
-/// That the part of E is the library's, and null where it gives none; the part.
-fn same_part(value: &Value, file: &[u8], place: usize) -> Option<i64> {
-    let part = subtotal(file, place).ok();
-    let (tenths, in_dollars) = match part {
-        Some(part) => {
-            let tenths = i128::from(part);
-            (Value::Integer(tenths), Value::Text(decimal(tenths, 3)))
-        }
-        None => (Value::Null, Value::Null),
-    };
-    assert_eq!(*value.at("part_of_e"), tenths);
-    assert_eq!(*value.at("part_of_e_dollars"), in_dollars);
-    assert_eq!(part.is_some(), value.at("kind").text() == "fuel");
-    part
-}
-
 /// That the totals are the library's.
 fn same_totals(totals: &Value, settled: &Settled) {
     assert_eq!(totals.at("rows").integer(), settled.rows as i128);
@@ -149,7 +128,6 @@ fn settlements_as_json() {
     let schema = schema();
     let mut random = Random::new(751);
     let (mut rows, mut corrected, mut restored, mut copies) = (0, 0, 0, 0);
-    let (mut parts, mut negative) = (0, 0);
     for place in 0..120 {
         let generated = any_case_in(in_turn(place), &mut random);
         let input = generated.input();
@@ -163,9 +141,6 @@ fn settlements_as_json() {
         assert_eq!(found.len(), expected.len());
         for (place, (value, row)) in found.iter().zip(&expected).enumerate() {
             same_row(value, place, row, &generated);
-            let part = same_part(value, &input.file, place);
-            parts += usize::from(part.is_some());
-            negative += usize::from(part.is_some_and(|part| part < 0));
             restored += value.at("restored_hours").list().len();
         }
         rows += found.len();
@@ -179,10 +154,9 @@ fn settlements_as_json() {
         }
     }
     println!(
-        "{rows} rows, {corrected} settlements with a correction, {restored} restored hours, {parts} parts of E, {negative} of them negative, {copies} copies"
+        "{rows} rows, {corrected} settlements with a correction, {restored} restored hours, {copies} copies"
     );
     assert!(rows > 1_000 && corrected > 40 && restored > 5 && copies > 50);
-    assert!(parts > 200 && negative > 20);
 }
 
 /// The values of a text of CSV, line by line.
@@ -243,33 +217,6 @@ fn columns_of(row: &Value) -> Vec<(String, String)> {
     found
 }
 
-/// The value of a line under a name.
-fn column<'l>(names: &[String], line: &'l [String], name: &str) -> &'l str {
-    let place = names.iter().position(|column| column == name);
-    &line[place.unwrap_or_else(|| panic!("no column {name}"))]
-}
-
-/// That the last line has the totals, under the columns that they are the sums of, and nothing under the parts of E.
-fn has_totals(names: &[String], last: &[String], totals: &Value) {
-    assert_eq!(
-        (last[0].as_str(), column(names, last, "event")),
-        ("total", "")
-    );
-    for (name, total) in [
-        ("rows", "rows"),
-        ("penalty_cents", "penalties_cents"),
-        ("penalty_dollars", "penalties_dollars"),
-        ("make_up_cents", "make_ups_cents"),
-        ("make_up_dollars", "make_ups_dollars"),
-    ] {
-        let expected = in_a_column(totals.at(total));
-        assert_eq!(column(names, last, name), expected, "{name}");
-    }
-    for name in ["part_of_e", "part_of_e_dollars"] {
-        assert_eq!(column(names, last, name), "", "{name}");
-    }
-}
-
 #[test]
 fn csv_has_what_json_has() {
     let schema = schema();
@@ -283,17 +230,32 @@ fn csv_has_what_json_has() {
         let lines = csv(ran.text());
         let rows = value.at("rows").list();
         assert_eq!(lines.len(), rows.len() + 2);
-        // The four columns in front, the 24 of a row and its 48 bids.
-        assert!(lines.iter().all(|line| line.len() == 4 + 24 + 48));
-        assert_eq!(lines[0][74..], ["part_of_e", "part_of_e_dollars"]);
+        // The four columns in front, the 22 of a row and its 48 bids.
+        assert!(lines.iter().all(|line| line.len() == 4 + 22 + 48));
+        let column = |line: &[String], name: &str| {
+            let place = lines[0].iter().position(|column| column == name);
+            line[place.unwrap_or_else(|| panic!("no column {name}"))].clone()
+        };
         for (line, row) in lines[1..].iter().zip(rows) {
             assert_eq!((line[0].as_str(), line[3].as_str()), ("row", ""));
             for (name, value) in columns_of(row) {
-                assert_eq!(column(&lines[0], line, &name), value, "{name}");
+                assert_eq!(column(line, &name), value, "{name}");
             }
         }
-        let last = lines.last().expect("the totals");
-        has_totals(&lines[0], last, value.at("totals"));
+        let (last, totals) = (lines.last().expect("the totals"), value.at("totals"));
+        assert_eq!(
+            (last[0].as_str(), column(last, "event").as_str()),
+            ("total", "")
+        );
+        for (name, total) in [
+            ("rows", "rows"),
+            ("penalty_cents", "penalties_cents"),
+            ("penalty_dollars", "penalties_dollars"),
+            ("make_up_cents", "make_ups_cents"),
+            ("make_up_dollars", "make_ups_dollars"),
+        ] {
+            assert_eq!(column(last, name), in_a_column(totals.at(total)), "{name}");
+        }
     }
 }
 

@@ -15,7 +15,6 @@ Event 2: day 8000 (26 November 2021), fuel, Day-Ahead, unit 12
          Q                            $4,000.00
          hour 8  100.0 MWh × $15.00 = $1,500.000
          hour 9  100.0 MWh × $15.00 = $1,500.000
-       part of unit 12                $7,000.000
        E                              $7,000.000
   3. T (23.4.3.3.3): changes of TCC revenue (R), added; a sum below 0 counts 0
        event 2, unit 12  $200.00
@@ -114,8 +113,6 @@ fn group_7(heading: &str, days: [&str; 2], penalty: &[&str]) -> String {
                     "  Q                             -$100.00",
                     "  hour 8    0.0 MWh ×  $0.00 =     $0.000",
                     "  hour 9   33.3 MWh ×  $7.77 =   $258.741",
-                    "part of unit 12                $5,474.750",
-                    "part of unit 13                  $158.741",
                     "E                              $5,633.491",
                 ],
             ),
@@ -165,12 +162,7 @@ fn two_events_of_a_party_day() {
 #[test]
 fn another_group() {
     let day = format!("event 2, this one: {}", described(14, 8));
-    let e = [
-        "event 2, unit 14",
-        "  Q              -$9,000.00",
-        "part of unit 14  -$9,000.000",
-        "E                -$9,000.000",
-    ];
+    let e = ["event 2, unit 14", "  Q  -$9,000.00", "E    -$9,000.000"];
     let t = [
         "event 2, unit 14  -$1.00",
         "T                  $0.00 (added, they are not above 0)",
@@ -197,12 +189,6 @@ fn another_group() {
 #[test]
 fn the_other_market() {
     let day = format!("event 3, this one: {}", described(13, 7));
-    let e = [
-        "event 3, unit 13",
-        "  Q              $1.00",
-        "part of unit 13  $1.000",
-        "E                $1.000",
-    ];
     let penalty = "$0.00, since X is below $5,000, on the row of event 3, unit 13";
     works(
         &two_of_a_group(),
@@ -211,7 +197,7 @@ fn the_other_market() {
             "Event 3: day 8000 (26 November 2021), fuel, Real-Time, unit 13",
             &[
                 (DAY, &[&day, NO_HOUR]),
-                (E, &e),
+                (E, &["event 3, unit 13", "  Q  $1.00", "E    $1.000"]),
                 (T, &["T = $0.00: Real-Time has no TCC revenue"]),
                 (M, &[NO_PENALTY_BEFORE]),
                 (X, &["1 × $1.000 + $0.00 = $1.0000"]),

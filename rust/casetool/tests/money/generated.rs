@@ -164,15 +164,6 @@ fn same_penalty(value: &Value, working: &second::PenaltyWorking, flags: u32) {
     }
 }
 
-/// That the part of E of an event is 10 × its Q and its terms, added; the part.
-fn followed_part(value: &Value) -> i128 {
-    let terms = value.at("terms").list().iter();
-    let terms: i128 = terms.map(|term| term.at("term").integer()).sum();
-    let part = value.at("part_of_e").integer();
-    assert_eq!(part, 10 * value.at("q_cents").integer() + terms);
-    part
-}
-
 /// That the events of a party-day are those with the same row, each with its terms.
 fn same_day(value: &Value, workings: &[second::PenaltyWorking], event: usize, flags: u32) {
     let same =
@@ -181,8 +172,6 @@ fn same_day(value: &Value, workings: &[second::PenaltyWorking], event: usize, fl
     let events = value.at("events").list();
     assert_eq!(events.len(), expected.len());
     assert_eq!(*value.at("below"), Value::Bool(workings[event].below));
-    let parts: i128 = events.iter().map(followed_part).sum();
-    assert_eq!(value.at("e").integer(), parts);
     for (value, place) in events.iter().zip(expected) {
         assert_eq!(value.at("event").integer(), place as i128);
         let (gains, losses) = (workings[place].hours, workings[place].losses);

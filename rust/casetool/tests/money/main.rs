@@ -1,12 +1,10 @@
-//! The working of an event's money: `casetool working` without an hour, and `casetool settle --explain`; and each plant's
-//! part of E, in every settlement too.
+//! The working of an event's money: `casetool working` without an hour, and `casetool settle --explain`.
 
 mod bids;
 mod explain;
 mod fuel;
 mod generated;
 mod options;
-mod parts;
 mod penalties;
 mod pencil;
 mod programs;

@@ -150,16 +150,11 @@ fn help() {
     for words in [
         "Without --hour the working of the event's money",
         "casetool settle --explain",
-        "E and each plant's part of it",
     ] {
         assert!(help.text().contains(words), "{words}");
     }
     let help = casetool(&["settle", "--help"], b"");
     assert!(help.text().contains("[--explain]"));
-    assert!(
-        help.text()
-            .contains("\nfuel, part of E; or mitigated hours")
-    );
     assert!(
         help.text()
             .contains("  --explain          under each event the working of its money")

@@ -205,31 +205,22 @@ pub fn dispatch(sheet: &Sheet<'_>) -> i128 {
     follow_penalty(sheet.line("Penalty"), multiplier, sum)
 }
 
-/// Follows E: the part of each unit is what stands under its event, added, and E is the parts, added.
+/// Follows E: all that stands over it, added.
 fn follow_e(lines: &[&str]) -> i128 {
     let (last, rows) = lines.split_last().expect("rows");
-    let first = rows.iter().position(|line| line.starts_with("part of "));
-    let (rows, parts) = rows.split_at(first.expect("a part"));
-    let mut sums: Vec<(&str, i128)> = Vec::new();
+    let mut sum = 0;
     for line in rows {
-        if let Some(event) = line.strip_prefix("event ") {
-            let (_, unit) = event.split_once(", ").expect("a unit");
-            sums.push((unit, 0));
+        if line.starts_with("event ") {
             continue;
         }
         let (_, factors, amount) = row(line);
         if let Some((energy, change)) = factors {
             assert_eq!(amount, tenths(energy) * money(change) / 10, "{line}");
         }
-        sums.last_mut().expect("an event").1 += amount;
+        sum += amount;
     }
-    assert_eq!(parts.len(), sums.len());
-    for (line, (unit, sum)) in parts.iter().zip(&sums) {
-        assert_eq!(row(line), (format!("part of {unit}").as_str(), None, *sum));
-    }
-    let e = sums.iter().map(|(_, sum)| sum).sum();
-    assert_eq!(row(last), ("E", None, e));
-    e
+    assert_eq!(row(last), ("E", None, sum));
+    sum
 }
 
 /// Follows T, below which 0 counts.

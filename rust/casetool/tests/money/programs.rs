@@ -104,7 +104,7 @@ fn a_settlement_with_its_workings() {
 }
 
 /// The example settled with its workings, and what is good and bad in it.
-const CHANGES: [(&str, &str); 26] = [
+const CHANGES: [(&str, &str); 23] = [
     ("\"workings\": [", "\"workings\": [null, "),
     ("\"period\": 44,", ""),
     ("\"step\": 7,", "\"step\": 8,"),
@@ -133,15 +133,6 @@ const CHANGES: [(&str, &str); 26] = [
     ("\"below\": false", "\"below\": 0"),
     ("\"row\": 2", "\"row\": 200"),
     ("\"q_cents\": 400000,", ""),
-    ("\n            \"part_of_e\": 7000000,", ""),
-    (
-        "\n            \"part_of_e\": 7000000",
-        "\n            \"part_of_e\": null",
-    ),
-    (
-        "\n            \"part_of_e_dollars\": \"7000.000\"",
-        "\n            \"part_of_e_dollars\": null",
-    ),
     ("\"correct\": 2000", "\"correct\": \"20.00\""),
     ("\"measure\": \"cents\"", "\"measure\": \"dollars\""),
     ("\"m\": 1000,", ""),

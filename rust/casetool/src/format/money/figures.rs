@@ -20,15 +20,6 @@ pub fn cents([name, in_dollars]: [&'static str; 2], amount: Signed) -> Fields {
     [(name, amount.json()), (in_dollars, dollars.into())]
 }
 
-/// A plant's part of E; null where the event is none of fuel, since 0 is a part too.
-pub fn part_of_e(part: Option<i64>) -> Fields {
-    let [name, in_dollars] = ["part_of_e", "part_of_e_dollars"];
-    match part {
-        Some(part) => tenths([name, in_dollars], part.into()),
-        None => [(name, Json::Null), (in_dollars, Json::Null)],
-    }
-}
-
 /// A penalty.
 pub fn penalty(penalty: Cents) -> Fields {
     cents(["penalty_cents", "penalty_dollars"], penalty.0.into())

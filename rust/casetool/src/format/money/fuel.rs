@@ -1,13 +1,12 @@
-//! The penalty of a party-day, the fuel events of one group, day and market, and each plant's part of E: docs/RULES.md, S9 to
-//! S16 and R16.
+//! The penalty of a party-day, the fuel events of one group, day and market: docs/RULES.md, S9 to S16.
 
 use attachment_h::layout::u32_at;
 use attachment_h::{Market, Multiplier, PenaltyWorking};
 
+use super::Money;
 use super::figures;
 use super::names::{self, factors, hour, spoken};
 use super::step::{Row, Step, column};
-use super::{FuelEvent, Money};
 use crate::format::json::Json;
 use crate::record::event::Event;
 use crate::text::amounts::{
@@ -19,8 +18,8 @@ use crate::text::hours;
 /// The section of the tariff that all of it is in.
 const TARIFF: &str = "23.4.3.3.3";
 
-/// The events of a party-day.
-type Day = [FuelEvent];
+/// The events of a party-day, with their numbers and workings. What is of the party-day itself is the same in each.
+type Day = [(usize, PenaltyWorking)];
 
 fn step(name: &'static str, words: &'static str, lines: Vec<String>) -> Step {
     Step {
@@ -69,12 +68,12 @@ pub fn steps(money: &Money<'_>, of_day: &PenaltyWorking, day: &Day) -> Vec<Step>
 }
 
 fn events(money: &Money<'_>, day: &Day) -> Vec<String> {
-    let described = |&FuelEvent { number, .. }: &FuelEvent| {
-        let this = match number == money.number {
+    let described = |(number, _): &(usize, PenaltyWorking)| {
+        let this = match *number == money.number {
             true => ", this one",
             false => "",
         };
-        let described = names::described(&money.sections, number);
+        let described = names::described(&money.sections, *number);
         format!("event {number}{this}: {described}")
     };
     let mut lines: Vec<String> = day.iter().map(described).collect();
@@ -89,10 +88,15 @@ fn events(money: &Money<'_>, day: &Day) -> Vec<String> {
     lines
 }
 
-/// The events of the party-day with their records, which the case has.
-fn with_records<'a>(money: &Money<'a>, day: &Day) -> impl Iterator<Item = (FuelEvent, Event<'a>)> {
+/// The events of the party-day that the case has.
+fn with_events<'a>(
+    money: &Money<'a>,
+    day: &Day,
+) -> impl Iterator<Item = (usize, Event<'a>, PenaltyWorking)> {
     let sections = money.sections;
-    let found = move |fuel: &FuelEvent| Some((*fuel, names::event(&sections, fuel.number)?));
+    let found = move |(number, working): &(usize, PenaltyWorking)| {
+        Some((*number, names::event(&sections, *number)?, *working))
+    };
     day.iter().filter_map(found)
 }
 
@@ -123,8 +127,8 @@ fn signed(positive: u64, negative: u64) -> Signed {
 
 fn e_lines(money: &Money<'_>, day: &Day, of_day: &PenaltyWorking) -> Vec<String> {
     let mut rows = Vec::new();
-    for (fuel, event) in with_records(money, day) {
-        rows.push(Row::heading(names::short(&money.sections, fuel.number)));
+    for (number, event, working) in with_events(money, day) {
+        rows.push(Row::heading(names::short(&money.sections, number)));
         let [q, _] = changes(&event);
         // Cents stand over the cents of the terms, which have tenths.
         rows.push(Row::of("  Q", Measure::Dollars.spoken(q) + " "));
@@ -133,16 +137,11 @@ fn e_lines(money: &Money<'_>, day: &Day, of_day: &PenaltyWorking) -> Vec<String>
             Row {
                 label: format!("  {}", hour(number)),
                 factors: Some([spoken(energy), spoken(price)]),
-                amount: tenths(term(&fuel.working, number)),
+                amount: tenths(term(&working, number)),
                 note: "",
             }
         }));
     }
-    // The parts stand together, right over the E that they add to.
-    rows.extend(with_records(money, day).map(|(fuel, event)| {
-        let label = format!("part of unit {}", event.unit);
-        Row::of(label, tenths(fuel.part))
-    }));
     rows.push(Row::of("E", tenths(e_of(of_day))));
     column(&rows)
 }
@@ -152,10 +151,10 @@ fn t_lines(money: &Money<'_>, day: &Day, of_day: &PenaltyWorking) -> Vec<String>
     if money.event.market == Market::REAL_TIME {
         return vec![format!("T = {t}: Real-Time has no TCC revenue")];
     }
-    let mut rows: Vec<Row> = with_records(money, day)
-        .map(|(fuel, event)| {
+    let mut rows: Vec<Row> = with_events(money, day)
+        .map(|(number, event, _)| {
             let [_, r] = changes(&event);
-            let label = names::short(&money.sections, fuel.number);
+            let label = names::short(&money.sections, number);
             Row::of(label, Measure::Dollars.spoken(r))
         })
         .collect();
@@ -216,7 +215,8 @@ fn penalty(money: &Money<'_>, of_day: &PenaltyWorking) -> Vec<String> {
 
 /// The figures for programs.
 pub fn json(money: &Money<'_>, of_day: &PenaltyWorking, day: &Day) -> Json {
-    let events = with_records(money, day).map(|(fuel, event)| event_json(money, &fuel, &event));
+    let events = with_events(money, day)
+        .map(|(number, event, working)| event_json(money, number, &event, &working));
     let mut fields = vec![("events", events.collect())];
     fields.extend(figures::tenths(["e", "e_dollars"], e_of(of_day)));
     fields.extend(figures::cents(["t_cents", "t_dollars"], of_day.t.into()));
@@ -231,7 +231,12 @@ pub fn json(money: &Money<'_>, of_day: &PenaltyWorking, day: &Day) -> Json {
     Json::Object(fields)
 }
 
-fn event_json(money: &Money<'_>, fuel: &FuelEvent, event: &Event<'_>) -> Json {
+fn event_json(
+    money: &Money<'_>,
+    number: usize,
+    event: &Event<'_>,
+    working: &PenaltyWorking,
+) -> Json {
     let terms = money.flags.hours().map(|number| {
         let [energy, price, _] = factors(event, number);
         let mut fields = vec![
@@ -241,15 +246,14 @@ fn event_json(money: &Money<'_>, fuel: &FuelEvent, event: &Event<'_>) -> Json {
         ];
         fields.extend(figures::tenths(
             ["term", "term_dollars"],
-            term(&fuel.working, number),
+            term(working, number),
         ));
         Json::Object(fields)
     });
     let [q, r] = changes(event);
-    let mut fields = vec![("event", fuel.number.into()), ("unit", event.unit.into())];
+    let mut fields = vec![("event", number.into()), ("unit", event.unit.into())];
     fields.extend(figures::cents(["q_cents", "q_dollars"], q.into()));
     fields.extend(figures::cents(["r_cents", "r_dollars"], r.into()));
     fields.push(("terms", terms.collect()));
-    fields.extend(figures::part_of_e(Some(fuel.part)));
     Json::Object(fields)
 }

@@ -4,7 +4,7 @@
 
 mod bids;
 mod dispatch;
-pub(super) mod figures;
+mod figures;
 mod fuel;
 mod names;
 mod step;
@@ -41,21 +41,10 @@ pub enum Figures {
     Withheld(Box<PenaltyWorking>, Instances),
     /// Of a dispatch event: its penalty.
     Dispatch(Box<PenaltyWorking>),
-    /// Of a fuel event: its penalty, and the events of its party-day, itself among them.
-    Fuel(Box<PenaltyWorking>, Vec<FuelEvent>),
+    /// Of a fuel event: its penalty, and the events of its party-day, itself among them, with their numbers and workings.
+    Fuel(Box<PenaltyWorking>, Vec<(usize, PenaltyWorking)>),
     /// Of bids: their make-up.
     Bids(Box<MakeUpWorking>),
-}
-
-/// A fuel event.
-#[derive(Clone, Copy, Debug)]
-pub struct FuelEvent {
-    /// The event's number, from 0.
-    pub number: usize,
-    /// Its working; what is of the party-day is the same in each of its events.
-    pub working: PenaltyWorking,
-    /// Its plant's part of E, in tenths of a cent.
-    pub part: i64,
 }
 
 /// The working of an event's money as JSON, as an answer of its own.

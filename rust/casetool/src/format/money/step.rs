@@ -69,28 +69,27 @@ impl Row {
     }
 }
 
-/// Rows with their factors and amounts under each other. A label beside no factors has their room too.
+/// Rows with their factors and amounts under each other.
 pub fn column(rows: &[Row]) -> Vec<String> {
     let amounts = || rows.iter().filter(|row| !row.amount.is_empty());
-    let products = || amounts().filter_map(|row| Some((&row.label, row.factors.as_ref()?)));
-    let label = widest(products().map(|(label, _)| label));
-    let left = widest(products().map(|(_, [left, _])| left));
-    let right = widest(products().map(|(_, [_, right])| right));
-    let before = |row: &Row| match (&row.label, &row.factors) {
-        (name, Some([one, other])) => format!("{name:label$}  {one:>left$} × {other:>right$} = "),
-        (name, None) => format!("{name}  "),
-    };
-    let room = widest(amounts().map(before));
+    let factors = || amounts().filter_map(|row| row.factors.as_ref());
+    let label = widest(amounts().map(|row| &row.label));
+    let left = widest(factors().map(|[left, _]| left));
+    let right = widest(factors().map(|[_, right]| right));
     let amount = widest(amounts().map(|row| &row.amount));
     let line = |row: &Row| {
-        let (before, figure, note) = (before(row), &row.amount, row.note);
-        let text = format!("{before:room$}{figure:>amount$}{note}");
+        let product = match &row.factors {
+            Some([one, other]) => format!("{one:>left$} × {other:>right$} = "),
+            None if left > 0 => " ".repeat(left + right + " × ".chars().count() + " = ".len()),
+            None => String::new(),
+        };
+        let (name, figure, note) = (&row.label, &row.amount, row.note);
+        let text = format!("{name:label$}  {product}{figure:>amount$}{note}");
         text.trim_end().to_string()
     };
     rows.iter().map(line).collect()
 }
 
-fn widest(texts: impl Iterator<Item = impl AsRef<str>>) -> usize {
-    let widths = texts.map(|text| text.as_ref().chars().count());
-    widths.max().unwrap_or(0)
+fn widest<'s>(texts: impl Iterator<Item = &'s String>) -> usize {
+    texts.map(|text| text.chars().count()).max().unwrap_or(0)
 }
