@@ -10,13 +10,13 @@ use std::path::Path;
 use std::thread::sleep;
 use std::time::Duration;
 
-use support::fake::{calls, ended, folder, mark, run, says_what_is_missing, start};
+use support::fake::{calls, ended, folder, mark, run, says_what_is_missing, start, without_times};
 
 /// What the tool of the fake cargo prints.
 const ARGUMENTS: &str = "check|a case|";
-const LIBRARY_FIRST: &str = "casetool: the library is proved and built first, about 7 minutes where nothing is proved yet\n";
+const LIBRARY_FIRST: &str = "casetool: the library is proved and built first, which takes long where nothing is proved yet\n";
 const TOOL: &str = "casetool: the tool is built, which takes some seconds\n";
-const BOTH: [&str; 2] = ["rt staticlib", "cargo build"];
+const BOTH: [&str; 2] = ["rt lib", "cargo build"];
 
 #[test]
 fn two_calls_at_once_build_once() {
@@ -42,7 +42,7 @@ fn two_calls_at_once_build_once() {
         assert_eq!(calls(&folder), BOTH);
         assert!(!folder.join("target/casetool.lock.held").exists());
         let log = fs::read_to_string(folder.join("target/casetool.log")).expect("the log");
-        assert!(log.starts_with("fn binary::one: proved\nrt: binary proved (11 s)\n"));
+        assert!(log.starts_with("fn binary::one: proved\ncrate binary: modules "));
     }
 }
 
@@ -83,8 +83,11 @@ fn what_is_younger_than_the_tool_is_built_again() {
         assert_eq!(run(&folder, "casetool").2, "", "{name}");
         assert_eq!(calls(&folder), expected, "{name}");
     }
-    // What cargo leaves in its own folder is no source; a tool that is gone is built.
+    // What cargo and rt leave in their own folders is no source; a tool that is gone is built.
     let _ = fs::remove_file(folder.join("calls"));
+    sleep(Duration::from_millis(20));
+    fs::create_dir(folder.join("crates/listing/out")).expect("a folder of the test");
+    mark(&folder, "crates/listing/out/listing");
     mark(&folder, "rust/target/release/other");
     assert_eq!(run(&folder, "casetool").2, "");
     fs::remove_file(folder.join("rust/target/release/casetool")).expect("the tool");
@@ -100,10 +103,7 @@ fn what_changes_during_a_build_is_built_again() {
     fs::remove_file(folder.join("meanwhile")).expect("a file of the test");
     assert_eq!(run(&folder, "casetool").2, TOOL);
     assert_eq!(run(&folder, "casetool").2, "");
-    assert_eq!(
-        calls(&folder),
-        ["rt staticlib", "cargo build", "cargo build"]
-    );
+    assert_eq!(calls(&folder), ["rt lib", "cargo build", "cargo build"]);
 }
 
 #[test]
@@ -114,13 +114,14 @@ fn a_library_that_cannot_be_built() {
         for times in 1..=2 {
             let (status, output, errors) = run(&folder, "casetool");
             assert_eq!((status, output.as_str()), (Some(1), ""));
-            let said = "casetool: tariff NOT PROVED (exit 1, 2 s)\nfn binary::one: proved\n";
-            assert!(errors.contains(said), "{errors}");
+            let said = without_times(&errors).join("\n");
             assert!(
-                errors.ends_with("\nrt: tariff NOT PROVED (exit 1, 2 s)\n"),
+                said.contains("casetool: tariff NOT PROVED\nfn binary::one: proved\n"),
                 "{errors}"
             );
-            assert_eq!(calls(&folder), ["rt staticlib"].repeat(times));
+            let last = "\nrt: the library tariff did not build, so nothing above it was checked\n";
+            assert!(errors.ends_with(last), "{errors}");
+            assert_eq!(calls(&folder), ["rt lib"].repeat(times));
         }
     }
 }
@@ -191,15 +192,16 @@ fn each_crate_is_said_as_it_is_done() {
     let folder = folder("script-lines", true);
     let said = lines_as_they_come(&folder, "casetool");
     assert_eq!(calls(&folder), BOTH);
-    assert_eq!(said.len(), 4);
-    assert_eq!(format!("{}\n", said[0]), LIBRARY_FIRST);
-    assert_eq!(said[1], "casetool: binary proved (11 s)");
-    let (start, seconds) = said[2].split_once('(').expect("a time");
-    assert_eq!(start, "casetool: api proved and compiled ");
-    assert!(
-        seconds
-            .strip_suffix(" s)")
-            .is_some_and(|digits| digits.parse::<u32>().is_ok())
+    assert_eq!(
+        without_times(&said.join("\n")),
+        [
+            LIBRARY_FIRST.trim_end(),
+            "casetool: binary proved",
+            "casetool: api proved and compiled",
+            TOOL.trim_end(),
+        ]
     );
-    assert_eq!(format!("{}\n", said[3]), TOOL);
+    for line in &said[1..3] {
+        assert!(line.ends_with(" s)"), "{line}");
+    }
 }

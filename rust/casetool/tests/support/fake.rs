@@ -8,36 +8,57 @@ use std::process::{Child, Command, Stdio};
 
 use super::repository;
 
-/// Says that it proves a crate; slowly, or waiting until that was seen, or badly, where a file says so.
-/// Leaves a static library, or a program that lists what it reads.
+/// Says that it proves a crate, as `rt ci` says it or as the others do; slowly, or waiting until that was seen, or
+/// badly, where a file says so. Leaves a static library, or programs that list what they read.
 const RT: &str = r#"#!/bin/sh
-echo "rt $*" >>calls
-[ "$1" != fmt ] || exit 0
-echo "fn binary::one: proved"
-echo "rt: binary proved (11 s)"
-[ ! -f slow ] || sleep 2
+root=$(dirname "$0")/..
+word=$1
+echo "rt $*" >>"$root/calls"
+said() { # CRATE ENDED TARGET
+    case $word:$2 in
+    ci:*) echo "rt: $1 $2" ;;
+    *:proved) echo "crate $1: modules loaded=0 checked=40" && echo "logic=proved functions=1$3 sum=0" ;;
+    *) echo "crate $1: modules loaded=30 checked=10" && echo "logic=not-proved" ;;
+    esac
+}
+program() {
+    mkdir -p out
+    printf '#!/bin/sh\ncat\n' >"out/${PWD##*/}"
+    chmod +x "out/${PWD##*/}"
+}
+if [ "$word:${PWD##*/}" != run:pencil ]; then
+    echo "fn binary::one: proved"
+    said binary proved
+fi
+[ ! -f "$root/slow" ] || sleep 2
 tries=0
-while [ -f unseen ] && [ $tries -lt 100 ]; do sleep 0.1; tries=$((tries + 1)); done
-[ $tries -lt 100 ] || echo "rt unseen" >>calls
-if [ -f broken ]; then
-    echo "rt: tariff NOT PROVED (exit 1, 2 s)"
-    [ "$1" != ci ] || echo "1 passed, 1 failed"
+while [ -f "$root/unseen" ] && [ $tries -lt 100 ]; do sleep 0.1; tries=$((tries + 1)); done
+[ $tries -lt 100 ] || echo "rt unseen" >>"$root/calls"
+if [ -f "$root/broken" ]; then
+    said tariff "NOT PROVED"
+    case $word in
+    ci) echo "1 passed, 1 failed" ;;
+    *) echo "rt: the library tariff did not build, so nothing above it was checked" >&2 ;;
+    esac
     exit 1
 fi
-case $1 in
-staticlib)
-    mkdir -p target/staticlib
-    touch target/staticlib/libapi.a
-    echo "rt: target/staticlib/libapi.a has the functions of api"
+case $word in
+lib)
+    said api proved " target=x86_64"
+    mkdir -p out
+    touch out/libapi.a
     ;;
-check)
-    mkdir -p target/bin
-    printf '#!/bin/sh\ncat\n' >target/bin/listing
-    chmod +x target/bin/listing
-    echo "rt: listing proved (14 s)"
-    echo "rt: ok, 2 crates proved"
+run)
+    said "${PWD##*/}" proved " target=x86_64"
+    program
     ;;
-ci) echo "3 passed, 0 failed" ;;
+ci)
+    for crate in listing pencil; do (cd "$root/crates/$crate" && program); done
+    bad=
+    [ ! -f "$root/bad-edits" ] || bad=", 2 bad"
+    echo "rt: ok; handles allowed: none; must-fail edits: 5 refused$bad; every proof and must-fail edit was done in this run"
+    echo "3 passed, 0 failed"
+    ;;
 esac
 "#;
 
@@ -63,16 +84,23 @@ chmod +x "$2"
 "#;
 
 /// What the scripts take from the system.
-const TOOLS: [&str; 20] = [
+const TOOLS: [&str; 21] = [
     "sh", "dirname", "readlink", "id", "find", "mkdir", "rmdir", "sleep", "touch", "cat", "tee",
-    "date", "mv", "rm", "sed", "tr", "tail", "mktemp", "chmod", "env",
+    "date", "cp", "mv", "rm", "sed", "tr", "tail", "mktemp", "chmod", "env",
 ];
 
 /// A folder with the scripts and their programs in `bin`, and `flock` where wanted.
 pub fn folder(name: &str, with_flock: bool) -> PathBuf {
     let folder = Path::new(env!("CARGO_TARGET_TMPDIR")).join(name);
     let _ = fs::remove_dir_all(&folder);
-    for name in ["scripts", "crates/listing", "bin", "rust/casetool/src"] {
+    for name in [
+        "scripts",
+        "crates/api",
+        "crates/listing",
+        "crates/pencil",
+        "bin",
+        "rust/casetool/src",
+    ] {
         fs::create_dir_all(folder.join(name)).expect("a folder of the test");
     }
     for name in [
@@ -84,7 +112,7 @@ pub fn folder(name: &str, with_flock: bool) -> PathBuf {
         fs::write(folder.join(name), "").expect("a file of the test");
     }
     fs::write(folder.join("crates/listing/stdin"), "8000 1 12\n").expect("a file of the test");
-    for name in ["casetool", "example", "test", "common.sh"] {
+    for name in ["casetool", "example", "library", "test", "common.sh"] {
         let name = format!("scripts/{name}");
         fs::copy(repository(&name), folder.join(&name)).expect("the script");
     }
@@ -139,6 +167,19 @@ pub fn ended(child: Child) -> (Option<i32>, String, String) {
 /// Runs a script of the folder.
 pub fn run(folder: &Path, name: &str) -> (Option<i32>, String, String) {
     ended(start(folder, &folder.join("scripts").join(name)))
+}
+
+/// The lines that a script says, without the times of crates.
+pub fn without_times(said: &str) -> Vec<String> {
+    let timeless = |line: &str| match line.rsplit_once(" (") {
+        Some((start, time)) if time.ends_with(" s)") => {
+            let digits = time.trim_start_matches("after ").trim_end_matches(" s)");
+            assert!(digits.parse::<u32>().is_ok(), "{line}");
+            start.to_string()
+        }
+        _ => line.to_string(),
+    };
+    said.lines().map(timeless).collect()
 }
 
 /// The calls that the programs noted, each by its first two words.
