@@ -1,6 +1,6 @@
 /*
  * The proved Attachment H settlement, for C and whatever calls C. Link libapi.a, which
- * `rt staticlib api` writes to target/staticlib (x86-64 Linux).
+ * `sh scripts/library` puts into target/staticlib (x86-64 Linux).
  *
  * Versions. A case file is of version 1 or 2, and every call takes both. Version 2 has the number of the unit, at most
  * 999,999, as u32 at the end of a unit, a reference and an event, which have 28, 12 and 316 bytes and not 24, 8 and 312;

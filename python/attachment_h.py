@@ -18,7 +18,7 @@ _DEFAULT = Path(__file__).resolve().parent.parent / "rust" / "target" / "libatta
 _PATH = os.environ.get("ATTACHMENT_H_LIBRARY", str(_DEFAULT))
 _BUILD = """In the root of the repository:
 
-    rt staticlib api
+    sh scripts/library
     mkdir -p rust/target
     cc -shared -Wl,--whole-archive target/staticlib/libapi.a -Wl,--no-whole-archive -o rust/target/libattachment_h.so
 

@@ -196,5 +196,5 @@ without = subprocess.run(
     text=True,
 )
 expect("an import without the library", without.returncode, 1)
-for words in ["ImportError: the proved library can't be loaded", "rt staticlib api", "cc -shared", "ATTACHMENT_H_LIBRARY"]:
+for words in ["ImportError: the proved library can't be loaded", "sh scripts/library", "cc -shared", "ATTACHMENT_H_LIBRARY"]:
     expect(f"it says {words}", words in without.stderr, True)

@@ -1,5 +1,5 @@
-//! Links the archive that `rt staticlib api` writes. `ATTACHMENT_H_LIB_DIR` names another folder
-//! that holds it.
+//! Links the archive that `sh scripts/library` puts into target/staticlib. `ATTACHMENT_H_LIB_DIR`
+//! names another folder that holds it.
 
 use std::env;
 use std::path::PathBuf;
@@ -15,7 +15,7 @@ fn main() {
     println!("cargo:rerun-if-changed={}", archive.display());
     if !archive.is_file() {
         eprintln!(
-            "{} is missing: run `rt staticlib api` first",
+            "{} is missing: run `sh scripts/library` first",
             archive.display()
         );
         exit(1);

@@ -1,6 +1,6 @@
 //! The proved Attachment H settlement, called from Rust.
 //!
-//! Every function is a call of the archive that `rt staticlib api` writes, with nothing tested here:
+//! Every function is a call of the archive that `sh scripts/library` builds, with nothing tested here:
 //! the proved functions take every value of every argument. Ranges are those of docs/RULES.md, and
 //! an argument out of its range is answered with a refusal's number. A case file is of version 1 or 2
 //! (docs/FORMAT.md), and every call takes both.

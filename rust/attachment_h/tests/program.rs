@@ -1,4 +1,4 @@
-//! The program `listing` on many inputs of both versions, short and too long. `rt ci` and `rt check listing` write it to
+//! The program `listing` on many inputs of both versions, short and too long. scripts/test and scripts/example put it into
 //! target/bin; the gate names it in `ATTACHMENT_H_LISTING`, and elsewhere it may be missing.
 
 use std::env;

@@ -3,7 +3,7 @@
 //! forty generated ones also in turn, since the processor's branch predictor learns a case that comes
 //! again at once. Cases of version 2 are timed beside the same case in version 1, its units numbered through.
 //!
-//!     rt staticlib api
+//!     sh scripts/library
 //!     cargo run --release --offline --locked -p bench [rounds [proved]]
 //!
 //! With `proved` it says the names of the cases, a line each and then an empty one, and for each place in
