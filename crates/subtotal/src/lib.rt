@@ -1,2 +1,4 @@
 // A plant's part of its party-day's E.
+#![tactic(auto)]
+
 pub mod subtotal_call;
