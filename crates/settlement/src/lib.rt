@@ -1,2 +1,4 @@
 // The settlement of a case into rows.
+#![tactic(auto)]
+
 pub mod settle;
