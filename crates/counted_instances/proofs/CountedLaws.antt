@@ -16,7 +16,7 @@ use Rattle.limits.specs.Refusal.{refusal, most_rows}
 use Rattle.limits.specs.StageChecked.{AcceptedFile}
 use Rattle.sanctions.specs.StageGiven.{Accepted, FoundMasks}
 use Rattle.sanctions.proofs.AcceptedFigures as sanctions
-use Rattle.sanctions.proofs.FoundLaws as found-laws
+use Rattle.sanctions.proofs.FoundLaws as found_laws
 use Rattle.counted_instances.specs.CountedInstances.{counted_here, counted_past, byte_of, event_list_bytes, list_bytes, counted_length, counted_byte, with_counted, instances_answer, instances_out}
 use Rattle.counted_instances.specs.StageCounted.{event_counted, entry_counted, byte_in}
 
@@ -34,8 +34,8 @@ module _ (f : List ℕ) (acc : AcceptedFile f) (groups leaders masks : List ℕ)
   unfolding event_counted counted_here decode case_in
   event_is k j =
       go (ltb j i) refl _ _ _ _
-      (found-laws.instance-mask (format_in f) (section_of f 0) (section_of f 1) (section_of f 2) (section_of f 3) groups leaders masks accepted found i l)
-      (λ m. found-laws.row_counts (format_in f) (section_of f 0) (section_of f 1) (section_of f 2) (section_of f 3) groups leaders masks accepted found i k j l (omega arith))
+      (found_laws.instance_mask (format_in f) (section_of f 0) (section_of f 1) (section_of f 2) (section_of f 3) groups leaders masks accepted found i l)
+      (λ m. found_laws.row_counts_is (format_in f) (section_of f 0) (section_of f 1) (section_of f 2) (section_of f 3) groups leaders masks accepted found i k j l (omega arith))
     where
       go : (b : Bool) → ltb j i ≡ b → (x y v w : Bool) → x ≡ y → (j < i → v ≡ w) → (b && (x && v)) ≡ (y && (b && w))
       go true t x y v w e q = rw (e, q (ltb-true j i t))
@@ -46,8 +46,8 @@ module _ (f : List ℕ) (acc : AcceptedFile f) (groups leaders masks : List ℕ)
   unfolding entry_counted counted_past decode case_in
   past_is k j =
       go (ltb j (past_in (section_of f 2)).count) _ _ _ _
-      (found-laws.instance-mask (format_in f) (section_of f 0) (section_of f 1) (section_of f 2) (section_of f 3) groups leaders masks accepted found i l)
-      (found-laws.entry-counts (format_in f) (section_of f 0) (section_of f 1) (section_of f 2) (section_of f 3) groups leaders masks accepted found i k j l)
+      (found_laws.instance_mask (format_in f) (section_of f 0) (section_of f 1) (section_of f 2) (section_of f 3) groups leaders masks accepted found i l)
+      (found_laws.entry_counts_is (format_in f) (section_of f 0) (section_of f 1) (section_of f 2) (section_of f 3) groups leaders masks accepted found i k j l)
     where
       go : (b x y v w : Bool) → x ≡ y → v ≡ w → (b && (x && v)) ≡ (y && (b && w))
       go true x y v w e q = rw (e, q)
