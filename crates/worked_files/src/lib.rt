@@ -1,1 +1,2 @@
 // The files of worked cases: definitions alone.
+#![tactic(auto)]
