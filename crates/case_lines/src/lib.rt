@@ -1,1 +1,2 @@
 // The lines of the bids of a case.
+#![tactic(auto)]
