@@ -1,1 +1,2 @@
 // Cases refused by computation: proofs alone.
+#![tactic(auto)]
