@@ -1,1 +1,2 @@
 // The working of money by computation.
+#![tactic(auto)]
