@@ -1,1 +1,2 @@
 // The parts of a party-day by computation.
+#![tactic(auto)]
