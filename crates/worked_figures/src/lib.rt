@@ -1,1 +1,2 @@
 // Hours worked, and multipliers, by computation: proofs alone.
+#![tactic(auto)]
