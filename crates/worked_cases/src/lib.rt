@@ -1,1 +1,2 @@
 // Cases settled by computation: proofs alone.
+#![tactic(auto)]
