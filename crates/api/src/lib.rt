@@ -1,4 +1,6 @@
 // What other languages call. include/attachment_h.h and rust/attachment_h declare these functions again.
+#![tactic(auto)]
+
 pub mod case;
 pub mod exported_answers;
 pub mod money;

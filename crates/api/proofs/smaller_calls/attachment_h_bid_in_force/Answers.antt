@@ -1,0 +1,8 @@
+use mathlib.Core.Path.{◌∙◌, ap}
+use Rattle.calls.specs.Answers.{figure_answer}
+use Rattle.calls.proofs.AnswerLaws.{figure_answered}
+use Rattle.api.specs.Exported.{exported}
+use Rattle.api.proofs.smaller_calls.attachment_h_bid_in_force.Goals as goal
+
+pub returns : goal.returns
+returns c = c.of_figure.ensures ∙ ap exported (ap figure_answer c.bid_in_force.ensures ∙ figure_answered _)
