@@ -93,7 +93,7 @@ energy : EnergyNotNegative (decode before)
 unfolding party_day_e party_day_sum signed sum_ℤ_to case_of before headed file_in file_of unit_bytes reference_bytes entry_bytes units cell_bytes event_of sum_to count_to any_to all_to first_to last_to mask_to bit_of value_at bytes_of positive_part negative_part within threshold_of increase lower_test constrained_test percent_test time_test maximum_test bid_test unit_limit group_limit withheld_test dispatch_test cents period_counts ladder withheld_penalty dispatch_penalty fuel_day_counts fuel_charge fuel_penalty between spanned span_mask at_most lesser greater default_bid restores corrected_bid corrected_in_force excess hour_make_up make_up first_widths widths_of format_in offset_of length_of section_of record_at units_in references_in violation_in past_in cells_from cells_in events_in amounts_in decode case_in is_unit is_listed place_of unit_of group_of is_reference has_reference level_of correct_references correct_in reference_of length_fine version_fine sections_fine pairs_fine size_fine sizes_fine record_numbers_fine unit_numbers_fine reference_numbers_fine event_numbers_fine numbers_fine rises unit_fields_fine unit_spare_fine reference_spare_fine entry_spare_fine unit_fine units_fine reference_fields_fine reference_key reference_fine references_fine correction_fine violation_fine entry_fine past_fine mask_fine quantities_fine fields_fine reference_in_range bid_in_range cell_fine hour_fine event_fine events_fine month_length month_start month_from month_of day_of_month day_within window_start period_of days_fine periods_fine event_key order_fine event_listed events_listed within_capability amount_fine amounts_fine reads_correct reference_found references_found rows_fine refusal tight together sum_together time_bid time_total bid_flag group_capability group_sum withheld_flag dispatch_flag fuel_flag flagged flag_mask flagged_with_impact is_instance counts_here counts_past instances n3 n2 withheld_multiplier withheld_amount withheld_penalty_of dispatch_multiplier dispatch_revenue dispatch_penalty_of energy_part gain loss tcc_change lowest_unit counts_fuel past_fuel fuel_stands fuel_multiplier_after fuel_penalty_under prior_fuel fuel_multiplier fuel_penalty_of multiplier penalty total_penalty hit mitigated mitigated_mask correct_of bid_in_force make_up_tenths make_up_of total_make_up join_to bid_bytes row_of rows_of accepted answer_of rows_after settled
 energy zero l k = absurd (omega arith)
 energy (suc zero) l k = absurd (omega arith)
-energy (suc (suc zero)) l k = lit≤ tt
+energy (suc (suc zero)) l k = record { le = tt }
 energy (suc (suc (suc zero))) l k = absurd (omega arith)
 energy (suc (suc (suc (suc zero)))) l k = absurd (omega arith)
 energy (suc (suc (suc (suc (suc i))))) l k = absurd (omega arith)

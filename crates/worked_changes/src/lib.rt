@@ -1,1 +1,2 @@
 // Demand 3 at work on a case, and where it stops.
+#![tactic(auto)]
