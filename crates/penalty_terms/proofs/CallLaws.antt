@@ -1,20 +1,17 @@
 -- With multiplier 0 there is no penalty; else the smaller call of the kind, given the terms, gives that of the row that bears it.
-use Prim.Native.Nat.{ℕ, ◌-◌, ◌*◌, ◌≤◌, ◌<◌}
+use Prim.Native.Nat.{ℕ, ◌-◌, ◌*◌, ◌^◌, ◌≤◌, ◌<◌}
 use mathlib.Core.Bool.{Bool, true, false, cond, ◌&&◌, ◌||◌}
 use mathlib.Core.List.{List}
 use mathlib.Core.Path.{◌≡◌, refl, sym, ap, ◌∙◌}
 use native.Mathlib.Nat.{zero-mul}
 use native.Mathlib.Omega.{arith}
 use lib.Dec.{ltb, eqb}
-use lib.IntN.{sub_ℕ}
 use lib.ListN.{length}
-use borrow.Author.Tests.{ltb-true, eqb-true, eqb-false, ne_eqb, le-ltb, le-leb}
+use borrow.Author.Tests.{ltb-true, eqb-true, eqb-false, ne_eqb, lt-ltb, le-ltb, le-leb}
 use Rattle.binary.specs.Bounded.{sum_to}
-use Rattle.binary.specs.Integers.{word}
 use Rattle.binary.specs.Lists.{list_to}
 use Rattle.binary.specs.Word.{positive_part, negative_part, within}
 use Rattle.binary.proofs.BoundedLaws.{sum_same, any_false}
-use Rattle.binary.proofs.IntegerLaws.{less_parts, word_parts}
 use Rattle.binary.proofs.ListLaws.{list_length, list_at}
 use Rattle.tariff.specs.Ranges.{highest_capability, highest_price, highest_revenue, highest_e, highest_t}
 use Rattle.tariff.specs.SanctionRules.{cents, withheld_penalty, fuel_charge, fuel_penalty}
@@ -34,12 +31,31 @@ use Rattle.conduct.specs.Flags.{flagged}
 use Rattle.sanctions.specs.Penalties.{flagged_with_impact, is_instance, instances, withheld_multiplier, withheld_amount, withheld_penalty_of, dispatch_multiplier, dispatch_revenue, dispatch_penalty_of, gain, loss, tcc_change, lowest_unit, fuel_multiplier_after, fuel_penalty_under, fuel_multiplier, fuel_penalty_of, multiplier, penalty}
 use Rattle.penalty_terms.specs.declared.penalty_working.PenaltyWorking.{PenaltyWorking}
 use Rattle.penalty_terms.specs.PenaltyWorking.{bearer, penalty_working_at, refused_penalty, penalty_working_of}
-use Rattle.penalty_terms.specs.ByCalls.{flagged_amount, flagged_revenue, PenaltyByCalls, ByCalls}
+use Rattle.penalty_terms.specs.ByCalls.{flagged_amount, flagged_revenue, signed_word, PenaltyByCalls, ByCalls}
 use Rattle.penalty_terms.proofs.BearerLaws.{ordered, bare, bearer_own, leader_kind, leader_below, leader_lowest, bearer_leader}
 use Rattle.penalty_terms.proofs.TermLaws.{added, revenue_added}
 use Rattle.penalty_terms.proofs.PartyBounds.{gain_most, loss_most, tcc_most}
 
 -- ---- plain numbers
+
+-- the parts of a difference, as a word and back
+signed_parts : (x y : ℕ) → x ≤ highest_e → y ≤ highest_e
+    → (positive_part 64 (signed_word (x - y) (y - x)) ≡ x - y) × (negative_part 64 (signed_word (x - y) (y - x)) ≡ y - x)
+unfolding signed_word positive_part negative_part
+signed_parts x y lx ly = go (eqb (y - x) 0) refl
+  where
+    go : (b : Bool) → eqb (y - x) 0 ≡ b
+        → (cond (ltb (cond b (x - y) (2 ^ 64 - (y - x))) (2 ^ 63)) (cond b (x - y) (2 ^ 64 - (y - x))) 0 ≡ x - y)
+        × (cond (ltb (cond b (x - y) (2 ^ 64 - (y - x))) (2 ^ 63)) 0 (2 ^ 64 - cond b (x - y) (2 ^ 64 - (y - x))) ≡ y - x)
+    go true t =
+        let e = eqb-true (y - x) 0 t in
+        let l = lt-ltb (x - y) (2 ^ 63) (omega arith) in
+        (rw l, rw (l, e))
+    go false t =
+        let e = eqb-false (y - x) 0 t in
+        let z : x - y ≡ 0 = omega arith in
+        let l = le-ltb (2 ^ 64 - (y - x)) (2 ^ 63) (omega arith) in
+        (rw (l, z), rw l (omega arith))
 
 -- X by the parts of E is X by its two sums
 charge_same : (b : Bool) (x y T : ℕ) → fuel_charge (fuel_multiplier_after b) (x - y) (y - x) T ≡ fuel_charge (fuel_multiplier_after b) x y T
@@ -183,10 +199,11 @@ module _ (f k : List ℕ) (n : ℕ) (h : refusal f k n ≡ 0) (i : ℕ) (l : i <
   -- ---- Fuel
 
   module _ (kind : c.events.kind i ≡ 3) (lowest : lowest_unit c i ≡ true) where
-    parts : (positive_part 64 (word 64 (sub_ℕ (gain c i) (loss c i))) ≡ gain c i - loss c i) × (negative_part 64 (word 64 (sub_ℕ (gain c i) (loss c i))) ≡ loss c i - gain c i)
-    parts = word_parts 64 (gain c i) (loss c i) (omega arith) (omega (arith, gain_most f k n h i kind)) (omega (arith, loss_most f k n h i kind))
+    parts : (positive_part 64 (signed_word (gain c i - loss c i) (loss c i - gain c i)) ≡ gain c i - loss c i)
+        × (negative_part 64 (signed_word (gain c i - loss c i) (loss c i - gain c i)) ≡ loss c i - gain c i)
+    parts = signed_parts (gain c i) (loss c i) (omega (arith, gain_most f k n h i kind)) (omega (arith, loss_most f k n h i kind))
 
-    fuel_good : bad_fuel (word 64 (sub_ℕ (gain c i) (loss c i))) (tcc_change c i) (fuel_multiplier c i) ≡ false
+    fuel_good : bad_fuel (signed_word (gain c i - loss c i) (loss c i - gain c i)) (tcc_change c i) (fuel_multiplier c i) ≡ false
     unfolding bad_fuel within fuel_multiplier
     fuel_good =
         rw (
@@ -198,7 +215,7 @@ module _ (f k : List ℕ) (n : ℕ) (h : refusal f k n ≡ 0) (i : ℕ) (l : i <
         )
         (after_range _)
 
-    pub fuel_call : fuel_penalty_answer (word 64 (sub_ℕ (gain c i) (loss c i))) (tcc_change c i) (multiplier c i) ≡ given (penalty c i)
+    pub fuel_call : fuel_penalty_answer (signed_word (gain c i - loss c i) (loss c i - gain c i)) (tcc_change c i) (multiplier c i) ≡ given (penalty c i)
     unfolding fuel_penalty_answer answer multiplier penalty fuel_penalty_of fuel_penalty_under
     fuel_call = rw (kind, lowest, fuel_good, parts.0, parts.1) (ap given (penalty_same c i (gain c i) (loss c i) (tcc_change c i)))
 
@@ -228,7 +245,7 @@ module _ (f k : List ℕ) (n : ℕ) (h : refusal f k n ≡ 0) (i : ℕ) (l : i <
         withheld = λ q. rw (own (λ z. omega arith)) (withheld_call f k n h i l q);
         dispatch = λ q e. rw (own (λ z. omega arith)) (dispatch_call f k n h i l q (rw (own (λ z. omega arith)) at e));
         fuel = λ q.
-            rw (bearer_leader (decode f) (ordered f acc) (bare f acc) i l q, q, less_parts (gain (decode f) (leader_of (decode f) i)) (loss (decode f) (leader_of (decode f) i)))
+            rw (bearer_leader (decode f) (ordered f acc) (bare f acc) i l q, q)
             (fuel_call f k n h (leader_of (decode f) i) (leader_below (decode f) (ordered f acc) (bare f acc) i l q)
             (leader_kind (decode f) (ordered f acc) (bare f acc) i l q) (leader_lowest (decode f) (ordered f acc) (bare f acc) i l q));
       }

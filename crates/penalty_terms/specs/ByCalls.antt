@@ -1,10 +1,8 @@
 -- The figures are those of the row that bears the penalty, and the penalty follows from its terms by the smaller calls (docs/RULES.md, R13).
 -- With multiplier 0 there is none. Else the call of the kind, given the multiplier and the flagged hours of a withheld event, the flagged hours
 -- of a dispatch event, or E, T and M of a party-day, gives the penalty of that row.
-use Rattle.std.specs.Prelude.{ℕ, true, cond, List, ◌≡◌, get_or}
-use Rattle.std.proofs.Math.IntN.{sub_ℕ}
+use Rattle.std.specs.Prelude.{ℕ, ◌-◌, ◌^◌, true, cond, List, ◌≡◌, eqb, get_or}
 use Rattle.binary.specs.Bounded.{sum_to}
-use Rattle.binary.specs.Integers.{word}
 use Rattle.binary.specs.Lists.{list_to}
 use Rattle.calls.specs.Answers.{given}
 use Rattle.penalty_calls.specs.SanctionCalls.{withheld_penalty_answer, dispatch_penalty_answer, fuel_penalty_answer}
@@ -23,6 +21,10 @@ flagged_amount c i h = cond (flagged c i h) (c.a i h) 0
 
 unfoldable pub flagged_revenue : Case → (i h : ℕ) → ℕ
 flagged_revenue c i h = cond (flagged c i h) (c.events.b i h) 0
+
+-- the word of 64 bits of a number with that positive and negative part, of which one is 0
+unfoldable pub signed_word : (positive negative : ℕ) → ℕ
+signed_word p n = cond (eqb n 0) p (2 ^ 64 - n)
 
 -- the terms of the hours, added
 abbrev pub hours_added : PenaltyWorking → ℕ
@@ -46,7 +48,7 @@ pub record PenaltyByCalls (c : Case) (i : ℕ) (w : PenaltyWorking) : Type 0 whe
   pub dispatch : c.events.kind i ≡ 2 → w.multiplier ≡ 3
       → dispatch_penalty_answer (list_to most_hours (flagged_revenue c i)) ≡ given w.penalty
   pub fuel : c.events.kind i ≡ 3
-      → fuel_penalty_answer (word 64 (sub_ℕ w.e_positive w.e_negative)) w.t w.multiplier ≡ given w.penalty
+      → fuel_penalty_answer (signed_word w.e_positive w.e_negative) w.t w.multiplier ≡ given w.penalty
 
 -- of every working that is given
 abbrev pub ByCalls : Type 0

@@ -1,11 +1,12 @@
 -- The parts of a party-day add to its E.
-use Prim.Native.Nat.{ℕ, ◌+◌, ◌*◌, ◌<◌}
+use Prim.Native.Nat.{ℕ, suc, ◌+◌, ◌-◌, ◌*◌, ◌^◌, ◌<◌}
 use mathlib.Core.Bool.{Bool, true, false, cond}
 use mathlib.Core.List.{List}
 use mathlib.Core.Path.{◌≡◌, refl, sym, ap, ap₂, ◌∙◌}
 use native.Mathlib.Omega.{arith}
-use lib.IntN.{pos, sub_ℕ}
-use borrow.Author.Tests.{eq-eqb, lt-ltb}
+use lib.Dec.{ltb, eqb}
+use lib.IntN.{pos, negsuc, sub_ℕ}
+use borrow.Author.Tests.{ltb-true, ltb-false, eq-eqb, ne_eqb, lt-ltb}
 use Rattle.binary.specs.Bounded.{bit_of}
 use Rattle.binary.specs.Integers.{signed, word}
 use Rattle.binary.specs.Word.{positive_part, negative_part}
@@ -22,6 +23,7 @@ use Rattle.party_runs.proofs.PartyLaws.{together_fields, together_refl, any_toge
 use Rattle.conduct.specs.Flags.{sum_together, fuel_flag}
 use Rattle.sanctions.specs.Penalties.{party_day_sum, party_day_e, energy_part, gain, loss}
 use Rattle.sanctions.proofs.EnergyLaws.{gain_less_loss}
+use Rattle.penalty_terms.specs.ByCalls.{signed_word as call_word}
 use Rattle.penalty_terms.proofs.CallLaws.{fuel_call}
 use Rattle.penalty_terms.proofs.PartyBounds.{energy_most}
 use Rattle.subtotal.specs.Subtotal.{subtotal_of, is_fuel_event, subtotal_answer}
@@ -79,10 +81,25 @@ module _ (f k : List ℕ) (n : ℕ) (h : refusal f k n ≡ 0) where
     part_given : PartGiven f j
     part_given = record { answer = answered; value = valued }
 
+-- the word of a difference is that of its two parts
+word_is : (x y : ℕ) → word 64 (sub_ℕ x y) ≡ call_word (x - y) (y - x)
+unfolding word call_word
+word_is x y = go (ltb x y) refl
+  where
+    go : (t : Bool) → ltb x y ≡ t → word 64 (cond t (negsuc (y - suc x)) (pos (x - y))) ≡ cond (eqb (y - x) 0) (x - y) (2 ^ 64 - (y - x))
+    go true t =
+        let l = ltb-true x y t in
+        let z : y - x ≡ 0 → ⊥ = λ e. omega arith in
+        rw (ne_eqb _ _ z) (omega arith)
+    go false t =
+        let l = ltb-false x y t in
+        let z : y - x ≡ 0 = omega arith in
+        rw z refl
+
 pub add_to_e : AddToE
 add_to_e f k n i h l kind =
     record {
       each = λ j m t. part_given f k n h j m ((together_fields (decode f) i j t).kind ∙ kind);
       sum = parts_add (decode f) i;
-      penalty_of = λ low. rw (added_less (decode f) i) (fuel_call f k n h i l kind low);
+      penalty_of = λ low. rw (added_less (decode f) i, word_is (gain (decode f) i) (loss (decode f) i)) (fuel_call f k n h i l kind low);
     }

@@ -4,11 +4,9 @@ use mathlib.Core.Bool.{false}
 use mathlib.Core.List.{List, [], ◌∷◌, ◌++◌}
 use mathlib.Core.Path.{◌≡◌, refl}
 use lib.Dec.{lit<}
-use lib.IntN.{pos}
 use lib.ListN.{replicate}
 use Rattle.binary.specs.Bounded.{sum_to, count_to, any_to, all_to, first_to, last_to, mask_to, bit_of}
 use Rattle.binary.specs.Bytes.{value_at, bytes_of}
-use Rattle.binary.specs.Integers.{word}
 use Rattle.binary.specs.Word.{positive_part, negative_part, within}
 use Rattle.binary.specs.Lists.{join_to, list_to}
 use Rattle.calendar.specs.Months.{month_length, month_start, month_from, month_of, day_of_month}
@@ -30,7 +28,7 @@ use Rattle.sanctions.specs.Penalties.{flagged_with_impact, is_instance, counts_h
 use Rattle.default_bids.specs.Mitigation.{hit, mitigated, mitigated_mask, correct_of, make_up_tenths, make_up_of, bid_in_force}
 use Rattle.penalty_terms.specs.PenaltyWorking.{bearer, charge_of, hour_term, hour_loss, penalty_working_at, refused_penalty, penalty_working_of}
 use Rattle.penalty_terms.specs.declared.penalty_working.PenaltyWorking.{PenaltyWorking}
-use Rattle.penalty_terms.specs.ByCalls.{flagged_amount, flagged_revenue}
+use Rattle.penalty_terms.specs.ByCalls.{flagged_amount, flagged_revenue, signed_word}
 use Rattle.penalty_terms.proofs.CallLaws.{by_calls}
 use Rattle.counted_instances.specs.CountedInstances.{counted_here, counted_past, byte_of, list_bytes, counted_length, counted_byte, instances_answer, instances_out, bits_from}
 use Rattle.counted_instances.proofs.CountLaws.{counts_agree}
@@ -129,7 +127,7 @@ workings =
     }
 
 -- the smaller call, given the party-day's E, T and M, gives its penalty
-pub fuel_by_call : fuel_penalty_answer (word 64 (pos 5940070)) 0 2 ≡ given 594007
+pub fuel_by_call : fuel_penalty_answer (signed_word 5940070 0) 0 2 ≡ given 594007
 unfolding tight_unit bid_references bid_events bids minimum_generation cell_bytes event_of headed file_in file_of unit_bytes reference_bytes entry_bytes units sum_to count_to any_to all_to first_to last_to mask_to bit_of value_at bytes_of positive_part negative_part within threshold_of increase lower_test constrained_test percent_test time_test maximum_test bid_test unit_limit group_limit withheld_test dispatch_test cents period_counts ladder withheld_penalty dispatch_penalty fuel_day_counts fuel_charge fuel_penalty between spanned at_most lesser greater default_bid restores excess hour_make_up make_up first_widths widths_of format_in offset_of length_of section_of record_at units_in references_in violation_in past_in cells_from cells_in events_in amounts_in decode case_in is_unit is_listed place_of unit_of group_of is_reference has_reference level_of correct_references correct_in reference_of length_fine version_fine sections_fine pairs_fine size_fine sizes_fine record_numbers_fine unit_numbers_fine reference_numbers_fine event_numbers_fine numbers_fine rises unit_fields_fine unit_spare_fine reference_spare_fine entry_spare_fine unit_fine units_fine reference_fields_fine reference_key reference_fine references_fine correction_fine violation_fine entry_fine past_fine mask_fine quantities_fine fields_fine reference_in_range bid_in_range cell_fine hour_fine event_fine events_fine month_length month_start month_from month_of day_of_month day_within window_start period_of days_fine periods_fine event_key order_fine event_listed events_listed within_capability amount_fine amounts_fine reads_correct reference_found references_found rows_fine refusal tight together sum_together time_bid time_total bid_flag group_capability group_sum withheld_flag dispatch_flag fuel_flag flagged flagged_with_impact is_instance counts_here counts_past instances n3 n2 withheld_multiplier withheld_amount withheld_penalty_of dispatch_multiplier dispatch_revenue dispatch_penalty_of energy_part gain loss tcc_change lowest_unit counts_fuel past_fuel fuel_stands fuel_multiplier_after fuel_penalty_under prior_fuel fuel_multiplier fuel_penalty_of multiplier penalty hit mitigated mitigated_mask correct_of make_up_tenths make_up_of join_to area_units past_instances sanctioned_events sanctioned list_to bid_level bearer charge_of hour_term hour_loss penalty_working_at refused_penalty penalty_working_of counted_here counted_past byte_of counted_byte correct_read restored energy_bid hour_make_up_tenths make_up_working_at refused_make_up make_up_working_of
 fuel_by_call = (by_calls sanctioned [] 4 refl).fuel refl
 
