@@ -105,6 +105,9 @@ def prose(text, names):
 def antt(text, names, fields):
     out = []
     modules = set(re.findall(r"(?m)^use [^\n]* as (\w+)$", text))
+    # elsewhere E is a variable, as T and M are
+    if not re.search(r"(?m)^(?:unfoldable pub E :|use \S+\.Penalties\.\{[^}]*\bE\b)", text):
+        names = {a: b for a, b in names.items() if a != "E"}
     # what a file takes from the library has the library's name
     for head, items in re.findall(r"(?m)^use ([^\s{]+)\.\{([^}]*)\}", text):
         if not re.match(r"Rattle\.(?!std\b)", head):

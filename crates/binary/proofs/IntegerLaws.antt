@@ -106,6 +106,6 @@ word_parts bits x y h lx ly = go (ltb x y) refl
         (rw z refl, rw z (omega arith))
 
 -- and its value
-pub signed_word : (bits x y : ℕ) → 0 < bits → x < 2 ^ (bits - 1) → y < 2 ^ (bits - 1) → signed bits (word bits (sub_ℕ x y)) ≡ sub_ℕ x y
+pub signed_of_word : (bits x y : ℕ) → 0 < bits → x < 2 ^ (bits - 1) → y < 2 ^ (bits - 1) → signed bits (word bits (sub_ℕ x y)) ≡ sub_ℕ x y
 unfolding signed
-signed_word bits x y h lx ly = let p = word_parts bits x y h lx ly in rw (p.0, p.1) (less_parts x y)
+signed_of_word bits x y h lx ly = let p = word_parts bits x y h lx ly in rw (p.0, p.1) (less_parts x y)

@@ -50,21 +50,21 @@ fine_revenues b e =
     let r : any_to (length b) (bad_revenue b) ≡ false = search (or_l, or_r) in
     record { few = ltb-false _ _ q; revenue = λ h l. ltb-false _ _ (any_at (length b) h (bad_revenue b) l r) }
 
-pub record FuelArguments (party_day_e T M : ℕ) : Type 0 where
-  pub gain : positive_part 64 party_day_e ≤ highest_e
-  pub loss : negative_part 64 party_day_e ≤ highest_e
+pub record FuelArguments (E T M : ℕ) : Type 0 where
+  pub gain : positive_part 64 E ≤ highest_e
+  pub loss : negative_part 64 E ≤ highest_e
   pub congestion : T ≤ highest_t
   pub multiplier : M ≤ highest_fuel_multiplier
 
-pub fuel_arguments : (party_day_e T M : ℕ) → bad_fuel party_day_e T M ≡ false → FuelArguments party_day_e T M
+pub fuel_arguments : (E T M : ℕ) → bad_fuel E T M ≡ false → FuelArguments E T M
 unfolding bad_fuel
-fuel_arguments party_day_e T M h =
-    let e : not (within 64 highest_e party_day_e) ≡ false = search (or_l, or_r) in
+fuel_arguments E T M h =
+    let e : not (within 64 highest_e E) ≡ false = search (or_l, or_r) in
     let t : ltb highest_t T ≡ false = search (or_l, or_r) in
     let m : ltb highest_fuel_multiplier M ≡ false = search (or_l, or_r) in
     record {
-      gain = within_positive 64 highest_e party_day_e (not-false _ e);
-      loss = within_negative 64 highest_e party_day_e (not-false _ e);
+      gain = within_positive 64 highest_e E (not-false _ e);
+      loss = within_negative 64 highest_e E (not-false _ e);
       congestion = ltb-false _ _ t;
       multiplier = ltb-false _ _ m;
     }

@@ -56,13 +56,13 @@ unfoldable pub dispatch_penalty_answer : (b : List ℕ) → Answer
 dispatch_penalty_answer b = answer false (bad_revenues b) (dispatch_penalty (sum_to (length b) (revenue_at b)))
 
 -- E is a signed word of 64 bits
-unfoldable pub bad_fuel : (party_day_e T M : ℕ) → Bool
-bad_fuel party_day_e T M =
-    not (within 64 highest_e party_day_e) || ltb highest_t T || ltb M lowest_fuel_multiplier || ltb highest_fuel_multiplier M
+unfoldable pub bad_fuel : (E T M : ℕ) → Bool
+bad_fuel E T M =
+    not (within 64 highest_e E) || ltb highest_t T || ltb M lowest_fuel_multiplier || ltb highest_fuel_multiplier M
 
-unfoldable pub fuel_penalty_answer : (party_day_e T M : ℕ) → Answer
-fuel_penalty_answer party_day_e T M =
-    answer false (bad_fuel party_day_e T M) (fuel_penalty M (positive_part 64 party_day_e) (negative_part 64 party_day_e) T)
+unfoldable pub fuel_penalty_answer : (E T M : ℕ) → Answer
+fuel_penalty_answer E T M =
+    answer false (bad_fuel E T M) (fuel_penalty M (positive_part 64 E) (negative_part 64 E) T)
 
 -- both days are in the calendar
 unfoldable pub fuel_day_answer : (d e : ℕ) → Answer

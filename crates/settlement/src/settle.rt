@@ -25,6 +25,9 @@ pub enum Settlement {
     },
 }
 
+// The number of a case that meets every limit.
+const ACCEPTED: u8 = 0;
+
 // The rows of an accepted file, from the places, r and c that its check found.
 fn settle_accepted(
     file: &[u8],
@@ -64,7 +67,7 @@ pub fn settle<'a>(file: &'a [u8], correction: &'a [u8], rows: &mut [u8]) -> Sett
         &mut levels,
         &mut corrects,
     );
-    if number != 0 {
+    if number != ACCEPTED {
         return Settlement::Refused(number);
     }
     let totals = settle_accepted(file, &places, &levels, &corrects, rows);

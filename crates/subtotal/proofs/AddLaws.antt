@@ -11,7 +11,7 @@ use Rattle.binary.specs.Bounded.{bit_of}
 use Rattle.binary.specs.Integers.{signed, word}
 use Rattle.binary.specs.Word.{positive_part, negative_part}
 use Rattle.binary.proofs.BoundedLaws.{sum_same}
-use Rattle.binary.proofs.IntegerLaws.{less_sum, signed_word}
+use Rattle.binary.proofs.IntegerLaws.{less_sum, signed_of_word}
 use Rattle.binary.proofs.WordLaws.{within_positive, within_negative}
 use Rattle.calls.specs.Answers.{given}
 use Rattle.casefile.specs.Case.{Case}
@@ -23,7 +23,7 @@ use Rattle.party_runs.proofs.PartyLaws.{together_fields, together_refl, any_toge
 use Rattle.conduct.specs.Flags.{sum_together, fuel_flag}
 use Rattle.sanctions.specs.Penalties.{party_day_sum, party_day_e, energy_part, gain, loss}
 use Rattle.sanctions.proofs.EnergyLaws.{gain_less_loss}
-use Rattle.penalty_terms.specs.ByCalls.{signed_word as call_word}
+use Rattle.penalty_terms.specs.ByCalls.{signed_word}
 use Rattle.penalty_terms.proofs.CallLaws.{fuel_call}
 use Rattle.penalty_terms.proofs.PartyBounds.{energy_most}
 use Rattle.subtotal.specs.Subtotal.{subtotal_of, is_fuel_event, subtotal_answer}
@@ -74,7 +74,7 @@ module _ (f k : List ℕ) (n : ℕ) (h : refusal f k n ≡ 0) where
     valued : signed 64 (word 64 (subtotal_of c j)) ≡ subtotal_of c j
     valued =
         rw (own_less c j)
-        (signed_word 64 (energy_part (positive_part 32) c j j) (energy_part (negative_part 32) c j j) (omega arith)
+        (signed_of_word 64 (energy_part (positive_part 32) c j j) (energy_part (negative_part 32) c j j) (omega arith)
         (omega (arith, energy_most f k n h j kind (positive_part 32) (within_positive 32) j l (together_refl c j)))
         (omega (arith, energy_most f k n h j kind (negative_part 32) (within_negative 32) j l (together_refl c j))))
 
@@ -82,8 +82,8 @@ module _ (f k : List ℕ) (n : ℕ) (h : refusal f k n ≡ 0) where
     part_given = record { answer = answered; value = valued }
 
 -- the word of a difference is that of its two parts
-word_is : (x y : ℕ) → word 64 (sub_ℕ x y) ≡ call_word (x - y) (y - x)
-unfolding word call_word
+word_is : (x y : ℕ) → word 64 (sub_ℕ x y) ≡ signed_word (x - y) (y - x)
+unfolding word signed_word
 word_is x y = go (ltb x y) refl
   where
     go : (t : Bool) → ltb x y ≡ t → word 64 (cond t (negsuc (y - suc x)) (pos (x - y))) ≡ cond (eqb (y - x) 0) (x - y) (2 ^ 64 - (y - x))

@@ -98,9 +98,9 @@ dispatch_penalty_mono x x' f = cents_mono 2 _ _ (omega arith) (mul-le-mul_left 3
 charge_mono : (M M' gain loss T : ℕ) → M ≤ M' → loss ≤ gain → fuel_charge M gain loss T ≤ fuel_charge M' gain loss T
 unfolding fuel_charge
 charge_mono M M' gain loss T f g =
-    let party_day_e : ℕ = gain - loss in
-    let s : (N : ℕ) → N * gain ≡ N * loss + N * party_day_e = λ N. ap (λ (x : ℕ). N * x) (sym (add-sub_of_le g)) ∙ mul-add N loss party_day_e in
-    let h : M * party_day_e ≤ M' * party_day_e = mul-le-mul_right party_day_e f in
+    let E : ℕ = gain - loss in
+    let s : (N : ℕ) → N * gain ≡ N * loss + N * E = λ N. ap (λ (x : ℕ). N * x) (sym (add-sub_of_le g)) ∙ mul-add N loss E in
+    let h : M * E ≤ M' * E = mul-le-mul_right E f in
     omega (arith, s M, s M')
 
 pub fuel_penalty_mono : (M M' gain loss T : ℕ) → M ≤ M' → loss ≤ gain → fuel_penalty M gain loss T ≤ fuel_penalty M' gain loss T

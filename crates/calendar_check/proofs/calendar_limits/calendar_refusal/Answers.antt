@@ -8,9 +8,8 @@ use Rattle.calendar_check.proofs.calendar_limits.calendar_refusal.Goals as goal
 
 pub returns-then-past_dated-events_dated : goal.returns-then-past_dated-events_dated
 returns-then-past_dated-events_dated c =
-    let looked : let s = c in
-    (past_in_calendar (past_in s.args.past.now) (events_in s.args.format s.args.events.now) && events_in_calendar (events_in s.args.format s.args.events.now))
-    ≡ (c.past_in_calendar-past_dated.result && s.args.events_dated) = rw (c.past_in_calendar-past_dated.ensures, c.requires) in
+    let looked : (past_in_calendar (past_in c.args.past.now) (events_in c.args.format c.args.events.now) && events_in_calendar (events_in c.args.format c.args.events.now))
+    ≡ (c.past_in_calendar-past_dated.result && c.args.events_dated) = rw (c.past_in_calendar-past_dated.ensures, c.requires) in
     none_broken _ _ (looked ∙ c.if-past_dated-events_dated.true)
 
 pub returns-then-past_days-event_days : goal.returns-then-past_days-event_days
@@ -21,7 +20,7 @@ returns-then-past_days-event_days c =
     ≡ (c.past_in_calendar-past_dated.result && s.args.events_dated) = rw (c.past_in_calendar-past_dated.ensures, c.requires) in
     let days : let s = c.args in
     days_fine (past_in s.past.now) (events_in s.format s.events.now) ≡ (c.past_days_fine-past_days.result && c.event_days_fine-event_days.result) = rw (c.past_days_fine-past_days.ensures, c.event_days_fine-event_days.ensures) in
-    let k = c in period_broken _ _ (looked ∙ k.if-past_dated-events_dated.false) (days ∙ c.if-past_days-event_days.true)
+    period_broken _ _ (looked ∙ c.if-past_dated-events_dated.false) (days ∙ c.if-past_days-event_days.true)
 
 pub returns : goal.returns
 unfolding days_fine

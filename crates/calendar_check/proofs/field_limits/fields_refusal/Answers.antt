@@ -63,28 +63,26 @@ calendar_refusal-calendar-requires c =
 pub returns-then-calendar-ne0 : goal.returns-then-calendar-ne0
 unfolding fields_refusal
 returns-then-calendar-ne0 c =
-    let o = c in
-    let s = o.args in
+    let s = c.args in
     let e = events_in s.format s.events.now in
-    let q = o.order_refusal-order.ensures in
+    let q = c.order_refusal-order.ensures in
     let r = c.calendar_refusal-calendar.ensures in
     r
     ∙ calendar (events_fine s.format s.events.now) (events_in_calendar e) (order_fine e) (days_fine (past_in s.past.now) e) (periods_fine (past_in s.past.now) e)
-    (λ z. o.if-order-eq10.false (q ∙ z))
+    (λ z. c.if-order-eq10.false (q ∙ z))
     (λ z. c.if-calendar-ne0.true (r ∙ z))
 
 pub returns : goal.returns
 unfolding fields_refusal
 returns c =
-    let o = c in
-    let s = o.args in
+    let s = c.args in
     let e = events_in s.format s.events.now in
-    let q = o.order_refusal-order.ensures in
+    let q = c.order_refusal-order.ensures in
     let d = passed (days_fine (past_in s.past.now) e) 17 _ (sym c.calendar_refusal-calendar.ensures ∙ c.if-calendar-ne0.false) in
     let p = (passed (periods_fine (past_in s.past.now) e) 18 0 d.1).0 in
     q
     ∙ later (events_fine s.format s.events.now) (events_in_calendar e) (order_fine e) (days_fine (past_in s.past.now) e) (periods_fine (past_in s.past.now) e)
-    (λ z. o.if-order-eq10.false (q ∙ z))
+    (λ z. c.if-order-eq10.false (q ∙ z))
     d.0
     p
     (events_dated (past_in s.past.now) e d.0 p)

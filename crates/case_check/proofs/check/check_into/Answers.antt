@@ -50,58 +50,46 @@ returns-then-records-ne0 c =
     let header : header_refusal c.args.file.now 0 ≡ 0 = sym c.header_refusal-header.ensures ∙ c.if-header-ne0.false in
     let records : let s = c.args in
     c.records_refusal-records.result
-    ≡ records_refusal (format_in s.file.now) (section_of s.file.now 0) (section_of s.file.now 1) s.correction.now (section_of s.file.now 2) (section_of s.file.now 3) 0 = let o = c in
-    rw (c.records_refusal-records.ensures, c.section-events.ensures, o.section-past.ensures, o.section-references.ensures, o.section-units.ensures, o.format_of-format.ensures) in
+    ≡ records_refusal (format_in s.file.now) (section_of s.file.now 0) (section_of s.file.now 1) s.correction.now (section_of s.file.now 2) (section_of s.file.now 3) 0 = rw (c.records_refusal-records.ensures, c.section-events.ensures, c.section-past.ensures, c.section-references.ensures, c.section-units.ensures, c.format_of-format.ensures) in
     record { value = refusal_records _ _ _ _ header records c.if-records-ne0.true; handed_on = λ z. absurd (c.if-records-ne0.true z) }
 
 pub fields_refusal-fields-requires : goal.fields_refusal-fields-requires
 fields_refusal-fields-requires c =
     let records : let s = c.args in
     c.records_refusal-records.result
-    ≡ records_refusal (format_in s.file.now) (section_of s.file.now 0) (section_of s.file.now 1) s.correction.now (section_of s.file.now 2) (section_of s.file.now 3) 0 = let o = c in
-    rw (c.records_refusal-records.ensures, c.section-events.ensures, o.section-past.ensures, o.section-references.ensures, o.section-units.ensures, o.format_of-format.ensures) in
+    ≡ records_refusal (format_in s.file.now) (section_of s.file.now 0) (section_of s.file.now 1) s.correction.now (section_of s.file.now 2) (section_of s.file.now 3) 0 = rw (c.records_refusal-records.ensures, c.section-events.ensures, c.section-past.ensures, c.section-references.ensures, c.section-units.ensures, c.format_of-format.ensures) in
     let fine_records : c.records_refusal-records.result ≡ 0 → let s = c.args in
     RecordsFine (format_in s.file.now) (section_of s.file.now 0) (section_of s.file.now 1) s.correction.now (section_of s.file.now 2) (section_of s.file.now 3) = λ e. (records_fine _ _ _ _ _ _ 0 (sym records ∙ e)).0 in
-    let r = c in
-    let o = r in
-    rw (o.format_of-format.ensures, r.section-events.ensures) (event_numbers _ _ _ _ (fine_records c.if-records-ne0.false).numbers_fine_holds)
+    rw (c.format_of-format.ensures, c.section-events.ensures) (event_numbers _ _ _ _ (fine_records c.if-records-ne0.false).numbers_fine_holds)
 
 pub returns-then-fields-ne0 : goal.returns-then-fields-ne0
 returns-then-fields-ne0 c =
     let header : header_refusal c.args.file.now 0 ≡ 0 = sym c.header_refusal-header.ensures ∙ c.if-header-ne0.false in
     let records : let s = c.args in
     c.records_refusal-records.result
-    ≡ records_refusal (format_in s.file.now) (section_of s.file.now 0) (section_of s.file.now 1) s.correction.now (section_of s.file.now 2) (section_of s.file.now 3) 0 = let o = c in
-    rw (c.records_refusal-records.ensures, c.section-events.ensures, o.section-past.ensures, o.section-references.ensures, o.section-units.ensures, o.format_of-format.ensures) in
+    ≡ records_refusal (format_in s.file.now) (section_of s.file.now 0) (section_of s.file.now 1) s.correction.now (section_of s.file.now 2) (section_of s.file.now 3) 0 = rw (c.records_refusal-records.ensures, c.section-events.ensures, c.section-past.ensures, c.section-references.ensures, c.section-units.ensures, c.format_of-format.ensures) in
     let first_stages : let s = c.args in
     (header_refusal s.file.now 0 ≡ 0)
-    × (records_refusal (format_in s.file.now) (section_of s.file.now 0) (section_of s.file.now 1) s.correction.now (section_of s.file.now 2) (section_of s.file.now 3) 0 ≡ 0) = let r = c in
-    (header, sym records ∙ c.if-records-ne0.false) in
+    × (records_refusal (format_in s.file.now) (section_of s.file.now 0) (section_of s.file.now 1) s.correction.now (section_of s.file.now 2) (section_of s.file.now 3) 0 ≡ 0) = (header, sym records ∙ c.if-records-ne0.false) in
     let fields : let s = c.args in
-    c.fields_refusal-fields.result ≡ fields_refusal (format_in s.file.now) (section_of s.file.now 2) (section_of s.file.now 3) 0 = let r = c in
-    let o = r in
-    rw (c.fields_refusal-fields.ensures, r.section-events.ensures, o.section-past.ensures, o.format_of-format.ensures) in
-    let k = first_stages in
-    record { value = refusal_fields _ _ _ k.0 k.1 _ fields c.if-fields-ne0.true; handed_on = λ z. absurd (c.if-fields-ne0.true z) }
+    c.fields_refusal-fields.result ≡ fields_refusal (format_in s.file.now) (section_of s.file.now 2) (section_of s.file.now 3) 0 = rw (c.fields_refusal-fields.ensures, c.section-events.ensures, c.section-past.ensures, c.format_of-format.ensures) in
+    record { value = refusal_fields _ _ _ first_stages.0 first_stages.1 _ fields c.if-fields-ne0.true; handed_on = λ z. absurd (c.if-fields-ne0.true z) }
 
 pub found_refusal-requires : goal.found_refusal-requires
 found_refusal-requires c =
     let records : let s = c.args in
     c.records_refusal-records.result
-    ≡ records_refusal (format_in s.file.now) (section_of s.file.now 0) (section_of s.file.now 1) s.correction.now (section_of s.file.now 2) (section_of s.file.now 3) 0 = let o = c in
-    rw (c.records_refusal-records.ensures, c.section-events.ensures, o.section-past.ensures, o.section-references.ensures, o.section-units.ensures, o.format_of-format.ensures) in
+    ≡ records_refusal (format_in s.file.now) (section_of s.file.now 0) (section_of s.file.now 1) s.correction.now (section_of s.file.now 2) (section_of s.file.now 3) 0 = rw (c.records_refusal-records.ensures, c.section-events.ensures, c.section-past.ensures, c.section-references.ensures, c.section-units.ensures, c.format_of-format.ensures) in
     let fine_records : c.records_refusal-records.result ≡ 0 → let s = c.args in
     RecordsFine (format_in s.file.now) (section_of s.file.now 0) (section_of s.file.now 1) s.correction.now (section_of s.file.now 2) (section_of s.file.now 3) = λ e. (records_fine _ _ _ _ _ _ 0 (sym records ∙ e)).0 in
     let header : header_refusal c.args.file.now 0 ≡ 0 = sym c.header_refusal-header.ensures ∙ c.if-header-ne0.false in
     let fine : HeaderFine c.args.file.now = (header_fine _ 0 header).0 in
-    let r = c in
-    let o = r in
     let f = fine_records c.if-records-ne0.false in
-    let t = o.format_of-format.ensures in (
-      rw (t, o.section-units.ensures) (numbers_in_order _ _ f.units_fine_holds),
-      rw (t, o.section-references.ensures) (references_in_order _ _ _ f.references_fine_holds),
-      rw (t, o.section-references.ensures) (correct_in_order _ _ _ _ f.references_fine_holds f.correction_fine_holds),
-      rw (t, r.section-events.ensures) (events_fit _ fine),
+    let t = c.format_of-format.ensures in (
+      rw (t, c.section-units.ensures) (numbers_in_order _ _ f.units_fine_holds),
+      rw (t, c.section-references.ensures) (references_in_order _ _ _ f.references_fine_holds),
+      rw (t, c.section-references.ensures) (correct_in_order _ _ _ _ f.references_fine_holds f.correction_fine_holds),
+      rw (t, c.section-events.ensures) (events_fit _ fine),
     )
 
 pub returns : goal.returns
@@ -109,29 +97,22 @@ returns c =
     let header : header_refusal c.args.file.now 0 ≡ 0 = sym c.header_refusal-header.ensures ∙ c.if-header-ne0.false in
     let records : let s = c.args in
     c.records_refusal-records.result
-    ≡ records_refusal (format_in s.file.now) (section_of s.file.now 0) (section_of s.file.now 1) s.correction.now (section_of s.file.now 2) (section_of s.file.now 3) 0 = let o = c in
-    rw (c.records_refusal-records.ensures, c.section-events.ensures, o.section-past.ensures, o.section-references.ensures, o.section-units.ensures, o.format_of-format.ensures) in
+    ≡ records_refusal (format_in s.file.now) (section_of s.file.now 0) (section_of s.file.now 1) s.correction.now (section_of s.file.now 2) (section_of s.file.now 3) 0 = rw (c.records_refusal-records.ensures, c.section-events.ensures, c.section-past.ensures, c.section-references.ensures, c.section-units.ensures, c.format_of-format.ensures) in
     let first_stages : let s = c.args in
     (header_refusal s.file.now 0 ≡ 0)
-    × (records_refusal (format_in s.file.now) (section_of s.file.now 0) (section_of s.file.now 1) s.correction.now (section_of s.file.now 2) (section_of s.file.now 3) 0 ≡ 0) = let r = c in
-    (header, sym records ∙ c.if-records-ne0.false) in
+    × (records_refusal (format_in s.file.now) (section_of s.file.now 0) (section_of s.file.now 1) s.correction.now (section_of s.file.now 2) (section_of s.file.now 3) 0 ≡ 0) = (header, sym records ∙ c.if-records-ne0.false) in
     let fields : let s = c.args in
-    c.fields_refusal-fields.result ≡ fields_refusal (format_in s.file.now) (section_of s.file.now 2) (section_of s.file.now 3) 0 = let r = c in
-    let o = r in
-    rw (c.fields_refusal-fields.ensures, r.section-events.ensures, o.section-past.ensures, o.format_of-format.ensures) in
-    let q = c in
-    let r = q in
-    let o = r in
-    let k = first_stages in record {
+    c.fields_refusal-fields.result ≡ fields_refusal (format_in s.file.now) (section_of s.file.now 2) (section_of s.file.now 3) 0 = rw (c.fields_refusal-fields.ensures, c.section-events.ensures, c.section-past.ensures, c.format_of-format.ensures) in
+    record {
       value = rw (
-        ← refusal_found _ _ _ k.0 k.1 (sym fields ∙ c.if-fields-ne0.false),
+        ← refusal_found _ _ _ first_stages.0 first_stages.1 (sym fields ∙ c.if-fields-ne0.false),
         c.found_refusal.ensures.value,
-        r.section-events.ensures,
-        o.section-references.ensures,
-        o.section-units.ensures,
-        o.format_of-format.ensures,
+        c.section-events.ensures,
+        c.section-references.ensures,
+        c.section-units.ensures,
+        c.format_of-format.ensures,
       );
       handed_on = λ z. handed_on _ _ _ _ _
-          (rw (r.section-events.ensures, o.section-references.ensures, o.section-units.ensures, o.format_of-format.ensures) at
+          (rw (c.section-events.ensures, c.section-references.ensures, c.section-units.ensures, c.format_of-format.ensures) at
           (c.found_refusal.ensures.found z));
     }

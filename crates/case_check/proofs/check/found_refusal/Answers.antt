@@ -16,10 +16,9 @@ answer c =
     × (amounts_fine s.format (units_in s.format s.units.now) s.events.now ≡ true) = let s = c.args in
     let p = passed (events_listed (units_in s.format s.units.now) (events_in s.format s.events.now)) 11 _ (sym c.unit_refusal-unit.ensures.value ∙ c.if-unit-ne0.false) in
     (p.0, (passed (amounts_fine s.format (units_in s.format s.units.now) s.events.now) 12 0 p.1).0) in
-    let u = listed in
     rw (
-      u.0,
-      u.1,
+      listed.0,
+      listed.1,
       c.unless.ensures,
       c.unless-from_15.ensures,
       c.event_count-rows.ensures,
@@ -28,7 +27,7 @@ answer c =
 
 pub unit_refusal-unit-requires : goal.unit_refusal-unit-requires
 unfolding found_refusal
-unit_refusal-unit-requires c = let s = c in (s.requires.0, s.requires.3)
+unit_refusal-unit-requires c = (c.requires.0, c.requires.3)
 
 pub returns-then-unit-ne0 : goal.returns-then-unit-ne0
 unfolding found_refusal
@@ -42,15 +41,15 @@ returns-then-unit-ne0 c =
 
 pub references_found-references_good-requires : goal.references_found-references_good-requires
 unfolding found_refusal
-references_found-references_good-requires c = let s = c in (s.requires.1, s.requires.2, s.requires.3)
+references_found-references_good-requires c = (c.requires.1, c.requires.2, c.requires.3)
 
 pub returns : goal.returns
 unfolding found_refusal
 returns c =
     let f = c.references_found-references_good.ensures in
-    let p = c in record {
+    record {
       value = answer c;
       found = λ z.
           let good = f.value ∙ (found_fine _ _ _ _ _ _ (sym (answer c) ∙ z)).references_found_holds in
-          record { placed = p.unit_refusal-unit.ensures.places_found p.if-unit-ne0.false; levelled = f.levels_found good; corrected = f.corrects_found good };
+          record { placed = c.unit_refusal-unit.ensures.places_found c.if-unit-ne0.false; levelled = f.levels_found good; corrected = f.corrects_found good };
     }

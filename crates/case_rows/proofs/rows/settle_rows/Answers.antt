@@ -39,44 +39,38 @@ sanction_at-sanction-requires c =
     let count : c.event_count-n.result ≡ (decode c.args.file.now).events.count = c.event_count-n.ensures ∙ count_is _ c.args.file.now _ formatted events_of in
     let past_of : c.section-past.result.now ≡ section_of c.args.file.now 2 = c.section-past.ensures in
     let units_of : c.section-units.result.now ≡ section_of c.args.file.now 0 = c.section-units.ensures in
-    let t = c in
-    let l = t in
-    let s = l in
-    let f = s.args.file.now in
-    let a = s.requires.accepted_file.0 in
-    let q = count in record { in_range = (omega arith, omega (arith, few f a), past_few f a _ past_of); sound = sound f a _ _ _ _ formatted units_of past_of events_of _ _ _ _ s.requires.accepted_file.1 (λ b. (l.shared_slice_known-1.given b).fits) }
+    let f = c.args.file.now in
+    let a = c.requires.accepted_file.0 in
+    record { in_range = (omega arith, omega (arith, few f a), past_few f a _ past_of); sound = sound f a _ _ _ _ formatted units_of past_of events_of _ _ _ _ c.requires.accepted_file.1 (λ b. (c.shared_slice_known-1.given b).fits) }
 
 pub row_of-row-requires : goal.row_of-row-requires
 row_of-row-requires c =
     let formatted : c.format_of-format.result ≡ format_in c.args.file.now = c.format_of-format.ensures in
     let events_of : c.section-events.result.now ≡ section_of c.args.file.now 3 = c.section-events.ensures in
     let count : c.event_count-n.result ≡ (decode c.args.file.now).events.count = c.event_count-n.ensures ∙ count_is _ c.args.file.now _ formatted events_of in
-    let below : c.loop-i.i < (decode c.args.file.now).events.count = let q = count in omega (arith, c.loop-i-test.true) in
-    let inside : c.loop-i.i < 200 = let q = below in let k = few c.args.file.now c.requires.accepted_file.0 in omega arith in
+    let below : c.loop-i.i < (decode c.args.file.now).events.count = omega (arith, c.loop-i-test.true) in
+    let inside : c.loop-i.i < 200 = let k = few c.args.file.now c.requires.accepted_file.0 in omega arith in
     let units_of : c.section-units.result.now ≡ section_of c.args.file.now 0 = c.section-units.ensures in
     let past_of : c.section-past.result.now ≡ section_of c.args.file.now 2 = c.section-past.ensures in
-    let t = c in
-    let l = t in
-    let s = l in
-    let f = s.args.file.now in
-    let a = s.requires.accepted_file.0 in record { in_range = (omega arith, inside, fine f a _ _ _ _ formatted units_of past_of events_of); place_in_range = file_place f a _ _ _ formatted units_of events_of _ _ (s.requires.accepted_file.1.placed _ below) below }
+    let f = c.args.file.now in
+    let a = c.requires.accepted_file.0 in record { in_range = (omega arith, inside, fine f a _ _ _ _ formatted units_of past_of events_of); place_in_range = file_place f a _ _ _ formatted units_of events_of _ _ (c.requires.accepted_file.1.placed _ below) below }
 
 pub offset_bounds-penalties-i : goal.offset_bounds-penalties-i
 offset_bounds-penalties-i c =
     let formatted : c.format_of-format.result ≡ format_in c.args.file.now = c.format_of-format.ensures in
     let events_of : c.section-events.result.now ≡ section_of c.args.file.now 3 = c.section-events.ensures in
     let count : c.event_count-n.result ≡ (decode c.args.file.now).events.count = c.event_count-n.ensures ∙ count_is _ c.args.file.now _ formatted events_of in
-    let below : c.loop-i.i < (decode c.args.file.now).events.count = let q = count in omega (arith, c.loop-i-test.true) in
-    let inside : c.loop-i.i < 200 = let q = below in let k = few c.args.file.now c.requires.accepted_file.0 in omega arith in
-    let q = inside in omega arith
+    let below : c.loop-i.i < (decode c.args.file.now).events.count = omega (arith, c.loop-i-test.true) in
+    let inside : c.loop-i.i < 200 = let k = few c.args.file.now c.requires.accepted_file.0 in omega arith in
+    omega arith
 
 pub bounds-penalties-i : goal.bounds-penalties-i
 bounds-penalties-i c =
     let formatted : c.format_of-format.result ≡ format_in c.args.file.now = c.format_of-format.ensures in
     let events_of : c.section-events.result.now ≡ section_of c.args.file.now 3 = c.section-events.ensures in
     let count : c.event_count-n.result ≡ (decode c.args.file.now).events.count = c.event_count-n.ensures ∙ count_is _ c.args.file.now _ formatted events_of in
-    let below : c.loop-i.i < (decode c.args.file.now).events.count = let q = count in omega (arith, c.loop-i-test.true) in
-    let inside : c.loop-i.i < 200 = let q = below in let k = few c.args.file.now c.requires.accepted_file.0 in omega arith in
+    let below : c.loop-i.i < (decode c.args.file.now).events.count = omega (arith, c.loop-i-test.true) in
+    let inside : c.loop-i.i < 200 = let k = few c.args.file.now c.requires.accepted_file.0 in omega arith in
     inside
 
 pub overflow_add-total : goal.overflow_add-total
@@ -87,113 +81,97 @@ overflow_add-total c =
     let past_of : c.section-past.result.now ≡ section_of c.args.file.now 2 = c.section-past.ensures in
     let events_of : c.section-events.result.now ≡ section_of c.args.file.now 3 = c.section-events.ensures in
     let count : c.event_count-n.result ≡ (decode c.args.file.now).events.count = c.event_count-n.ensures ∙ count_is _ c.args.file.now _ formatted events_of in
-    let below : c.loop-i.i < (decode c.args.file.now).events.count = let q = count in omega (arith, c.loop-i-test.true) in
-    let inside : c.loop-i.i < 200 = let q = below in let k = few c.args.file.now c.requires.accepted_file.0 in omega arith in
-    let turned : let l = c in
-    SanctionTurn (decode l.args.file.now) l.loop-i.i l.loop-i.total c.sanction_at-sanction.result l.loop-i.penalties = let t = c in
-    let l = t in
-    let s = l in
-    turn s.args.file.now s.requires.accepted_file.0 _ _ _ _ formatted units_of past_of events_of _ _ _ _ s.requires.accepted_file.1
-    l.loop-i.i below _ _ _ c.sanction_at-sanction.ensures (let q = inside in omega (arith, l.loop-i.invariant.3)) l.loop-i.invariant.4 l.loop-i.invariant.5 in
-    let r = c in omega (arith, paid, turned.fits)
+    let below : c.loop-i.i < (decode c.args.file.now).events.count = omega (arith, c.loop-i-test.true) in
+    let inside : c.loop-i.i < 200 = let k = few c.args.file.now c.requires.accepted_file.0 in omega arith in
+    let turned : SanctionTurn (decode c.args.file.now) c.loop-i.i c.loop-i.total c.sanction_at-sanction.result c.loop-i.penalties = turn c.args.file.now c.requires.accepted_file.0 _ _ _ _ formatted units_of past_of events_of _ _ _ _ c.requires.accepted_file.1
+    c.loop-i.i below _ _ _ c.sanction_at-sanction.ensures (omega (arith, c.loop-i.invariant.3)) c.loop-i.invariant.4 c.loop-i.invariant.5 in
+    omega (arith, paid, turned.fits)
 
 pub overflow_add-due : goal.overflow_add-due
 overflow_add-due c =
     let formatted : c.format_of-format.result ≡ format_in c.args.file.now = c.format_of-format.ensures in
     let events_of : c.section-events.result.now ≡ section_of c.args.file.now 3 = c.section-events.ensures in
     let count : c.event_count-n.result ≡ (decode c.args.file.now).events.count = c.event_count-n.ensures ∙ count_is _ c.args.file.now _ formatted events_of in
-    let below : c.loop-i.i < (decode c.args.file.now).events.count = let q = count in omega (arith, c.loop-i-test.true) in
-    let inside : c.loop-i.i < 200 = let q = below in let k = few c.args.file.now c.requires.accepted_file.0 in omega arith in
-    let r = c in let q = inside in omega (arith, r.row_of-row.ensures.make_up_in_range, r.loop-i.invariant.7)
+    let below : c.loop-i.i < (decode c.args.file.now).events.count = omega (arith, c.loop-i-test.true) in
+    let inside : c.loop-i.i < 200 = let k = few c.args.file.now c.requires.accepted_file.0 in omega arith in
+    omega (arith, c.row_of-row.ensures.make_up_in_range, c.loop-i.invariant.7)
 
 pub overflow_mul-at : goal.overflow_mul-at
 overflow_mul-at c =
     let formatted : c.format_of-format.result ≡ format_in c.args.file.now = c.format_of-format.ensures in
     let events_of : c.section-events.result.now ≡ section_of c.args.file.now 3 = c.section-events.ensures in
     let count : c.event_count-n.result ≡ (decode c.args.file.now).events.count = c.event_count-n.ensures ∙ count_is _ c.args.file.now _ formatted events_of in
-    let below : c.loop-i.i < (decode c.args.file.now).events.count = let q = count in omega (arith, c.loop-i-test.true) in
-    let inside : c.loop-i.i < 200 = let q = below in let k = few c.args.file.now c.requires.accepted_file.0 in omega arith in
-    let q = inside in omega arith
+    let below : c.loop-i.i < (decode c.args.file.now).events.count = omega (arith, c.loop-i-test.true) in
+    let inside : c.loop-i.i < 200 = let k = few c.args.file.now c.requires.accepted_file.0 in omega arith in
+    omega arith
 
 pub overflow_add-end : goal.overflow_add-end
 overflow_add-end c =
     let formatted : c.format_of-format.result ≡ format_in c.args.file.now = c.format_of-format.ensures in
     let events_of : c.section-events.result.now ≡ section_of c.args.file.now 3 = c.section-events.ensures in
     let count : c.event_count-n.result ≡ (decode c.args.file.now).events.count = c.event_count-n.ensures ∙ count_is _ c.args.file.now _ formatted events_of in
-    let below : c.loop-i.i < (decode c.args.file.now).events.count = let q = count in omega (arith, c.loop-i-test.true) in
-    let inside : c.loop-i.i < 200 = let q = below in let k = few c.args.file.now c.requires.accepted_file.0 in omega arith in
-    let q = inside in omega arith
+    let below : c.loop-i.i < (decode c.args.file.now).events.count = omega (arith, c.loop-i-test.true) in
+    let inside : c.loop-i.i < 200 = let k = few c.args.file.now c.requires.accepted_file.0 in omega arith in
+    omega arith
 
 pub slice_bounds-write_row-end : goal.slice_bounds-write_row-end
 slice_bounds-write_row-end c =
     let formatted : c.format_of-format.result ≡ format_in c.args.file.now = c.format_of-format.ensures in
     let events_of : c.section-events.result.now ≡ section_of c.args.file.now 3 = c.section-events.ensures in
     let count : c.event_count-n.result ≡ (decode c.args.file.now).events.count = c.event_count-n.ensures ∙ count_is _ c.args.file.now _ formatted events_of in
-    let below : c.loop-i.i < (decode c.args.file.now).events.count = let q = count in omega (arith, c.loop-i-test.true) in
-    let t = c in
-    omega (arith, below, t.requires.has_room, t.loop-i.invariant.1)
+    let below : c.loop-i.i < (decode c.args.file.now).events.count = omega (arith, c.loop-i-test.true) in
+    omega (arith, below, c.requires.has_room, c.loop-i.invariant.1)
 
 pub write_row-requires : goal.write_row-requires
 write_row-requires c =
     let formatted : c.format_of-format.result ≡ format_in c.args.file.now = c.format_of-format.ensures in
     let events_of : c.section-events.result.now ≡ section_of c.args.file.now 3 = c.section-events.ensures in
     let count : c.event_count-n.result ≡ (decode c.args.file.now).events.count = c.event_count-n.ensures ∙ count_is _ c.args.file.now _ formatted events_of in
-    let below : c.loop-i.i < (decode c.args.file.now).events.count = let q = count in omega (arith, c.loop-i-test.true) in
-    let t = c in
-    simp (add-sub_cancel_left, length-take, length-drop) (omega (arith, below, t.requires.has_room, t.loop-i.invariant.1))
+    let below : c.loop-i.i < (decode c.args.file.now).events.count = omega (arith, c.loop-i-test.true) in
+    simp (add-sub_cancel_left, length-take, length-drop) (omega (arith, below, c.requires.has_room, c.loop-i.invariant.1))
 
 pub overflow_add-i : goal.overflow_add-i
 overflow_add-i c =
     let formatted : c.format_of-format.result ≡ format_in c.args.file.now = c.format_of-format.ensures in
     let events_of : c.section-events.result.now ≡ section_of c.args.file.now 3 = c.section-events.ensures in
     let count : c.event_count-n.result ≡ (decode c.args.file.now).events.count = c.event_count-n.ensures ∙ count_is _ c.args.file.now _ formatted events_of in
-    let below : c.loop-i.i < (decode c.args.file.now).events.count = let q = count in omega (arith, c.loop-i-test.true) in
-    let inside : c.loop-i.i < 200 = let q = below in let k = few c.args.file.now c.requires.accepted_file.0 in omega arith in
-    let q = inside in omega arith
+    let below : c.loop-i.i < (decode c.args.file.now).events.count = omega (arith, c.loop-i-test.true) in
+    let inside : c.loop-i.i < 200 = let k = few c.args.file.now c.requires.accepted_file.0 in omega arith in
+    omega arith
 
 pub loop-i-smaller : goal.loop-i-smaller
 loop-i-smaller c =
     let formatted : c.format_of-format.result ≡ format_in c.args.file.now = c.format_of-format.ensures in
     let events_of : c.section-events.result.now ≡ section_of c.args.file.now 3 = c.section-events.ensures in
     let count : c.event_count-n.result ≡ (decode c.args.file.now).events.count = c.event_count-n.ensures ∙ count_is _ c.args.file.now _ formatted events_of in
-    let below : c.loop-i.i < (decode c.args.file.now).events.count = let q = count in omega (arith, c.loop-i-test.true) in
-    let q = below in omega arith
+    let below : c.loop-i.i < (decode c.args.file.now).events.count = omega (arith, c.loop-i-test.true) in
+    omega arith
 
 pub loop-i-preserved : goal.loop-i-preserved
 loop-i-preserved c =
     let formatted : c.format_of-format.result ≡ format_in c.args.file.now = c.format_of-format.ensures in
     let events_of : c.section-events.result.now ≡ section_of c.args.file.now 3 = c.section-events.ensures in
     let count : c.event_count-n.result ≡ (decode c.args.file.now).events.count = c.event_count-n.ensures ∙ count_is _ c.args.file.now _ formatted events_of in
-    let below : c.loop-i.i < (decode c.args.file.now).events.count = let q = count in omega (arith, c.loop-i-test.true) in
+    let below : c.loop-i.i < (decode c.args.file.now).events.count = omega (arith, c.loop-i-test.true) in
     let units_of : c.section-units.result.now ≡ section_of c.args.file.now 0 = c.section-units.ensures in
     let past_of : c.section-past.result.now ≡ section_of c.args.file.now 2 = c.section-past.ensures in
-    let inside : c.loop-i.i < 200 = let q = below in let k = few c.args.file.now c.requires.accepted_file.0 in omega arith in
-    let turned : let l = c in
-    SanctionTurn (decode l.args.file.now) l.loop-i.i l.loop-i.total c.sanction_at-sanction.result l.loop-i.penalties = let t = c in
-    let l = t in
-    let s = l in
-    turn s.args.file.now s.requires.accepted_file.0 _ _ _ _ formatted units_of past_of events_of _ _ _ _ s.requires.accepted_file.1
-    l.loop-i.i below _ _ _ c.sanction_at-sanction.ensures (let q = inside in omega (arith, l.loop-i.invariant.3)) l.loop-i.invariant.4 l.loop-i.invariant.5 in
-    let made : let l = c in let a = l.args in
-    c.row_of-row.result ≡ row_in a.file.now a.levels.now a.corrects.now l.loop-i.i = let t = c in
-    let l = t in
-    let s = l in
-    row_is s.args.file.now s.requires.accepted_file.0 _ _ _ _ formatted units_of past_of events_of _ _ _ _ s.requires.accepted_file.1
-    l.loop-i.i below _ _ _ _ _ _ turned c.row_of-row.ensures.value in
+    let inside : c.loop-i.i < 200 = let k = few c.args.file.now c.requires.accepted_file.0 in omega arith in
+    let turned : SanctionTurn (decode c.args.file.now) c.loop-i.i c.loop-i.total c.sanction_at-sanction.result c.loop-i.penalties = turn c.args.file.now c.requires.accepted_file.0 _ _ _ _ formatted units_of past_of events_of _ _ _ _ c.requires.accepted_file.1
+    c.loop-i.i below _ _ _ c.sanction_at-sanction.ensures (omega (arith, c.loop-i.invariant.3)) c.loop-i.invariant.4 c.loop-i.invariant.5 in
+    let made : let a = c.args in
+    c.row_of-row.result ≡ row_in a.file.now a.levels.now a.corrects.now c.loop-i.i = row_is c.args.file.now c.requires.accepted_file.0 _ _ _ _ formatted units_of past_of events_of _ _ _ _ c.requires.accepted_file.1
+    c.loop-i.i below _ _ _ _ _ _ turned c.row_of-row.ensures.value in
     let paid : c.row_of-row.result.penalty ≡ c.sanction_at-sanction.result.penalty = penalty_by _ _ _ _ _ _ _ _ _ _ c.row_of-row.ensures.value in
-    let w = c in
-    let r = w in
-    let l = r in
-    let a = l.args in (
-      (let q = below in omega arith),
+    let a = c.args in (
+      (omega arith),
       search rules,
-      join_part (bids_offset + 4 * most_hours) _ (λ j. row_bytes_length (row_in a.file.now a.levels.now a.corrects.now j)) a.rows.now l.loop-i.rows w.write_row.new.row l.loop-i.i l.loop-i.invariant.2
-          (w.write_row.ensures ∙ ap written_row made),
-      length-set l.loop-i.penalties l.loop-i.i r.row_of-row.result.penalty ∙ l.loop-i.invariant.3,
+      join_part (bids_offset + 4 * most_hours) _ (λ j. row_bytes_length (row_in a.file.now a.levels.now a.corrects.now j)) a.rows.now c.loop-i.rows c.write_row.new.row c.loop-i.i c.loop-i.invariant.2
+          (c.write_row.ensures ∙ ap written_row made),
+      length-set c.loop-i.penalties c.loop-i.i c.row_of-row.result.penalty ∙ c.loop-i.invariant.3,
       rw paid turned.held,
       rw paid turned.summed,
-      due_more a.file.now a.levels.now a.corrects.now _ _ _ l.loop-i.invariant.6 made,
-      omega (arith, r.row_of-row.ensures.make_up_in_range, l.loop-i.invariant.7),
+      due_more a.file.now a.levels.now a.corrects.now _ _ _ c.loop-i.invariant.6 made,
+      omega (arith, c.row_of-row.ensures.make_up_in_range, c.loop-i.invariant.7),
     )
 
 pub shape_of-rows : goal.shape_of-rows
@@ -204,8 +182,7 @@ returns c =
     let formatted : c.format_of-format.result ≡ format_in c.args.file.now = c.format_of-format.ensures in
     let events_of : c.section-events.result.now ≡ section_of c.args.file.now 3 = c.section-events.ensures in
     let count : c.event_count-n.result ≡ (decode c.args.file.now).events.count = c.event_count-n.ensures ∙ count_is _ c.args.file.now _ formatted events_of in
-    let l = c in
-    let e : l.loop-i.i ≡ (decode l.args.file.now).events.count = let q = count in omega (arith, l.loop-i.invariant.0, c.loop-i-test.false) in
-    let a = l.args in
-    let all = rows_all a.file.now a.levels.now a.corrects.now a.rows.now _ _ _ _ e l.loop-i.invariant.5 l.loop-i.invariant.6 l.loop-i.invariant.2 in
+    let e : c.loop-i.i ≡ (decode c.args.file.now).events.count = omega (arith, c.loop-i.invariant.0, c.loop-i-test.false) in
+    let a = c.args in
+    let all = rows_all a.file.now a.levels.now a.corrects.now a.rows.now _ _ _ _ e c.loop-i.invariant.5 c.loop-i.invariant.6 c.loop-i.invariant.2 in
     record { value = all.0; rows_after = all.1 }

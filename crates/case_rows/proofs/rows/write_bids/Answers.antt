@@ -14,10 +14,7 @@ loop-h-init c = (omega arith, refl)
 pub loop-h-preserved : goal.loop-h-preserved
 unfolding word_of
 loop-h-preserved c =
-    let p = c in
-    let l = p in
-    let start = l in
-    (omega arith, p.store_u32.ensures ∙ rw l.loop-h.invariant.1 (words_more start.args.row.now start.args.bids l.loop-h.h))
+    (omega arith, c.store_u32.ensures ∙ rw c.loop-h.invariant.1 (words_more c.args.row.now c.args.bids c.loop-h.h))
 
 pub returns : goal.returns
 unfolding words_of

@@ -34,5 +34,4 @@ pub returns : goal.returns
 unfolding record_at
 returns c =
     let ends : c.args.width * c.args.i + c.args.width ≤ length c.args.records.now = record_end c.args.width (length c.args.records.now) c.args.i c.requires in
-    let e = ends in
     (rw add-sub_cancel_left, simp (add-sub_cancel_left, length-take, length-drop) (omega arith))

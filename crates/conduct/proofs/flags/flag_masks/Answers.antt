@@ -48,10 +48,8 @@ pub bid_mask-bid-requires : goal.bid_mask-bid-requires
 unfolding bid_mask
 bid_mask-bid-requires c =
     let inside : let a = c.args in c.loop-i.i < (events_in a.format a.events.now).count = omega arith in
-    let s = c in
-    let f = s.requires.led in
-    let l = inside in
-    (l, place_in _ _ [] [] _ s.args.places.now _ l f.listed f.placed)
+    let f = c.requires.led in
+    (inside, place_in _ _ [] [] _ c.args.places.now _ inside f.listed f.placed)
 
 pub leader_flags-requires : goal.leader_flags-requires
 unfolding bid_mask
@@ -63,21 +61,18 @@ pub loop-i-preserved : goal.loop-i-preserved
 unfolding bid_mask
 loop-i-preserved c =
     let inside : let a = c.args in c.loop-i.i < (events_in a.format a.events.now).count = omega arith in
-    let s = c in
-    let f = s.requires.led in
-    let l = inside in
+    let f = c.requires.led in
     let row = c.bid_totals-totals.ensures in (
       omega arith,
       totals_next _ _ _ _ row,
       run_end_next _ _ _ c.carried_end-end.ensures,
-      flags_turn _ _ _ _ _ _ _ f _ l c.loop-i.invariant.3 _ _
-          (λ k. bid_flags _ _ _ _ _ _ _ _ k (f.placed _ l) row (rw k at c.bid_mask-bid.ensures)) c.leader_flags.ensures,
+      flags_turn _ _ _ _ _ _ _ f _ inside c.loop-i.invariant.3 _ _
+          (λ k. bid_flags _ _ _ _ _ _ _ _ k (f.placed _ inside) row (rw k at c.bid_mask-bid.ensures)) c.leader_flags.ensures,
     )
 
 pub returns : goal.returns
 unfolding bid_mask
 returns c =
     let l = c.loop-i in
-    let s = c in
-    let e : l.i ≡ (events_in s.args.format s.args.events.now).count = omega arith in
-    flags_all _ _ _ _ _ _ _ s.requires.led (rw e at l.invariant.3)
+    let e : l.i ≡ (events_in c.args.format c.args.events.now).count = omega arith in
+    flags_all _ _ _ _ _ _ _ c.requires.led (rw e at l.invariant.3)

@@ -14,7 +14,7 @@ bounds-leaders-i c = let f = c.requires.led.few in omega arith
 
 pub returns-then-leaders-i : goal.returns-then-leaders-i
 unfolding event_at
-returns-then-leaders-i c = let s = c in leads_none _ _ _ _ _ _ s.requires.led _ s.requires.in_range _ c.if-leaders-i.true
+returns-then-leaders-i c = leads_none _ _ _ _ _ _ c.requires.led _ c.requires.in_range _ c.if-leaders-i.true
 
 pub offset_bounds-table-i : goal.offset_bounds-table-i
 unfolding event_at
@@ -27,21 +27,18 @@ bounds-table-i c = let few = c.requires.led.few in search rules
 pub returns-then-kind-eq4 : goal.returns-then-kind-eq4
 unfolding event_at
 returns-then-kind-eq4 c =
-    let s = c in
-    let few = s.requires.led.few in
+    let few = c.requires.led.few in
     let kind = rw c.event_at-event.ensures at c.if-kind-eq4.true in
-    leads_bid _ _ _ _ _ _ s.requires.led _ s.requires.in_range _ kind c.if-leaders-i.false (omega arith)
+    leads_bid _ _ _ _ _ _ c.requires.led _ c.requires.in_range _ kind c.if-leaders-i.false (omega arith)
 
 pub party_flags-requires : goal.party_flags-requires
 unfolding event_at
 party_flags-requires c =
-    let s = c in
     let kind = rw c.event_at-event.ensures at c.if-kind-eq4.false in
-    record { led = s.requires.led; in_range = (s.requires.in_range, c.if-leaders-i.false, kind); run_end = s.requires.run_end }
+    record { led = c.requires.led; in_range = (c.requires.in_range, c.if-leaders-i.false, kind); run_end = c.requires.run_end }
 
 pub returns : goal.returns
 unfolding event_at
 returns c =
-    let s = c in
     let kind = rw c.event_at-event.ensures at c.if-kind-eq4.false in
-    leads_party _ _ _ _ _ _ s.requires.led _ s.requires.in_range _ _ kind c.party_flags.ensures
+    leads_party _ _ _ _ _ _ c.requires.led _ c.requires.in_range _ _ kind c.party_flags.ensures

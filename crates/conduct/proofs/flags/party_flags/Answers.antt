@@ -15,7 +15,7 @@ use Rattle.conduct.proofs.flags.party_flags.Goals.{then-leaders-j, else-leaders-
 pub party_sums-sums-requires : goal.party_sums-sums-requires
 party_sums-sums-requires c =
     let within : let a = c.args in PartyWithin a.leaders.now (events_in a.format a.events.now).count a.i a.end = party_within _ _ _ _ _ c.requires.led _ _ c.requires.run_end in
-    let s = c in let r = s.requires.run_end in record { in_range = (omega arith, omega arith, s.requires.led.few); party_within = within }
+    let r = c.requires.run_end in record { in_range = (omega arith, omega arith, c.requires.led.few); party_within = within }
 
 pub offset_bounds-places-i : goal.offset_bounds-places-i
 offset_bounds-places-i c = let few = c.requires.led.few in omega arith
@@ -25,17 +25,15 @@ bounds-places-i c = let few = c.requires.led.few in omega arith
 
 pub listed_capability-g-requires : goal.listed_capability-g-requires
 listed_capability-g-requires c =
-    let s = c in
-    let f = s.requires.led in
-    let l = s.requires.in_range.0 in
-    record { in_range = (l, place_in _ _ [] [] _ s.args.places.now _ l f.listed f.placed, f.short); place_found = f.placed _ l }
+    let f = c.requires.led in
+    let l = c.requires.in_range.0 in
+    record { in_range = (l, place_in _ _ [] [] _ c.args.places.now _ l f.listed f.placed, f.short); place_found = f.placed _ l }
 
 pub event_mask-first-requires : goal.event_mask-first-requires
 event_mask-first-requires c =
-    let s = c in
-    let f = s.requires.led in
-    let l = s.requires.in_range.0 in
-    (l, place_in _ _ [] [] _ s.args.places.now _ l f.listed f.placed)
+    let f = c.requires.led in
+    let l = c.requires.in_range.0 in
+    (l, place_in _ _ [] [] _ c.args.places.now _ l f.listed f.placed)
 
 pub offset_bounds-table-i : goal.offset_bounds-table-i
 offset_bounds-table-i c = let few = c.requires.led.few in omega arith
@@ -51,26 +49,22 @@ unfolding case_in
 loop-j-init c =
     let within : let a = c.args in PartyWithin a.leaders.now (events_in a.format a.events.now).count a.i a.end = party_within _ _ _ _ _ c.requires.led _ _ c.requires.run_end in
     let found : let a = c.args in
-    PartyFound a.format a.units.now a.events.now a.i c.listed_capability-g.result c.party_sums-sums.result = let s = c in
-    let f = s.requires.led in
-    let p = s.requires.in_range in
+    PartyFound a.format a.units.now a.events.now a.i c.listed_capability-g.result c.party_sums-sums.result = let f = c.requires.led in
+    let p = c.requires.in_range in
     record {
       no_bid = p.2;
       capability = c.listed_capability-g.ensures;
       summed = party_row _ _ _ _ _ f _ _ p.1 p.2 p.0 c.party_sums-sums.ensures.has_row;
     } in
     let first_is : let a = c.args in
-    c.event_mask-first.result ≡ flag_mask_in (case_in a.format a.units.now [] [] a.events.now) [] a.i = let k = c in
-    let s = k in
-    let f = s.requires.led in
-    let p = s.requires.in_range in
+    c.event_mask-first.result ≡ flag_mask_in (case_in a.format a.units.now [] [] a.events.now) [] a.i = let f = c.requires.led in
+    let p = c.requires.in_range in
     own_flags _ _ _ _ _ _ f _ _ _ found p.0 p.1 _ _ (f.placed _ p.0) c.event_mask-first.ensures in
-    let s = c in
-    let few = s.requires.led.few in
-    let r = s.requires.run_end in
-    let masks = s.args.masks.now in
+    let few = c.requires.led.few in
+    let r = c.requires.run_end in
+    let masks = c.args.masks.now in
     let long : length masks ≡ most_events = search rules in
-    (omega arith, omega arith, simp length-set long, party_first _ _ _ _ masks masks _ _ _ _ within s.requires.in_range.0 (omega arith) first_is)
+    (omega arith, omega arith, simp length-set long, party_first _ _ _ _ masks masks _ _ _ _ within c.requires.in_range.0 (omega arith) first_is)
 
 pub offset_bounds-leaders-j : goal.offset_bounds-leaders-j
 offset_bounds-leaders-j c = let few = c.requires.led.few in let r = c.requires.run_end in omega arith
@@ -86,11 +80,10 @@ bounds-places-j c = let few = c.requires.led.few in let r = c.requires.run_end i
 
 pub member_mask-requires : goal.member_mask-requires
 member_mask-requires c =
-    let s = c in
-    let f = s.requires.led in
-    let r = s.requires.run_end in
-    let l : c.loop-j.j < (events_in s.args.format s.args.events.now).count = omega arith in
-    (l, place_in _ _ [] [] _ s.args.places.now _ l f.listed f.placed)
+    let f = c.requires.led in
+    let r = c.requires.run_end in
+    let l : c.loop-j.j < (events_in c.args.format c.args.events.now).count = omega arith in
+    (l, place_in _ _ [] [] _ c.args.places.now _ l f.listed f.placed)
 
 pub offset_bounds-table-j : goal.offset_bounds-table-j
 offset_bounds-table-j c = let few = c.requires.led.few in let r = c.requires.run_end in omega arith
@@ -105,26 +98,22 @@ pub loop-j-preserved : goal.loop-j-preserved
 unfolding case_in
 loop-j-preserved c =
     let found : let a = c.args in
-    PartyFound a.format a.units.now a.events.now a.i c.listed_capability-g.result c.party_sums-sums.result = let s = c in
-    let f = s.requires.led in
-    let p = s.requires.in_range in
+    PartyFound a.format a.units.now a.events.now a.i c.listed_capability-g.result c.party_sums-sums.result = let f = c.requires.led in
+    let p = c.requires.in_range in
     record {
       no_bid = p.2;
       capability = c.listed_capability-g.ensures;
       summed = party_row _ _ _ _ _ f _ _ p.1 p.2 p.0 c.party_sums-sums.ensures.has_row;
     } in
     let first_is : let a = c.args in
-    c.event_mask-first.result ≡ flag_mask_in (case_in a.format a.units.now [] [] a.events.now) [] a.i = let k = c in
-    let s = k in
-    let f = s.requires.led in
-    let p = s.requires.in_range in
+    c.event_mask-first.result ≡ flag_mask_in (case_in a.format a.units.now [] [] a.events.now) [] a.i = let f = c.requires.led in
+    let p = c.requires.in_range in
     own_flags _ _ _ _ _ _ f _ _ _ found p.0 p.1 _ _ (f.placed _ p.0) c.event_mask-first.ensures in
-    let s = c in
-    let f = s.requires.led in
+    let f = c.requires.led in
     let l = c.loop-j in
-    let r = s.requires.run_end in
+    let r = c.requires.run_end in
     let few = f.few in
-    let here : l.j < (events_in s.args.format s.args.events.now).count = omega arith in
+    let here : l.j < (events_in c.args.format c.args.events.now).count = omega arith in
     let room : l.j < length l.table = omega arith in (
       omega arith,
       omega arith,
@@ -144,7 +133,6 @@ loop-j-preserved c =
 pub returns : goal.returns
 returns c =
     let within : let a = c.args in PartyWithin a.leaders.now (events_in a.format a.events.now).count a.i a.end = party_within _ _ _ _ _ c.requires.led _ _ c.requires.run_end in
-    let s = c in
     let l = c.loop-j in
-    let e : l.j ≡ s.args.end = omega arith in
-    party_all _ _ _ _ _ _ _ _ _ _ within s.requires.in_range.1 (rw e at l.invariant.3)
+    let e : l.j ≡ c.args.end = omega arith in
+    party_all _ _ _ _ _ _ _ _ _ _ within c.requires.in_range.1 (rw e at l.invariant.3)

@@ -4,21 +4,18 @@ use Rattle.conduct.proofs.hour_tests.failing_hours.Goals as goal
 
 pub returns-in-Withheld : goal.returns-in-Withheld
 returns-in-Withheld c =
-    let s = c in
-    c.withheld_hours.ensures ∙ withheld_fails _ _ _ _ s.amounts_of-column.ensures _ _ s.in-Withheld.is
+    c.withheld_hours.ensures ∙ withheld_fails _ _ _ _ c.amounts_of-column.ensures _ _ c.in-Withheld.is
 
 pub returns-in-Dispatch : goal.returns-in-Dispatch
 returns-in-Dispatch c =
-    let s = c in
-    c.dispatch_hours.ensures ∙ dispatch_fails _ _ _ _ s.amounts_of-column-in-Dispatch.ensures _ _ s.in-Dispatch.is
+    c.dispatch_hours.ensures ∙ dispatch_fails _ _ _ _ c.amounts_of-column-in-Dispatch.ensures _ _ c.in-Dispatch.is
 
 pub returns-in-Fuel : goal.returns-in-Fuel
 returns-in-Fuel c = c.sums_over.ensures ∙ fuel_fails _ _ _ _ c.in-Fuel.is
 
 pub returns-in-Bid : goal.returns-in-Bid
 returns-in-Bid c =
-    let s = c in
-    c.bid_hours.ensures ∙ bid_fails _ _ _ _ s.amounts_of-column-in-Bid.ensures _ _ s.in-Bid.is
+    c.bid_hours.ensures ∙ bid_fails _ _ _ _ c.amounts_of-column-in-Bid.ensures _ _ c.in-Bid.is
 
 pub returns-in-NoTest : goal.returns-in-NoTest
 returns-in-NoTest c = none_fails _ _ _ _ c.in-NoTest.is

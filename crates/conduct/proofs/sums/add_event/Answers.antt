@@ -19,16 +19,14 @@ pub overflow_add-row : goal.overflow_add-row
 unfolding event_at
 overflow_add-row c =
     let l = c.loop-h in
-    let start = c in
     let kept = row_kept _ _ _ _ l.invariant.2 in
-    omega (arith, start.requires.small l.h, kept, c.wide-figure.ensures.1)
+    omega (arith, c.requires.small l.h, kept, c.wide-figure.ensures.1)
 
 pub loop-h-preserved : goal.loop-h-preserved
 unfolding event_at
 loop-h-preserved c =
-    let f = c in
-    let l = f.loop-h in
-    let figure = c.wide-figure.ensures.0 ∙ f.party_figure.ensures in (
+    let l = c.loop-h in
+    let figure = c.wide-figure.ensures.0 ∙ c.party_figure.ensures in (
       omega arith,
       simp length-set l.invariant.1,
       row_more _ _ _ _ _ (omega arith) (figure_counts _ _ _ _ c.if-not-counts.false figure) l.invariant.2,

@@ -11,8 +11,6 @@ returns-then-kind-ne1 c =
 pub returns : goal.returns
 unfolding unit_at event_at
 returns c =
-    let k = c in
-    let start = k in
-    let a = start.args in
-    capability_found a.format a.units.now a.events.now a.i _ _ (rw k.event_at-event.ensures at c.if-kind-ne1.false) start.requires.place_found
+    let a = c.args in
+    capability_found a.format a.units.now a.events.now a.i _ _ (rw c.event_at-event.ensures at c.if-kind-ne1.false) c.requires.place_found
     (rw c.unit_at-unit.ensures at c.group_capability.ensures)

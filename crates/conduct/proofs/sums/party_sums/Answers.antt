@@ -8,8 +8,7 @@ use Rattle.conduct.proofs.sums.party_sums.Goals as goal
 
 pub loop-j-init : goal.loop-j-init
 loop-j-init c =
-    let start = c in
-    (omega arith, omega arith, (λ k. omega (arith, zeros_at most_hours k)), led_first _ _ _ _ _ start.requires.party_within (omega arith))
+    (omega arith, omega arith, (λ k. omega (arith, zeros_at most_hours k)), led_first _ _ _ _ _ c.requires.party_within (omega arith))
 
 pub add_event-requires : goal.add_event-requires
 add_event-requires c = let l = c.loop-j in record { in_range = omega arith; small = (λ k. omega (arith, l.invariant.2 k)) }
@@ -17,8 +16,7 @@ add_event-requires c = let l = c.loop-j in record { in_range = omega arith; smal
 pub loop-j-preserved : goal.loop-j-preserved
 loop-j-preserved c =
     let l = c.loop-j in
-    let known = c in
-    let a = known.args in
+    let a = c.args in
     let more = c.add_event.ensures in (
       omega arith,
       omega arith,
@@ -26,7 +24,7 @@ loop-j-preserved c =
           omega (
             arith,
             added_bound most_hours (4294967295 * l.j) 4294967295 _ _ _ more l.invariant.2
-                (counted_figure_le _ 4294967295 most_hours _ (λ h b. figure_le a.format [] [] [] a.events.now l.j h (λ b. (known.shared_slice_known-1.given b).fits))) k,
+                (counted_figure_le _ 4294967295 most_hours _ (λ h b. figure_le a.format [] [] [] a.events.now l.j h (λ b. (c.shared_slice_known-1.given b).fits))) k,
           )),
       led_more _ _ _ _ _ _ l.invariant.3 more,
     )
@@ -34,6 +32,5 @@ loop-j-preserved c =
 pub returns : goal.returns
 returns c =
     let l = c.loop-j in
-    let start = c in
-    let e : l.j ≡ start.args.end = omega arith in
-    record { has_row = led_last _ _ _ _ _ start.requires.party_within _ (omega arith) (rw e at l.invariant.3); small_row = (λ h b. omega (arith, l.invariant.2 h)) }
+    let e : l.j ≡ c.args.end = omega arith in
+    record { has_row = led_last _ _ _ _ _ c.requires.party_within _ (omega arith) (rw e at l.invariant.3); small_row = (λ h b. omega (arith, l.invariant.2 h)) }

@@ -15,18 +15,15 @@ loop-h-init c = (omega arith, refl, added_none _ _)
 pub overflow_add-row : goal.overflow_add-row
 overflow_add-row c =
     let l = c.loop-h in
-    let start = c in
     let kept = row_kept _ _ _ _ l.invariant.2 in
-    omega (arith, start.requires.small_row l.h (omega arith), kept, c.wide-d.ensures.1)
+    omega (arith, c.requires.small_row l.h (omega arith), kept, c.wide-d.ensures.1)
 
 pub loop-h-preserved : goal.loop-h-preserved
 loop-h-preserved c =
-    let f = c in
-    let l = f.loop-h in
-    let k = f in
+    let l = c.loop-h in
     let d =
-    counted_is _ _ _ _ _ _ _ _ k.if-not-counts.false f.cell_at-cell.ensures
-    f.increase.ensures c.wide-d.ensures.0 in
+    counted_is _ _ _ _ _ _ _ _ c.if-not-counts.false c.cell_at-cell.ensures
+    c.increase.ensures c.wide-d.ensures.0 in
     (omega arith, simp length-set l.invariant.1, row_more _ _ _ _ _ (omega arith) d l.invariant.2)
 
 pub shape_of-row : goal.shape_of-row

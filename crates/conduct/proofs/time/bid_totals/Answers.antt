@@ -7,8 +7,7 @@ returns-then-same_totals c = totals_kept _ _ _ _ (sym c.same_totals.ensures ∙ 
 
 pub time_totals-requires : goal.time_totals-requires
 time_totals-requires c =
-    let start = c in
-    record { in_range = start.requires.in_range; bids_in_order = start.requires.bids_in_order }
+    record { in_range = c.requires.in_range; bids_in_order = c.requires.bids_in_order }
 
 pub returns : goal.returns
 returns c = c.time_totals.ensures

@@ -7,15 +7,14 @@ use Rattle.conduct.proofs.time.component_increases.Goals as goal
 
 pub loop-j-init : goal.loop-j-init
 loop-j-init c =
-    let start = c in
     let end = c.third_after-end.ensures in
     let first = c.place_before.ensures in
     let second = c.place_before-j.ensures in (
       omega arith,
       refl,
-      increases_none start.args.format start.args.events.now start.args.levels.now start.args.i start.args.component _ most_hours
+      increases_none c.args.format c.args.events.now c.args.levels.now c.args.i c.args.component _ most_hours
           (λ j l.
-          far start.args.format start.args.events.now start.args.i start.args.component start.requires.bids_in_order.0 start.requires.in_range.0 start.requires.bids_in_order.1 j (omega arith)
+          far c.args.format c.args.events.now c.args.i c.args.component c.requires.bids_in_order.0 c.requires.in_range.0 c.requires.bids_in_order.1 j (omega arith)
           (λ q. let z : ⊥ = omega arith in z)),
     )
 
@@ -34,9 +33,8 @@ bounds-levels-j c = let end = c.third_after-end.ensures in omega arith
 pub add_increases-requires : goal.add_increases-requires
 add_increases-requires c =
     let l = c.loop-j in
-    let third = c in
-    let end = third.third_after-end.ensures in
-    let a = third.args in
+    let end = c.third_after-end.ensures in
+    let a = c.args in
     record { whole_row = (l.invariant.1, omega arith); small_row = small_increases a.format a.events.now a.levels.now a.i a.component l.row l.j (omega arith) l.invariant.2 }
 
 pub loop-j-preserved : goal.loop-j-preserved
@@ -52,10 +50,9 @@ loop-j-preserved c =
 pub returns : goal.returns
 returns c =
     let l = c.loop-j in
-    let start = c in
     let end = c.third_after-end.ensures in
-    increases_all start.args.format start.args.events.now start.args.levels.now start.args.i start.args.component l.row l.j _ (omega arith)
+    increases_all c.args.format c.args.events.now c.args.levels.now c.args.i c.args.component l.row l.j _ (omega arith)
     (λ j a b.
-    far start.args.format start.args.events.now start.args.i start.args.component start.requires.bids_in_order.0 start.requires.in_range.0 start.requires.bids_in_order.1 j b
+    far c.args.format c.args.events.now c.args.i c.args.component c.requires.bids_in_order.0 c.requires.in_range.0 c.requires.bids_in_order.1 j b
     (λ q. let z : ⊥ = omega arith in z))
     l.invariant.2

@@ -4,13 +4,11 @@ use Rattle.conduct.proofs.time.time_totals.Goals as goal
 
 pub time_increases-requires : goal.time_increases-requires
 time_increases-requires c =
-    let start = c in
-    record { in_range = start.requires.in_range; bids_in_order = (start.requires.bids_in_order, sym c.time_bid.ensures ∙ c.if-time_bid.true) }
+    record { in_range = c.requires.in_range; bids_in_order = (c.requires.bids_in_order, sym c.time_bid.ensures ∙ c.if-time_bid.true) }
 
 pub hour_totals-requires : goal.hour_totals-requires
 hour_totals-requires c =
-    let start = c in
-    small_table _ _ _ _ _ _ start.requires.in_range.1 c.time_increases.ensures
+    small_table _ _ _ _ _ _ c.requires.in_range.1 c.time_increases.ensures
 
 pub returns-then-time_bid : goal.returns-then-time_bid
 returns-then-time_bid c =
@@ -19,5 +17,4 @@ returns-then-time_bid c =
 
 pub returns : goal.returns
 returns c =
-    let start = c in
-    totals_none _ _ _ _ start.requires.bids_in_order start.requires.in_range.0 (sym c.time_bid.ensures ∙ c.if-time_bid.false)
+    totals_none _ _ _ _ c.requires.bids_in_order c.requires.in_range.0 (sym c.time_bid.ensures ∙ c.if-time_bid.false)

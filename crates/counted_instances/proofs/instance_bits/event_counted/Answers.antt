@@ -16,14 +16,13 @@ period_of-requires c = omega (arith, c.requires.0, c.if-j-i.true)
 pub returns-then-j-i : goal.returns-then-j-i
 unfolding event_counted row_counts event_at
 returns-then-j-i c =
-    let i = c in
     rw (
-      lt-ltb _ _ i.if-j-i.true,
+      lt-ltb _ _ c.if-j-i.true,
       c.period_counts-near.ensures,
       c.period_of.ensures,
       c.is_instance_of-same.ensures,
-      i.is_instance-own.ensures,
-      i.event_at-event.ensures,
+      c.is_instance-own.ensures,
+      c.event_at-event.ensures,
     )
 
 pub returns : goal.returns

@@ -34,53 +34,35 @@ format_of-requires c =
 
 pub returns-then-event_count-event : goal.returns-then-event_count-event
 returns-then-event_count-event c =
-    let counted : c.event_count.result ≡ (decode c.args.file.now).events.count = let s = c in
-    c.event_count.ensures ∙ count_is _ s.args.file.now _ c.format_of.ensures s.section-events.ensures in
+    let counted : c.event_count.result ≡ (decode c.args.file.now).events.count = c.event_count.ensures ∙ count_is _ c.args.file.now _ c.format_of.ensures c.section-events.ensures in
     let fine : let a = c.args in refusal a.file.now a.correction.now (most_rows a.file.now) ≡ 0 = sym c.check_into-number.ensures.value ∙ c.if-number-ne0.false in
-    let n = c in
-    let e = n in
-    let a = e.args in
-    let q = counted in
+    let a = c.args in
     let r = outside_is a.file.now a.correction.now a.event a.out.now fine (le-ltb a.event (decode a.file.now).events.count (omega (arith, c.if-event_count-event.true))) in
     record { value = r.0; out_after = r.1 }
 
 pub returns-then-out-lt-COUNTED_LENGTH : goal.returns-then-out-lt-COUNTED_LENGTH
 returns-then-out-lt-COUNTED_LENGTH c =
-    let counted : c.event_count.result ≡ (decode c.args.file.now).events.count = let s = c in
-    c.event_count.ensures ∙ count_is _ s.args.file.now _ c.format_of.ensures s.section-events.ensures in
+    let counted : c.event_count.result ≡ (decode c.args.file.now).events.count = c.event_count.ensures ∙ count_is _ c.args.file.now _ c.format_of.ensures c.section-events.ensures in
     let fine : let a = c.args in refusal a.file.now a.correction.now (most_rows a.file.now) ≡ 0 = sym c.check_into-number.ensures.value ∙ c.if-number-ne0.false in
-    let n = c in
-    let e = n in
-    let a = e.args in
-    let q = counted in
+    let a = c.args in
     let r = short_is a.file.now a.correction.now a.event a.out.now fine (lt-ltb a.event (decode a.file.now).events.count (omega (arith, c.if-event_count-event.false)))
     (lt-ltb (length a.out.now) counted_length c.if-out-lt-COUNTED_LENGTH.true) in
     record { value = r.0; out_after = r.1 }
 
 pub counted_at-requires : goal.counted_at-requires
 counted_at-requires c =
-    let counted : c.event_count.result ≡ (decode c.args.file.now).events.count = let s = c in
-    c.event_count.ensures ∙ count_is _ s.args.file.now _ c.format_of.ensures s.section-events.ensures in
+    let counted : c.event_count.result ≡ (decode c.args.file.now).events.count = c.event_count.ensures ∙ count_is _ c.args.file.now _ c.format_of.ensures c.section-events.ensures in
     let fine : let a = c.args in refusal a.file.now a.correction.now (most_rows a.file.now) ≡ 0 = sym c.check_into-number.ensures.value ∙ c.if-number-ne0.false in
     let accepted : AcceptedFile c.args.file.now = record { correction = c.args.correction.now; rows_length = most_rows c.args.file.now; accepted = fine } in
-    let t = c in
-    let n = t in
-    let e = n in
-    let h = e.check_into-number.ensures.handed_on e.if-number-ne0.false in
-    let q = counted in
-    record { accepted_file = (accepted, omega (arith, t.if-event_count-event.false), omega (arith, t.if-out-lt-COUNTED_LENGTH.false)); places_found = h.placed; levels_found = h.levelled }
+    let h = c.check_into-number.ensures.handed_on c.if-number-ne0.false in
+    record { accepted_file = (accepted, omega (arith, c.if-event_count-event.false), omega (arith, c.if-out-lt-COUNTED_LENGTH.false)); places_found = h.placed; levels_found = h.levelled }
 
 pub returns : goal.returns
 returns c =
-    let counted : c.event_count.result ≡ (decode c.args.file.now).events.count = let s = c in
-    c.event_count.ensures ∙ count_is _ s.args.file.now _ c.format_of.ensures s.section-events.ensures in
+    let counted : c.event_count.result ≡ (decode c.args.file.now).events.count = c.event_count.ensures ∙ count_is _ c.args.file.now _ c.format_of.ensures c.section-events.ensures in
     let fine : let a = c.args in refusal a.file.now a.correction.now (most_rows a.file.now) ≡ 0 = sym c.check_into-number.ensures.value ∙ c.if-number-ne0.false in
-    let t = c in
-    let n = t in
-    let e = n in
-    let a = e.args in
-    let q = counted in
+    let a = c.args in
     let r =
-    counted_is a.file.now a.correction.now a.event a.out.now fine (lt-ltb a.event (decode a.file.now).events.count (omega (arith, t.if-event_count-event.false)))
-    (le-ltb (length a.out.now) counted_length (omega (arith, t.if-out-lt-COUNTED_LENGTH.false))) in
+    counted_is a.file.now a.correction.now a.event a.out.now fine (lt-ltb a.event (decode a.file.now).events.count (omega (arith, c.if-event_count-event.false)))
+    (le-ltb (length a.out.now) counted_length (omega (arith, c.if-out-lt-COUNTED_LENGTH.false))) in
     record { value = r.0; out_after = c.counted_at.ensures ∙ r.1 }

@@ -36,12 +36,11 @@ byte_at-requires c =
     let q = count_is _ f _ ef ee in
     let n = file_few f c.requires.accepted_file.0 _ _ _ ef refl ee in
     (omega (arith, c.requires.accepted_file.1), omega (arith, c.requires.accepted_file.1)) in
-    let r = ready in (r.0, r.1, omega (arith, c.loop-b-test.true))
+    (ready.0, ready.1, omega (arith, c.loop-b-test.true))
 
 pub bounds-out-b : goal.bounds-out-b
 bounds-out-b c =
-    let l = c in
-    omega (arith, c.loop-b-test.true, l.loop-b.invariant.1, l.requires.accepted_file.2)
+    omega (arith, c.loop-b-test.true, c.loop-b.invariant.1, c.requires.accepted_file.2)
 
 pub overflow_add-b : goal.overflow_add-b
 overflow_add-b c = omega (arith, c.loop-b-test.true)
@@ -50,13 +49,12 @@ pub loop-b-smaller : goal.loop-b-smaller
 loop-b-smaller c = omega (arith, c.loop-b-test.true)
 
 pub loop-b-preserved : goal.loop-b-preserved
-loop-b-preserved c =
-    let l = c in (
-      omega (arith, c.loop-b-test.true),
-      length-set l.loop-b.out l.loop-b.b c.byte_at.result ∙ l.loop-b.invariant.1,
-      rw (l.loop-b.invariant.2, c.byte_at.ensures)
-          (fill_more (byte_in _ _ _ _ _ _) _ _ (omega (arith, c.loop-b-test.true, l.requires.accepted_file.2))),
-    )
+loop-b-preserved c = (
+  omega (arith, c.loop-b-test.true),
+  length-set c.loop-b.out c.loop-b.b c.byte_at.result ∙ c.loop-b.invariant.1,
+  rw (c.loop-b.invariant.2, c.byte_at.ensures)
+      (fill_more (byte_in _ _ _ _ _ _) _ _ (omega (arith, c.loop-b-test.true, c.requires.accepted_file.2))),
+)
 
 pub shape_of-out : goal.shape_of-out
 shape_of-out c = c.loop-b.invariant.1
@@ -67,8 +65,6 @@ returns c =
     FoundMasks c c.events.count a.groups.now (list_to c.events.count (leader_of c)) a.masks.now = let p = c.requires in
     let c = decode c.args.file.now in
     record { group_held = p.groups_found; leader_held = λ j m. list_at (leader_of c) c.events.count j 0 m; mask_held = p.masks_found } in
-    let l = c in
-    let e : l.loop-b.b ≡ counted_length = omega (arith, l.loop-b.invariant.0, c.loop-b-test.false) in
-    let s = l in
-    counted_put s.args.file.now s.requires.accepted_file.0 _ _ _ found s.args.i s.requires.accepted_file.1 _ _ _ _ _ l.format_of-format.ensures l.section-past.ensures
-    l.section-events.ensures (rw e at l.loop-b.invariant.2)
+    let e : c.loop-b.b ≡ counted_length = omega (arith, c.loop-b.invariant.0, c.loop-b-test.false) in
+    counted_put c.args.file.now c.requires.accepted_file.0 _ _ _ found c.args.i c.requires.accepted_file.1 _ _ _ _ _ c.format_of-format.ensures c.section-past.ensures
+    c.section-events.ensures (rw e at c.loop-b.invariant.2)

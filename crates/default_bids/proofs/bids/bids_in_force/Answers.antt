@@ -22,17 +22,13 @@ pub returns-then-restored-mitigated : goal.returns-then-restored-mitigated
 unfolding event_at
 returns-then-restored-mitigated c =
     let bid : let a = c.args in eqb ((events_in a.format a.events.now).kind a.i) 4 ≡ true = rw c.event_at-event.ensures at (eq-eqb _ _ c.if-kind-ne4.false) in
-    let t = c in
-    let s = t in
-    let e = rw (t.restores-restored.ensures, s.event_at-event.ensures) at t.if-restored-mitigated.true in
+    let e = rw (c.restores-restored.ensures, c.event_at-event.ensures) at c.if-restored-mitigated.true in
     c.held_bids.ensures ∙ held_correct _ _ _ _ _ _ _ _ _ bid e c.failing_with-failing.ensures
 
 pub returns : goal.returns
 unfolding event_at
 returns c =
     let bid : let a = c.args in eqb ((events_in a.format a.events.now).kind a.i) 4 ≡ true = rw c.event_at-event.ensures at (eq-eqb _ _ c.if-kind-ne4.false) in
-    let t = c in
-    let s = t in
-    let a = s.args in
-    let e = rw (t.restores-restored.ensures, s.event_at-event.ensures) at t.if-restored-mitigated.false in
+    let a = c.args in
+    let e = rw (c.restores-restored.ensures, c.event_at-event.ensures) at c.if-restored-mitigated.false in
     c.held_bids-2.ensures ∙ held_own _ _ _ a.place _ a.correct _ _ bid e

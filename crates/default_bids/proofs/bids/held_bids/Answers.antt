@@ -8,9 +8,7 @@ use Rattle.default_bids.proofs.BidLaws.{held_in, held_in_is}
 use Rattle.default_bids.proofs.bids.held_bids.Goals as goal
 
 found : (c : goal.After-in_force) →
-    let l = c in
-    let s = l in
-    c.in_force.result ≡ held_in l.event_at-event.result.component l.event_cells-cells.result.now s.args.level s.args.held l.loop-h.h
+    c.in_force.result ≡ held_in c.event_at-event.result.component c.event_cells-cells.result.now c.args.level c.args.held c.loop-h.h
 unfolding held_in
 found c = rw (c.in_force.ensures, c.bit_of.ensures, c.cell_at-cell.ensures)
 
@@ -28,6 +26,5 @@ pub returns : goal.returns
 unfolding event_at
 returns c =
     let l = c.loop-h in
-    let s = c in
     let e : l.h ≡ most_hours = omega arith in
-    (rw (e, s.event_cells-cells.ensures.0, s.event_at-event.ensures) at l.invariant.1) ∙ append-nil _ ∙ held_in_is _ _ _ _ _
+    (rw (e, c.event_cells-cells.ensures.0, c.event_at-event.ensures) at l.invariant.1) ∙ append-nil _ ∙ held_in_is _ _ _ _ _

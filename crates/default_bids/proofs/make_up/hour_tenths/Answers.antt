@@ -17,5 +17,4 @@ found c =
 
 pub returns : goal.returns
 returns c =
-    let s = c in
-    (found c, rw (found c) (tenths_bound s.args.cells.now s.args.correct s.args.mitigated s.args.h s.requires.2))
+    (found c, rw (found c) (tenths_bound c.args.cells.now c.args.correct c.args.mitigated c.args.h c.requires.2))

@@ -9,8 +9,7 @@ loop-h-init c = (omega arith, omega arith, sum_none _)
 
 pub hour_tenths-sum-requires : goal.hour_tenths-sum-requires
 hour_tenths-sum-requires c =
-    let s = c in
-    (c.loop-h-test.true, s.requires.0, s.requires.1 c.loop-h.h c.loop-h-test.true)
+    (c.loop-h-test.true, c.requires.0, c.requires.1 c.loop-h.h c.loop-h-test.true)
 
 pub overflow_add-sum : goal.overflow_add-sum
 overflow_add-sum c = omega (arith, c.hour_tenths-sum.ensures.1)

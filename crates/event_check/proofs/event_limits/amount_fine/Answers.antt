@@ -13,14 +13,12 @@ returns-then-event-gt2 c = let k = rw c.event_at-event.ensures at (lt-ltb _ _ c.
 pub returns : goal.returns
 unfolding amount_fine event_place unit_at event_at
 returns c =
-    let e = c in
-    let s = e in
-    let k = rw e.event_at-event.ensures at (le-ltb _ _ c.if-event-gt2.false) in
+    let k = rw c.event_at-event.ensures at (le-ltb _ _ c.if-event-gt2.false) in
     rw (
       k,
-      ← amounts_hours s.args.format (units_in s.args.format s.args.units.now) s.args.events.now s.args.i,
+      ← amounts_hours c.args.format (units_in c.args.format c.args.units.now) c.args.events.now c.args.i,
       c.amounts_within.ensures,
       c.event_cells.ensures.0,
       c.unit_at-unit.ensures,
-      s.requires.place_found,
+      c.requires.place_found,
     )

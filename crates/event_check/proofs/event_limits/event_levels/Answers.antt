@@ -7,16 +7,14 @@ use Rattle.event_check.proofs.event_limits.event_levels.Goals as goal
 pub returns-then-event-ne4 : goal.returns-then-event-ne4
 unfolding event_at
 returns-then-event-ne4 c =
-    let e = c in
-    let s = e.args in
-    let kind = rw e.event_at-event.ensures at c.if-event-ne4.true in
+    let s = c.args in
+    let kind = rw c.event_at-event.ensures at c.if-event-ne4.true in
     levels_none _ _ (events_in s.format s.events.now) s.i kind
 
 pub correct_level-other-requires : goal.correct_level-other-requires
 unfolding event_at
 correct_level-other-requires c =
-    let s = c in
-    record { in_order = s.requires.2; is_there = λ z. rw (s.requires.3 z) (c.level_of-own.ensures.is_there, c.level_of-own.ensures.has_level) }
+    record { in_order = c.requires.2; is_there = λ z. rw (c.requires.3 z) (c.level_of-own.ensures.is_there, c.level_of-own.ensures.has_level) }
 
 pub returns-then-reads_correct : goal.returns-then-reads_correct
 unfolding event_at

@@ -17,8 +17,7 @@ unfolding read_if
 returns-then-not-cells_fine c =
     let cells-too : (b : Bool) → c.fields_fine-fields.result ≡ true → c.cells_fine.result ≡ b
     → let s = c.args in
-    read_if b c.event_at-e.result ≡ read_event s.format s.events.now s.i = λ b t d. let f = c in
-    read_is _ _ _ _ _ _ _ b f.event_at-e.ensures f.fields_fine-fields.ensures c.event_cells.ensures.0 c.cells_fine.ensures (rw t d) in
+    read_if b c.event_at-e.result ≡ read_event s.format s.events.now s.i = λ b t d. read_is _ _ _ _ _ _ _ b c.event_at-e.ensures c.fields_fine-fields.ensures c.event_cells.ensures.0 c.cells_fine.ensures (rw t d) in
     let e = cells-too false c.if-not-fields.false c.if-not-cells_fine.true in (e, read_number _ _ _ _ e)
 
 pub returns : goal.returns
@@ -26,6 +25,5 @@ unfolding read_if
 returns c =
     let cells-too : (b : Bool) → c.fields_fine-fields.result ≡ true → c.cells_fine.result ≡ b
     → let s = c.args in
-    read_if b c.event_at-e.result ≡ read_event s.format s.events.now s.i = λ b t d. let f = c in
-    read_is _ _ _ _ _ _ _ b f.event_at-e.ensures f.fields_fine-fields.ensures c.event_cells.ensures.0 c.cells_fine.ensures (rw t d) in
+    read_if b c.event_at-e.result ≡ read_event s.format s.events.now s.i = λ b t d. read_is _ _ _ _ _ _ _ b c.event_at-e.ensures c.fields_fine-fields.ensures c.event_cells.ensures.0 c.cells_fine.ensures (rw t d) in
     let e = cells-too true c.if-not-fields.false c.if-not-cells_fine.false in (e, read_number _ _ _ _ e)

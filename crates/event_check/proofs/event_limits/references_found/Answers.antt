@@ -25,9 +25,8 @@ loop-i-init c = (omega arith, search rules, search rules, levels_start _ _ _ _ _
 pub event_levels-event-requires : goal.event_levels-event-requires
 unfolding references_found
 event_levels-event-requires c =
-    let s = c in
     let chosen = c.correct_references-correct.ensures in
-    (omega arith, s.requires.0, rw chosen s.requires.1, λ z. chosen ∙ own-list s.args.correction.now s.args.references.now (not-false _ z))
+    (omega arith, c.requires.0, rw chosen c.requires.1, λ z. chosen ∙ own-list c.args.correction.now c.args.references.now (not-false _ z))
 
 pub loop-i-preserved : goal.loop-i-preserved
 unfolding references_found

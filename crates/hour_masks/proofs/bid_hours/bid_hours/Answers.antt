@@ -17,7 +17,6 @@ returns-then-tight-eq0 c =
 
 pub returns : goal.returns
 returns c =
-    let far = c in
-    bid_joined _ _ _ _ _ _ _ _ (omega arith) (ne_eqb _ 8 far.if-component-eq8.false)
-    (rw far.line_in-far.ensures at far.hours_above.ensures) c.sum_hours.ensures
+    bid_joined _ _ _ _ _ _ _ _ (omega arith) (ne_eqb _ 8 c.if-component-eq8.false)
+    (rw c.line_in-far.ensures at c.hours_above.ensures) c.sum_hours.ensures
     (rw c.line_in.ensures at c.hours_above-near.ensures)

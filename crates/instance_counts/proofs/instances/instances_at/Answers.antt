@@ -16,7 +16,7 @@ unfolding event_at instances_at instances_here
 overflow_add-result c =
     let here : let i = c.args.i in
     (c.instances_here-here.result.n3 ≤ i) × (c.instances_here-here.result.n2 ≤ i) = rw c.instances_here-here.ensures (count_bound _ _, count_bound _ _) in
-    let h = here in omega arith
+    omega arith
 
 pub overflow_add-result-2 : goal.overflow_add-result-2
 unfolding event_at instances_at instances_here instances_past
@@ -25,14 +25,14 @@ overflow_add-result-2 c =
     (c.instances_here-here.result.n3 ≤ i) × (c.instances_here-here.result.n2 ≤ i) = rw c.instances_here-here.ensures (count_bound _ _, count_bound _ _) in
     let outside : let n = (past_in c.args.past.now).count in
     (c.instances_past-before.result.n3 ≤ n) × (c.instances_past-before.result.n2 ≤ n) = rw c.instances_past-before.ensures (count_bound _ _, count_bound _ _) in
-    let h = here in let o = outside in omega arith
+    omega arith
 
 pub overflow_add-result-3 : goal.overflow_add-result-3
 unfolding event_at instances_at instances_here
 overflow_add-result-3 c =
     let here : let i = c.args.i in
     (c.instances_here-here.result.n3 ≤ i) × (c.instances_here-here.result.n2 ≤ i) = rw c.instances_here-here.ensures (count_bound _ _, count_bound _ _) in
-    let h = here in omega arith
+    omega arith
 
 pub overflow_add-result-4 : goal.overflow_add-result-4
 unfolding event_at instances_at instances_here instances_past
@@ -41,16 +41,14 @@ overflow_add-result-4 c =
     (c.instances_here-here.result.n3 ≤ i) × (c.instances_here-here.result.n2 ≤ i) = rw c.instances_here-here.ensures (count_bound _ _, count_bound _ _) in
     let outside : let n = (past_in c.args.past.now).count in
     (c.instances_past-before.result.n3 ≤ n) × (c.instances_past-before.result.n2 ≤ n) = rw c.instances_past-before.ensures (count_bound _ _, count_bound _ _) in
-    let h = here in let o = outside in omega arith
+    omega arith
 
 pub returns : goal.returns
 unfolding event_at instances_at
 returns c =
-    let p = c in
-    let h = p in
     rw (
-      sym h.is_instance.ensures ∙ h.if-not-is_instance.false,
-      p.instances_past-before.ensures,
-      h.instances_here-here.ensures,
-      h.event_at-event.ensures,
+      sym c.is_instance.ensures ∙ c.if-not-is_instance.false,
+      c.instances_past-before.ensures,
+      c.instances_here-here.ensures,
+      c.event_at-event.ensures,
     )

@@ -35,16 +35,14 @@ module _ (a b : Format) (events groups masks : List ℕ) (group market period : 
 
 pub counted_here-requires : goal.counted_here-requires
 counted_here-requires c =
-    let s = c in
-    rw (ap of-version (sym c.if-format-eq-SECOND_VERSION.true)) s.requires
+    rw (ap of-version (sym c.if-format-eq-SECOND_VERSION.true)) c.requires
 
 pub returns-then-format-eq-SECOND_VERSION : goal.returns-then-format-eq-SECOND_VERSION
 returns-then-format-eq-SECOND_VERSION c = rw (c.counted_here.ensures, ap of-version (sym c.if-format-eq-SECOND_VERSION.true))
 
 pub counted_here-requires-2 : goal.counted_here-requires-2
 counted_here-requires-2 c =
-    let s = c in
-    rw (events_by_widths _ _ s.args.events.now (first_widths_is s.args.format c.if-format-eq-SECOND_VERSION.false)) s.requires
+    rw (events_by_widths _ _ c.args.events.now (first_widths_is c.args.format c.if-format-eq-SECOND_VERSION.false)) c.requires
 
 pub returns : goal.returns
 returns c =

@@ -12,14 +12,12 @@ loop-j-init c = (omega arith, omega arith, omega arith, count_none _, count_none
 pub loop-j-preserved : goal.loop-j-preserved
 unfolding entry_counts instances_past
 loop-j-preserved c =
-    let t = c in
-    let p = t in
-    let l = p.loop-j in (
+    let l = c.loop-j in (
       omega arith,
       omega arith,
       omega arith,
-      rw (l.invariant.3, t.one_where-three.ensures.0, t.period_counts.ensures, p.entry_period-its_period.ensures, p.is_entry-same.ensures, count_more),
-      rw (l.invariant.4, c.one_where-two.ensures.0, c.period_counts-in-loop-j.ensures, p.entry_period-its_period.ensures, p.is_entry-same.ensures, count_more),
+      rw (l.invariant.3, c.one_where-three.ensures.0, c.period_counts.ensures, c.entry_period-its_period.ensures, c.is_entry-same.ensures, count_more),
+      rw (l.invariant.4, c.one_where-two.ensures.0, c.period_counts-in-loop-j.ensures, c.entry_period-its_period.ensures, c.is_entry-same.ensures, count_more),
     )
 
 pub returns : goal.returns

@@ -14,17 +14,14 @@ returns-then-file-gt-LONGEST_FILE c = simp (le-leb _ _ c.if-file-lt-HEADER_WIDTH
 pub returns : goal.returns
 unfolding header_refusal length_fine version_fine sections_fine
 returns c =
-    let u = c in
-    let s = u in
-    let p = s in
-    simp (le-leb _ _ p.if-file-lt-HEADER_WIDTH.false, le-leb _ _ p.if-file-gt-LONGEST_FILE.false)
+    simp (le-leb _ _ c.if-file-lt-HEADER_WIDTH.false, le-leb _ _ c.if-file-gt-LONGEST_FILE.false)
     (rw (
       c.unless.ensures,
-      u.unless-from_3.ensures,
-      u.unless-from_4.ensures,
-      u.unless-from_5.ensures,
-      s.sizes_fine-sizes.ensures,
-      s.pairs_fine-pairs.ensures,
-      s.sections_of-sections.ensures,
-      s.format_of-format.ensures,
+      c.unless-from_3.ensures,
+      c.unless-from_4.ensures,
+      c.unless-from_5.ensures,
+      c.sizes_fine-sizes.ensures,
+      c.pairs_fine-pairs.ensures,
+      c.sections_of-sections.ensures,
+      c.format_of-format.ensures,
     ))

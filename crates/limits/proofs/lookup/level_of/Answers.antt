@@ -16,31 +16,25 @@ reference_from-at-requires c = c.requires
 pub returns-then-at-reference_count : goal.returns-then-at-reference_count
 unfolding reference_at reference_key
 returns-then-at-reference_count c =
-    let f = c in
-    let k = f in
-    let s = k in
-    let r = references_in s.args.format s.args.references.now in
-    let bytes = component_byte s.args.format s.args.references.now (λ x. (k.shared_slice_known-1.given x).fits) in
-    let b = rw k.key_of-key.ensures at f.reference_from-at.ensures in
-    let below : f.reference_from-at.result < r.count = omega arith in
-    let has : eqb c.key_of.result k.key_of-key.result ≡ has_reference r s.args.unit s.args.component =
-    rw (c.key_of.ensures, k.key_of-key.ensures, c.reference_at-reference.ensures)
-    (found_at r s.args.unit s.args.component s.requires s.ranges.component.fits bytes f.reference_from-at.result b below) in record {
+    let r = references_in c.args.format c.args.references.now in
+    let bytes = component_byte c.args.format c.args.references.now (λ x. (c.shared_slice_known-1.given x).fits) in
+    let b = rw c.key_of-key.ensures at c.reference_from-at.ensures in
+    let below : c.reference_from-at.result < r.count = omega arith in
+    let has : eqb c.key_of.result c.key_of-key.result ≡ has_reference r c.args.unit c.args.component =
+    rw (c.key_of.ensures, c.key_of-key.ensures, c.reference_at-reference.ensures)
+    (found_at r c.args.unit c.args.component c.requires c.ranges.component.fits bytes c.reference_from-at.result b below) in record {
       is_there = has;
       has_level = λ t. rw c.reference_at-reference.ensures
-          (found_level r s.args.unit s.args.component s.requires s.ranges.component.fits bytes f.reference_from-at.result b (sym has ∙ t));
+          (found_level r c.args.unit c.args.component c.requires c.ranges.component.fits bytes c.reference_from-at.result b (sym has ∙ t));
     }
 
 pub returns : goal.returns
 unfolding reference_at reference_key
 returns c =
-    let f = c in
-    let k = f in
-    let s = k in
-    let r = references_in s.args.format s.args.references.now in
-    let bytes = component_byte s.args.format s.args.references.now (λ x. (k.shared_slice_known-1.given x).fits) in record {
+    let r = references_in c.args.format c.args.references.now in
+    let bytes = component_byte c.args.format c.args.references.now (λ x. (c.shared_slice_known-1.given x).fits) in record {
       is_there = sym
-          (found_none r s.args.unit s.args.component s.requires s.ranges.component.fits bytes
-          f.reference_from-at.result (rw k.key_of-key.ensures at f.reference_from-at.ensures) (omega arith));
+          (found_none r c.args.unit c.args.component c.requires c.ranges.component.fits bytes
+          c.reference_from-at.result (rw c.key_of-key.ensures at c.reference_from-at.ensures) (omega arith));
       has_level = λ z. cc;
     }

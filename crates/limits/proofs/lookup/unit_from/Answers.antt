@@ -14,12 +14,10 @@ turn : (c : goal.After-choose_usize-at) →
     let s = c.args in
     Between (units_in s.format s.units.now).number (l.k + 1) s.number (l.at + c.choose_usize-at.result) (l.at + c.choose_usize-at.result)
 turn c =
-    let k = c in
-    let l = k.loop-k in
-    let s = k in
+    let l = c.loop-k in
     rw c.choose_usize-at.ensures
-    (count_turn (units_in s.args.format s.args.units.now).number (units_in s.args.format s.args.units.now).count s.args.number l.k l.at s.requires
-    (omega arith) l.invariant.1 _ (ap (λ (x : ℕ). ltb x s.args.number) (sym k.unit_number.ensures)))
+    (count_turn (units_in c.args.format c.args.units.now).number (units_in c.args.format c.args.units.now).count c.args.number l.k l.at c.requires
+    (omega arith) l.invariant.1 _ (ap (λ (x : ℕ). ltb x c.args.number) (sym c.unit_number.ensures)))
 
 pub loop-k-init : goal.loop-k-init
 loop-k-init c = (

@@ -9,19 +9,15 @@ unit_from-at-requires c = c.requires
 
 pub returns-then-at-unit_count : goal.returns-then-at-unit_count
 returns-then-at-unit_count c =
-    let f = c in
-    let s = f in
-    let u = units_in s.args.format s.args.units.now in (
-      rw c.unit_number.ensures (listed_at u s.args.number s.requires f.unit_from-at.result f.unit_from-at.ensures (omega arith)),
+    let u = units_in c.args.format c.args.units.now in (
+      rw c.unit_number.ensures (listed_at u c.args.number c.requires c.unit_from-at.result c.unit_from-at.ensures (omega arith)),
       rw (c.choose_usize.ensures, c.unit_number.ensures)
-          (placed_at u s.args.number s.requires f.unit_from-at.result f.unit_from-at.ensures (omega arith)),
+          (placed_at u c.args.number c.requires c.unit_from-at.result c.unit_from-at.ensures (omega arith)),
     )
 
 pub returns : goal.returns
 returns c =
-    let f = c in
-    let s = f in
-    let u = units_in s.args.format s.args.units.now in (
-      sym (listed_none u s.args.number s.requires f.unit_from-at.result f.unit_from-at.ensures (omega arith)),
-      sym (placed_none u s.args.number s.requires f.unit_from-at.result f.unit_from-at.ensures (omega arith)),
+    let u = units_in c.args.format c.args.units.now in (
+      sym (listed_none u c.args.number c.requires c.unit_from-at.result c.unit_from-at.ensures (omega arith)),
+      sym (placed_none u c.args.number c.requires c.unit_from-at.result c.unit_from-at.ensures (omega arith)),
     )

@@ -11,8 +11,7 @@ loop-h-init c = (omega arith, fill_none _ _)
 
 pub hour_tenths-requires : goal.hour_tenths-requires
 hour_tenths-requires c =
-    let s = c in
-    (c.loop-h-test.true, s.requires.0, s.requires.1 c.loop-h.h c.loop-h-test.true)
+    (c.loop-h-test.true, c.requires.0, c.requires.1 c.loop-h.h c.loop-h-test.true)
 
 pub loop-h-preserved : goal.loop-h-preserved
 loop-h-preserved c =

@@ -20,11 +20,9 @@ unfolding event_at
 small c h l =
     let energy : let a = c.args in
     (eqb ((events_in a.format a.events.now).kind a.i) 4 && eqb ((events_in a.format a.events.now).component a.i) 0) ≡ true = rw c.event_at-event.ensures at c.if-kind-component.true in
-    let t = c in
-    let s = t in
     rw c.event_cells-cells.ensures.0
-    (megawatts_fine s.args.format s.args.events.now s.args.i s.requires.1 s.requires.0
-    (and_l (eqb ((events_in s.args.format s.args.events.now).kind s.args.i) 4) _ energy) h l)
+    (megawatts_fine c.args.format c.args.events.now c.args.i c.requires.1 c.requires.0
+    (and_l (eqb ((events_in c.args.format c.args.events.now).kind c.args.i) 4) _ energy) h l)
 
 pub sum_tenths-sum-requires : goal.sum_tenths-sum-requires
 unfolding terms_by
@@ -35,11 +33,9 @@ unfolding terms_by event_at
 hour_make_ups-hours-requires c =
     let energy : let a = c.args in
     (eqb ((events_in a.format a.events.now).kind a.i) 4 && eqb ((events_in a.format a.events.now).component a.i) 0) ≡ true = rw c.event_at-event.ensures at c.if-kind-component.true in
-    let small : MegawattsFine c.event_cells-cells.result.now = λ h l. let t = c in
-    let s = t in
-    rw c.event_cells-cells.ensures.0
-    (megawatts_fine s.args.format s.args.events.now s.args.i s.requires.1 s.requires.0
-    (and_l (eqb ((events_in s.args.format s.args.events.now).kind s.args.i) 4) _ energy) h l) in
+    let small : MegawattsFine c.event_cells-cells.result.now = λ h l. rw c.event_cells-cells.ensures.0
+    (megawatts_fine c.args.format c.args.events.now c.args.i c.requires.1 c.requires.0
+    (and_l (eqb ((events_in c.args.format c.args.events.now).kind c.args.i) 4) _ energy) h l) in
     (c.event_cells-cells.ensures.1, small)
 
 pub returns-then-kind-component : goal.returns-then-kind-component
@@ -47,8 +43,7 @@ unfolding terms_by event_at
 returns-then-kind-component c =
     let energy : let a = c.args in
     (eqb ((events_in a.format a.events.now).kind a.i) 4 && eqb ((events_in a.format a.events.now).component a.i) 0) ≡ true = rw c.event_at-event.ensures at c.if-kind-component.true in
-    let e = c in
-    rw (energy, c.hour_make_ups-hours.ensures, c.sum_tenths-sum.ensures.0, e.event_cells-cells.ensures.0)
+    rw (energy, c.hour_make_ups-hours.ensures, c.sum_tenths-sum.ensures.0, c.event_cells-cells.ensures.0)
 
 pub returns : goal.returns
 unfolding terms_by

@@ -31,38 +31,26 @@ format_of-requires c =
 
 pub working_at-requires : goal.working_at-requires
 working_at-requires c =
-    let counted : c.event_count.result ≡ (decode c.args.file.now).events.count = let s = c in
-    c.event_count.ensures ∙ count_is _ s.args.file.now _ c.format_of.ensures s.section-events.ensures in
+    let counted : c.event_count.result ≡ (decode c.args.file.now).events.count = c.event_count.ensures ∙ count_is _ c.args.file.now _ c.format_of.ensures c.section-events.ensures in
     let fine : let a = c.args in refusal a.file.now a.correction.now (most_rows a.file.now) ≡ 0 = sym c.check_into-number.ensures.value ∙ c.if-number-ne0.false in
     let accepted : AcceptedFile c.args.file.now = record { correction = c.args.correction.now; rows_length = most_rows c.args.file.now; accepted = fine } in
-    let t = c in
-    let e = t in
-    let h = e.check_into-number.ensures.handed_on e.if-number-ne0.false in
-    let q = counted in
-    record { accepted_file = (accepted, omega (arith, t.if-event-event_count.true)); places_found = h.placed; levels_found = h.levelled }
+    let h = c.check_into-number.ensures.handed_on c.if-number-ne0.false in
+    record { accepted_file = (accepted, omega (arith, c.if-event-event_count.true)); places_found = h.placed; levels_found = h.levelled }
 
 pub returns-then-event-event_count : goal.returns-then-event-event_count
 returns-then-event-event_count c =
-    let counted : c.event_count.result ≡ (decode c.args.file.now).events.count = let s = c in
-    c.event_count.ensures ∙ count_is _ s.args.file.now _ c.format_of.ensures s.section-events.ensures in
+    let counted : c.event_count.result ≡ (decode c.args.file.now).events.count = c.event_count.ensures ∙ count_is _ c.args.file.now _ c.format_of.ensures c.section-events.ensures in
     let fine : let a = c.args in refusal a.file.now a.correction.now (most_rows a.file.now) ≡ 0 = sym c.check_into-number.ensures.value ∙ c.if-number-ne0.false in
-    let t = c in
-    let e = t in
-    let a = e.args in
-    let h = e.check_into-number.ensures.handed_on e.if-number-ne0.false in
-    let q = counted in
+    let a = c.args in
+    let h = c.check_into-number.ensures.handed_on c.if-number-ne0.false in
     c.working_at.ensures
-    ∙ working_full a.file.now a.correction.now a.event _ (h.corrected _ (omega (arith, t.if-event-event_count.true)))
-    ∙ working_is a.file.now a.correction.now a.event fine (lt-ltb a.event (decode a.file.now).events.count (omega (arith, t.if-event-event_count.true)))
+    ∙ working_full a.file.now a.correction.now a.event _ (h.corrected _ (omega (arith, c.if-event-event_count.true)))
+    ∙ working_is a.file.now a.correction.now a.event fine (lt-ltb a.event (decode a.file.now).events.count (omega (arith, c.if-event-event_count.true)))
 
 pub returns : goal.returns
 returns c =
-    let counted : c.event_count.result ≡ (decode c.args.file.now).events.count = let s = c in
-    c.event_count.ensures ∙ count_is _ s.args.file.now _ c.format_of.ensures s.section-events.ensures in
+    let counted : c.event_count.result ≡ (decode c.args.file.now).events.count = c.event_count.ensures ∙ count_is _ c.args.file.now _ c.format_of.ensures c.section-events.ensures in
     let fine : let a = c.args in refusal a.file.now a.correction.now (most_rows a.file.now) ≡ 0 = sym c.check_into-number.ensures.value ∙ c.if-number-ne0.false in
-    let t = c in
-    let e = t in
-    let a = e.args in
-    let q = counted in
+    let a = c.args in
     c.refused_make_up-2.ensures
-    ∙ outside_is a.file.now a.correction.now a.event fine (le-ltb a.event (decode a.file.now).events.count (omega (arith, t.if-event-event_count.false)))
+    ∙ outside_is a.file.now a.correction.now a.event fine (le-ltb a.event (decode a.file.now).events.count (omega (arith, c.if-event-event_count.false)))

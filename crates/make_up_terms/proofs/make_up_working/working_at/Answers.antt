@@ -11,7 +11,7 @@ pub offset_bounds-places-i : goal.offset_bounds-places-i
 offset_bounds-places-i c =
     let inside : c.args.i < most_events = let a = c.requires.accepted_file.0 in
     omega (arith, c.requires.accepted_file.1, case.events_count c.args.file.now a.correction a.rows_length a.accepted) in
-    let q = inside in omega arith
+    omega arith
 
 pub bounds-places-i : goal.bounds-places-i
 bounds-places-i c =
@@ -23,7 +23,7 @@ pub offset_bounds-levels-i : goal.offset_bounds-levels-i
 offset_bounds-levels-i c =
     let inside : c.args.i < most_events = let a = c.requires.accepted_file.0 in
     omega (arith, c.requires.accepted_file.1, case.events_count c.args.file.now a.correction a.rows_length a.accepted) in
-    let q = inside in omega arith
+    omega arith
 
 pub bounds-levels-i : goal.bounds-levels-i
 bounds-levels-i c =
@@ -35,7 +35,7 @@ pub offset_bounds-corrects-i : goal.offset_bounds-corrects-i
 offset_bounds-corrects-i c =
     let inside : c.args.i < most_events = let a = c.requires.accepted_file.0 in
     omega (arith, c.requires.accepted_file.1, case.events_count c.args.file.now a.correction a.rows_length a.accepted) in
-    let q = inside in omega arith
+    omega arith
 
 pub bounds-corrects-i : goal.bounds-corrects-i
 bounds-corrects-i c =
@@ -47,7 +47,7 @@ pub offset_bounds-masks-i : goal.offset_bounds-masks-i
 offset_bounds-masks-i c =
     let inside : c.args.i < most_events = let a = c.requires.accepted_file.0 in
     omega (arith, c.requires.accepted_file.1, case.events_count c.args.file.now a.correction a.rows_length a.accepted) in
-    let q = inside in omega arith
+    omega arith
 
 pub bounds-masks-i : goal.bounds-masks-i
 bounds-masks-i c =

@@ -31,19 +31,15 @@ restored_mask-restored-requires c =
 pub make_up_terms-terms-requires : goal.make_up_terms-terms-requires
 make_up_terms-terms-requires c =
     let below : c.args.i < (events_in c.format_of-format.result c.section-events.result.now).count = let q = count_is _ c.args.file.now _ c.format_of-format.ensures c.section-events.ensures in omega (arith, c.requires.accepted_file.1) in
-    let s = c in
-    (below, file_fine s.args.file.now s.requires.accepted_file.0 _ _ s.format_of-format.ensures s.section-events.ensures)
+    (below, file_fine c.args.file.now c.requires.accepted_file.0 _ _ c.format_of-format.ensures c.section-events.ensures)
 
 pub event_make_up-make_up-requires : goal.event_make_up-make_up-requires
 event_make_up-make_up-requires c =
     let below : c.args.i < (events_in c.format_of-format.result c.section-events.result.now).count = let q = count_is _ c.args.file.now _ c.format_of-format.ensures c.section-events.ensures in omega (arith, c.requires.accepted_file.1) in
-    let s = c in
-    (below, file_fine s.args.file.now s.requires.accepted_file.0 _ _ s.format_of-format.ensures s.section-events.ensures)
+    (below, file_fine c.args.file.now c.requires.accepted_file.0 _ _ c.format_of-format.ensures c.section-events.ensures)
 
 pub returns : goal.returns
 returns c =
-    let m = c in
-    let s = m in
-    let p = s.requires in
-    working_made s.args.file.now s.args.correct s.args.i _ _ _ _ _ _ _ _ _ _ s.format_of-format.ensures s.section-units.ensures s.section-events.ensures
-    p.place_found.0 p.place_found.1 p.place_found.2 m.mitigated_mask-mitigated.ensures c.restored_mask-restored.ensures c.make_up_terms-terms.ensures c.event_make_up-make_up.ensures.0
+    let p = c.requires in
+    working_made c.args.file.now c.args.correct c.args.i _ _ _ _ _ _ _ _ _ _ c.format_of-format.ensures c.section-units.ensures c.section-events.ensures
+    p.place_found.0 p.place_found.1 p.place_found.2 c.mitigated_mask-mitigated.ensures c.restored_mask-restored.ensures c.make_up_terms-terms.ensures c.event_make_up-make_up.ensures.0

@@ -9,12 +9,9 @@ returns-then-kind-eq4 c = leader_bid _ _ _ (rw c.event_at-event.ensures at c.if-
 pub leader-requires : goal.leader-requires
 unfolding event_at
 leader-requires c =
-    let start = c in
-    (start.requires.run_start.reached, start.requires.in_range.1)
+    (c.requires.run_start.reached, c.requires.in_range.1)
 
 pub returns : goal.returns
 unfolding event_at
 returns c =
-    let k = c in
-    let start = k in
-    leader_from _ _ _ _ _ start.requires.run_start (rw k.event_at-event.ensures at c.if-kind-eq4.false) c.leader.ensures
+    leader_from _ _ _ _ _ c.requires.run_start (rw c.event_at-event.ensures at c.if-kind-eq4.false) c.leader.ensures

@@ -5,5 +5,4 @@ use Rattle.party_runs.proofs.parties.find_parties.Goals as goal
 
 pub returns : goal.returns
 returns c =
-    let g = c in
-    let a = g.args in record { grouped = g.party_groups.ensures; led = (λ i m. c.party_leaders.ensures i m ∙ leader_in_is a.format a.units.now [] [] a.events.now _ _ i g.party_groups.ensures m) }
+    let a = c.args in record { grouped = c.party_groups.ensures; led = (λ i m. c.party_leaders.ensures i m ∙ leader_in_is a.format a.units.now [] [] a.events.now _ _ i c.party_groups.ensures m) }

@@ -12,14 +12,12 @@ loop-j-init c = (omega arith, refl)
 pub returns-then-groups-j : goal.returns-then-groups-j
 unfolding same_group
 returns-then-groups-j c =
-    let l = c in
-    from_found _ _ _ _ l.loop-j.invariant.1 l.loop-j-test.true (eq-eqb _ _ c.if-groups-j.true)
+    from_found _ _ _ _ c.loop-j.invariant.1 c.loop-j-test.true (eq-eqb _ _ c.if-groups-j.true)
 
 pub loop-j-preserved : goal.loop-j-preserved
 unfolding same_group
 loop-j-preserved c =
-    let l = c in
-    (omega arith, from_next _ _ _ _ l.loop-j.invariant.1 l.loop-j-test.true (ne_eqb _ _ c.if-groups-j.false))
+    (omega arith, from_next _ _ _ _ c.loop-j.invariant.1 c.loop-j-test.true (ne_eqb _ _ c.if-groups-j.false))
 
 pub returns : goal.returns
 unfolding same_group

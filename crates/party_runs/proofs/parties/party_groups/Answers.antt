@@ -15,18 +15,16 @@ loop-i-init c = (omega arith, search rules, λ k z. absurd (omega arith))
 
 pub group_at-requires : goal.group_at-requires
 group_at-requires c =
-    let start = c in
-    let a = start.args in
+    let a = c.args in
     let here : c.loop-i.i < (events_in a.format a.events.now).count = omega arith in
-    place_in a.format a.units.now [] [] a.events.now a.places.now _ here start.requires.events_listed start.requires.places_found
+    place_in a.format a.units.now [] [] a.events.now a.places.now _ here c.requires.events_listed c.requires.places_found
 
 pub loop-i-preserved : goal.loop-i-preserved
 loop-i-preserved c =
     let l = c.loop-i in
-    let start = c in
-    let a = start.args in
+    let a = c.args in
     let here : l.i < (events_in a.format a.events.now).count = omega arith in
-    let g = group_in a.format a.units.now [] [] a.events.now a.places.now _ here _ start.requires.places_found c.group_at.ensures in
+    let g = group_in a.format a.units.now [] [] a.events.now a.places.now _ here _ c.requires.places_found c.group_at.ensures in
     (omega arith, simp length-set l.invariant.1, holds_more l.i l.table (group_of (case_in a.format a.units.now [] [] a.events.now)) _ (omega arith) l.invariant.2 g)
 
 pub returns : goal.returns

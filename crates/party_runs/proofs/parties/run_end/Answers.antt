@@ -10,8 +10,7 @@ loop-end-init c = (omega arith, omega arith, run_here _ _)
 pub returns-then-not-same_run : goal.returns-then-not-same_run
 returns-then-not-same_run c =
     let l = c.loop-end in
-    let start = c in
-    run_ended (events_in start.args.format start.args.events.now) _ _ start.requires.runs_together l.invariant.0 l.invariant.2 (omega arith)
+    run_ended (events_in c.args.format c.args.events.now) _ _ c.requires.runs_together l.invariant.0 l.invariant.2 (omega arith)
     (sym c.same_run.ensures ∙ c.if-not-same_run.true)
 
 pub loop-end-preserved : goal.loop-end-preserved
@@ -20,5 +19,4 @@ loop-end-preserved c = (omega arith, omega arith, run_on _ _ _ (sym c.same_run.e
 pub returns : goal.returns
 returns c =
     let l = c.loop-end in
-    let start = c in
-    run_last (events_in start.args.format start.args.events.now) _ _ start.requires.runs_together l.invariant.0 l.invariant.2 (omega arith)
+    run_last (events_in c.args.format c.args.events.now) _ _ c.requires.runs_together l.invariant.0 l.invariant.2 (omega arith)

@@ -9,6 +9,5 @@ same_run-goes_on-requires c = (search rules, let e = c.place_before.ensures in o
 
 pub returns : goal.returns
 returns c =
-    let start = c in
-    run_turn (events_in start.args.format start.args.events.now) _ _ start.requires.in_range start.requires.runs_together start.requires.run_start _ _
+    run_turn (events_in c.args.format c.args.events.now) _ _ c.requires.in_range c.requires.runs_together c.requires.run_start _ _
     (rw c.place_before.ensures at c.same_run-goes_on.ensures) c.choose_usize.ensures

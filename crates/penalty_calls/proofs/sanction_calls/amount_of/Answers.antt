@@ -12,9 +12,7 @@ small : (c : goal.After-product-sum) → c.product-sum.result ≤ highest_capabi
 unfolding amount_at
 small c =
     let fine : let a = c.args in Hours a.a.now a.b.now = let a = c.args in fine_hours a.a.now a.b.now c.requires in
-    let w = c in
-    let s = w in
-    rw (c.product-sum.ensures.0, w.positive_part-price.ensures) (fine.amount _ w.loop-h-test.true)
+    rw (c.product-sum.ensures.0, c.positive_part-price.ensures) (fine.amount _ c.loop-h-test.true)
 
 pub loop-h-init : goal.loop-h-init
 unfolding amount_at
@@ -40,17 +38,15 @@ overflow_add-sum c =
 
 pub loop-h-preserved : goal.loop-h-preserved
 unfolding amount_at
-loop-h-preserved c =
-    let w = c in (
-      omega arith,
-      omega (arith, small c),
-      rw (w.loop-h.invariant.2, c.product-sum.ensures.0, w.positive_part-price.ensures, sum_more),
-    )
+loop-h-preserved c = (
+  omega arith,
+  omega (arith, small c),
+  rw (c.loop-h.invariant.2, c.product-sum.ensures.0, c.positive_part-price.ensures, sum_more),
+)
 
 pub returns : goal.returns
 unfolding amount_at
 returns c =
     let fine : let a = c.args in Hours a.a.now a.b.now = let a = c.args in fine_hours a.a.now a.b.now c.requires in
-    let s = c in
-    let e : c.loop-h.h ≡ length s.args.a.now = omega arith in
+    let e : c.loop-h.h ≡ length c.args.a.now = omega arith in
     (rw (c.loop-h.invariant.2, e), omega (arith, fine.few))

@@ -18,11 +18,10 @@ fuel_penalty-requires c =
 pub returns : goal.returns
 unfolding bad_fuel fuel_penalty_answer answer figure_of
 returns c =
-    let w = c in
     simp (
       c.fuel_penalty.ensures,
       c.negative_part_u64-loss.ensures,
       c.positive_part_u64-gain.ensures,
-      ← w.is_within_u64-energy.ensures,
-      w.if-ten.false,
+      ← c.is_within_u64-energy.ensures,
+      c.if-ten.false,
     )

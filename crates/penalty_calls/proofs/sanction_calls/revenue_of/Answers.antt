@@ -12,7 +12,6 @@ small : (c : goal.After-wide-sum) → c.wide-sum.result ≤ highest_revenue
 unfolding revenue_at
 small c =
     let fine : let a = c.args in Revenues a.b.now = let a = c.args in fine_revenues a.b.now c.requires in
-    let s = c in
     rw c.wide-sum.ensures.0 (fine.revenue _ c.loop-h-test.true)
 
 pub loop-h-init : goal.loop-h-init
@@ -37,6 +36,5 @@ pub returns : goal.returns
 unfolding revenue_at
 returns c =
     let fine : let a = c.args in Revenues a.b.now = let a = c.args in fine_revenues a.b.now c.requires in
-    let s = c in
-    let e : c.loop-h.h ≡ length s.args.b.now = omega arith in
+    let e : c.loop-h.h ≡ length c.args.b.now = omega arith in
     (rw (c.loop-h.invariant.2, e), omega (arith, fine.few))

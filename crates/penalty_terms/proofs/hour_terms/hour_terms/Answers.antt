@@ -12,7 +12,7 @@ pub loop-h-init : goal.loop-h-init
 loop-h-init c = (omega arith, fill_none _ _, (λ j q. absurd (let z : ⊥ = omega arith in z)))
 
 pub term_at-requires : goal.term_at-requires
-term_at-requires c = let s = c in record { in_range = (c.loop-h-test.true, s.requires.cells_there); small_amounts = s.requires.small_amounts }
+term_at-requires c = record { in_range = (c.loop-h-test.true, c.requires.cells_there); small_amounts = c.requires.small_amounts }
 
 pub loop-h-preserved : goal.loop-h-preserved
 loop-h-preserved c =

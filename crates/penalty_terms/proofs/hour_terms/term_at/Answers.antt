@@ -13,11 +13,9 @@ returns-then-kind-eq2 c = (rw (c.hour_revenue.ensures, eq-eqb _ 2 c.if-kind-eq2.
 pub returns-then-kind : goal.returns-then-kind
 unfolding term_in
 returns-then-kind c =
-    let small : SmallAmounts c.args.cells.now = let p = c.requires.small_amounts in either_kind _ _ c.if-kind.true p.0 p.1 in
-    let t = c in
-    let s = t in (
-      rw (c.hour_amount.ensures, ne_eqb _ 2 t.if-kind-eq2.false, t.if-kind.true),
-      rw c.hour_amount.ensures (hour_small _ positive_part_holds s.args.cells.now s.args.mask small s.args.h s.requires.in_range.0),
+    let small : SmallAmounts c.args.cells.now = let p = c.requires.small_amounts in either_kind _ _ c.if-kind.true p.0 p.1 in (
+      rw (c.hour_amount.ensures, ne_eqb _ 2 c.if-kind-eq2.false, c.if-kind.true),
+      rw c.hour_amount.ensures (hour_small _ positive_part_holds c.args.cells.now c.args.mask small c.args.h c.requires.in_range.0),
     )
 
 pub returns : goal.returns

@@ -24,12 +24,10 @@ party_day-day-requires c = let p = c.requires in (p.in_range.0, p.in_range.1, (p
 pub fuel_charge-x-requires : goal.fuel_charge-x-requires
 unfolding fuel_in fuel_of no_fuel
 fuel_charge-x-requires c =
-    let small : SmallDay c.party_day-day.result = let s = c in
-    rw c.party_day-day.ensures
-    (day_small s.args.format s.args.events.now s.args.leaders.now _ s.args.row (s.requires.of_fuel c.if-kind-ne3.false).0 s.requires.in_range.2 _ (le_refl _) s.requires.in_range.1) in
-    let d = small in
+    let small : SmallDay c.party_day-day.result = rw c.party_day-day.ensures
+    (day_small c.args.format c.args.events.now c.args.leaders.now _ c.args.row (c.requires.of_fuel c.if-kind-ne3.false).0 c.requires.in_range.2 _ (le_refl _) c.requires.in_range.1) in
     let p = c.requires in
-    ((p.of_fuel c.if-kind-ne3.false).1, d.gain_small, d.loss_small, rw c.difference-t.ensures (omega (arith, d.rise_small)))
+    ((p.of_fuel c.if-kind-ne3.false).1, small.gain_small, small.loss_small, rw c.difference-t.ensures (omega (arith, small.rise_small)))
 
 pub returns : goal.returns
 unfolding fuel_in fuel_of no_fuel

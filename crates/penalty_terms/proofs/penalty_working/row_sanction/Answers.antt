@@ -16,16 +16,13 @@ use Rattle.penalty_terms.proofs.TermLaws.{sound, row_found}
 use Rattle.penalty_terms.proofs.penalty_working.row_sanction.Goals as goal
 
 -- the sanction of the turn's row
-turned : (c : goal.After-sanction_at-sanction) → let l = c in
-    c.sanction_at-sanction.result ≡ sanction_of (decode l.args.file.now) l.loop-i.i
+turned : (c : goal.After-sanction_at-sanction) → c.sanction_at-sanction.result ≡ sanction_of (decode c.args.file.now) c.loop-i.i
 turned c =
     let formatted : c.format_of-format.result ≡ format_in c.args.file.now = c.format_of-format.ensures in
     let past_of : c.section-past.result.now ≡ section_of c.args.file.now 2 = c.section-past.ensures in
     let events_of : c.section-events.result.now ≡ section_of c.args.file.now 3 = c.section-events.ensures in
     let below : c.loop-i.i < (decode c.args.file.now).events.count = omega (arith, c.loop-i-test.true, c.requires.accepted_file.1) in
-    let t = c in
-    let l = t in
-    row_found l.args.file.now l.requires.accepted_file.0 _ _ _ l.requires.found_masks _ _ _ formatted past_of events_of _ _ _ below l.loop-i.invariant.2
+    row_found c.args.file.now c.requires.accepted_file.0 _ _ _ c.requires.found_masks _ _ _ formatted past_of events_of _ _ _ below c.loop-i.invariant.2
     c.sanction_at-sanction.ensures
 
 pub format_of-format-requires : goal.format_of-format-requires
@@ -73,7 +70,7 @@ offset_bounds-penalties-i c =
     let n = file_few f c.requires.accepted_file.0 _ _ _ formatted refl events_of in
     omega arith in
     let inside : c.loop-i.i < 200 = omega (arith, below, few) in
-    let q = inside in omega arith
+    omega arith
 
 pub bounds-penalties-i : goal.bounds-penalties-i
 bounds-penalties-i c =
@@ -97,7 +94,7 @@ overflow_add-i c =
     let n = file_few f c.requires.accepted_file.0 _ _ _ formatted refl events_of in
     omega arith in
     let inside : c.loop-i.i < 200 = omega (arith, below, few) in
-    let q = inside in omega arith
+    omega arith
 
 pub loop-i-smaller : goal.loop-i-smaller
 loop-i-smaller c = omega (arith, c.loop-i-test.true)
@@ -111,12 +108,10 @@ loop-i-preserved c =
     let q = count_is _ f _ formatted events_of in
     let n = file_few f c.requires.accepted_file.0 _ _ _ formatted refl events_of in
     omega arith in
-    let inside : c.loop-i.i < 200 = omega (arith, below, few) in
-    let t = c in
-    let l = t in (
-      omega (arith, t.loop-i-test.true),
-      length-set l.loop-i.penalties l.loop-i.i c.sanction_at-sanction.result.penalty ∙ l.loop-i.invariant.1,
-      holds_more l.loop-i.i l.loop-i.penalties (penalty (decode l.args.file.now)) _ (let q = inside in omega (arith, l.loop-i.invariant.1)) l.loop-i.invariant.2
+    let inside : c.loop-i.i < 200 = omega (arith, below, few) in (
+      omega (arith, c.loop-i-test.true),
+      length-set c.loop-i.penalties c.loop-i.i c.sanction_at-sanction.result.penalty ∙ c.loop-i.invariant.1,
+      holds_more c.loop-i.i c.loop-i.penalties (penalty (decode c.args.file.now)) _ (omega (arith, c.loop-i.invariant.1)) c.loop-i.invariant.2
           (ap (λ (s : Sanction). s.penalty) (turned c)),
     )
 
@@ -147,7 +142,6 @@ returns c =
     let formatted : c.format_of-format.result ≡ format_in c.args.file.now = c.format_of-format.ensures in
     let past_of : c.section-past.result.now ≡ section_of c.args.file.now 2 = c.section-past.ensures in
     let events_of : c.section-events.result.now ≡ section_of c.args.file.now 3 = c.section-events.ensures in
-    let l = c in
-    let e : l.loop-i.i ≡ l.args.row = omega (arith, l.loop-i.invariant.0, c.loop-i-test.false) in
-    row_found l.args.file.now l.requires.accepted_file.0 _ _ _ l.requires.found_masks _ _ _ formatted past_of events_of _ _ _ l.requires.accepted_file.1
-    (subst (λ (n : ℕ). Holds n l.loop-i.penalties (penalty (decode l.args.file.now))) e l.loop-i.invariant.2) c.sanction_at.ensures
+    let e : c.loop-i.i ≡ c.args.row = omega (arith, c.loop-i.invariant.0, c.loop-i-test.false) in
+    row_found c.args.file.now c.requires.accepted_file.0 _ _ _ c.requires.found_masks _ _ _ formatted past_of events_of _ _ _ c.requires.accepted_file.1
+    (subst (λ (n : ℕ). Holds n c.loop-i.penalties (penalty (decode c.args.file.now))) e c.loop-i.invariant.2) c.sanction_at.ensures

@@ -13,10 +13,9 @@ below : (s : goal.After-section-events) → s.args.i < (events_in s.format_of-fo
 below s = let q = count_is _ s.args.file.now _ s.format_of-format.ensures s.section-events.ensures in omega (arith, s.requires.accepted_file.1)
 
 -- the row that bears the penalty is one of the file
-row : (c : goal.After-choose_usize-row) → let s = c in c.choose_usize-row.result < (decode s.args.file.now).events.count
+row : (c : goal.After-choose_usize-row) → c.choose_usize-row.result < (decode c.args.file.now).events.count
 row c =
-    let s = c in
-    rw c.choose_usize-row.ensures (row_below s.args.file.now s.requires.accepted_file.0 _ _ _ s.requires.found_masks s.args.i s.requires.accepted_file.1 c.event_at-event.result.kind)
+    rw c.choose_usize-row.ensures (row_below c.args.file.now c.requires.accepted_file.0 _ _ _ c.requires.found_masks c.args.i c.requires.accepted_file.1 c.event_at-event.result.kind)
 
 pub format_of-format-requires : goal.format_of-format-requires
 format_of-format-requires c = header_long _ c.requires.accepted_file.0
@@ -32,7 +31,7 @@ offset_bounds-leaders-i c =
     let below : c.args.i < (events_in c.format_of-format.result c.section-events.result.now).count = let q = count_is _ c.args.file.now _ c.format_of-format.ensures c.section-events.ensures in omega (arith, c.requires.accepted_file.1) in
     let few : (events_in c.format_of-format.result c.section-events.result.now).count ≤ most_events = file_few c.args.file.now c.requires.accepted_file.0 _ _ _ c.format_of-format.ensures refl c.section-events.ensures in
     let inside : c.args.i < most_events = omega (arith, below, few) in
-    let q = inside in omega arith
+    omega arith
 
 pub bounds-leaders-i : goal.bounds-leaders-i
 bounds-leaders-i c =
@@ -42,23 +41,19 @@ bounds-leaders-i c =
     inside
 
 pub row_sanction-sanction-requires : goal.row_sanction-sanction-requires
-row_sanction-sanction-requires c = let s = c in record { accepted_file = (s.requires.accepted_file.0, row c); found_masks = s.requires.found_masks }
+row_sanction-sanction-requires c = record { accepted_file = (c.requires.accepted_file.0, row c); found_masks = c.requires.found_masks }
 
 pub fuel_terms-fuel-requires : goal.fuel_terms-fuel-requires
 fuel_terms-fuel-requires c =
-    let row : let s = c in c.choose_usize-row.result < (decode s.args.file.now).events.count = let s = c in
-    rw c.choose_usize-row.ensures (row_below s.args.file.now s.requires.accepted_file.0 _ _ _ s.requires.found_masks s.args.i s.requires.accepted_file.1 c.event_at-event.result.kind) in
+    let row : c.choose_usize-row.result < (decode c.args.file.now).events.count = rw c.choose_usize-row.ensures (row_below c.args.file.now c.requires.accepted_file.0 _ _ _ c.requires.found_masks c.args.i c.requires.accepted_file.1 c.event_at-event.result.kind) in
     let few : (events_in c.format_of-format.result c.section-events.result.now).count ≤ most_events = file_few c.args.file.now c.requires.accepted_file.0 _ _ _ c.format_of-format.ensures refl c.section-events.ensures in
     let steady : Sound c.format_of-format.result c.section-events.result.now c.args.leaders.now = sound c.args.file.now c.requires.accepted_file.0 _ _ _ c.requires.found_masks _ _ _ c.format_of-format.ensures refl c.section-events.ensures
     (λ b. (c.shared_slice_known-1.given b).fits) in
     let kind : c.event_at-event.result.kind ≡ (decode c.args.file.now).events.kind c.args.i = kind_of _ c.args.file.now _ c.format_of-format.ensures c.section-events.ensures _ _ c.event_at-event.ensures in
-    let z = c in
-    let a = z in
-    let s = a in
-    let q = count_is _ s.args.file.now _ a.format_of-format.ensures a.section-events.ensures in record {
+    let q = count_is _ c.args.file.now _ c.format_of-format.ensures c.section-events.ensures in record {
       in_range = (omega (arith, row), few, steady);
-      of_fuel = fuel_ready s.args.file.now s.requires.accepted_file.0 _ _ _ s.requires.found_masks s.args.i s.requires.accepted_file.1 _ _ _ _ _ a.format_of-format.ensures a.section-events.ensures
-          kind z.choose_usize-row.ensures c.row_sanction-sanction.ensures;
+      of_fuel = fuel_ready c.args.file.now c.requires.accepted_file.0 _ _ _ c.requires.found_masks c.args.i c.requires.accepted_file.1 _ _ _ _ _ c.format_of-format.ensures c.section-events.ensures
+          kind c.choose_usize-row.ensures c.row_sanction-sanction.ensures;
     }
 
 pub event_cells-cells-requires : goal.event_cells-cells-requires
@@ -71,7 +66,7 @@ offset_bounds-masks-i c =
     let below : c.args.i < (events_in c.format_of-format.result c.section-events.result.now).count = let q = count_is _ c.args.file.now _ c.format_of-format.ensures c.section-events.ensures in omega (arith, c.requires.accepted_file.1) in
     let few : (events_in c.format_of-format.result c.section-events.result.now).count ≤ most_events = file_few c.args.file.now c.requires.accepted_file.0 _ _ _ c.format_of-format.ensures refl c.section-events.ensures in
     let inside : c.args.i < most_events = omega (arith, below, few) in
-    let q = inside in omega arith
+    omega arith
 
 pub bounds-masks-i : goal.bounds-masks-i
 bounds-masks-i c =
@@ -85,14 +80,11 @@ hour_terms-hours-requires c =
     let steady : Sound c.format_of-format.result c.section-events.result.now c.args.leaders.now = sound c.args.file.now c.requires.accepted_file.0 _ _ _ c.requires.found_masks _ _ _ c.format_of-format.ensures refl c.section-events.ensures
     (λ b. (c.shared_slice_known-1.given b).fits) in
     let below : c.args.i < (events_in c.format_of-format.result c.section-events.result.now).count = let q = count_is _ c.args.file.now _ c.format_of-format.ensures c.section-events.ensures in omega (arith, c.requires.accepted_file.1) in
-    let e = c in
-    let v = e in
-    let a = v in
-    let k' = kind_here _ _ _ _ v.event_at-event.ensures in record {
-      cells_there = e.event_cells-cells.ensures.1;
+    let k' = kind_here _ _ _ _ c.event_at-event.ensures in record {
+      cells_there = c.event_cells-cells.ensures.1;
       small_amounts = (
-        (λ k. rw e.event_cells-cells.ensures.0 (steady.withheld a.args.i below (sym k' ∙ k))),
-        (λ k. rw e.event_cells-cells.ensures.0 (steady.fuel a.args.i below (sym k' ∙ k))),
+        (λ k. rw c.event_cells-cells.ensures.0 (steady.withheld c.args.i below (sym k' ∙ k))),
+        (λ k. rw c.event_cells-cells.ensures.0 (steady.fuel c.args.i below (sym k' ∙ k))),
       );
     }
 
@@ -108,11 +100,6 @@ hour_losses-requires c = c.event_cells-cells.ensures.1
 pub returns : goal.returns
 returns c =
     let kind : c.event_at-event.result.kind ≡ (decode c.args.file.now).events.kind c.args.i = kind_of _ c.args.file.now _ c.format_of-format.ensures c.section-events.ensures _ _ c.event_at-event.ensures in
-    let e = c in
-    let z = e in
-    let v = z in
-    let a = v in
-    let s = a in
-    working_made s.args.file.now s.requires.accepted_file.0 _ _ _ s.requires.found_masks s.args.i s.requires.accepted_file.1 _ _ _ _ _ _ _ _ _ _ _ a.format_of-format.ensures a.section-events.ensures
-    e.event_cells-cells.ensures.0 kind z.choose_usize-row.ensures e.row_sanction-sanction.ensures e.fuel_terms-fuel.ensures
+    working_made c.args.file.now c.requires.accepted_file.0 _ _ _ c.requires.found_masks c.args.i c.requires.accepted_file.1 _ _ _ _ _ _ _ _ _ _ _ c.format_of-format.ensures c.section-events.ensures
+    c.event_cells-cells.ensures.0 kind c.choose_usize-row.ensures c.row_sanction-sanction.ensures c.fuel_terms-fuel.ensures
     c.hour_terms-hours.ensures.0 c.added_of.ensures c.added_of-2.ensures c.hour_losses.ensures

@@ -23,7 +23,7 @@ pub number_fine-requires : goal.number_fine-requires
 unfolding record_numbers_fine
 number_fine-requires c =
     let long : number_width c.args.format ≡ 4 = long_number _ (sym c.old_numbers.ensures ∙ c.if-old_numbers.false) in
-    let e = long in (omega arith, search rules, omega arith)
+    (omega arith, search rules, omega arith)
 
 pub returns-then-not-number_fine : goal.returns-then-not-number_fine
 unfolding record_numbers_fine

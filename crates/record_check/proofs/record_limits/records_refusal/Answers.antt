@@ -36,7 +36,6 @@ returns c =
     let fine : let s = c.args in units_fine s.format s.units.now ≡ true = sym c.units_fine-units_good.ensures ∙ c.if-not-units_good.false in
     let numbered : let s = c.args in
     numbers_fine s.format s.units.now s.references.now s.events.now ≡ true = sym c.numbers_fine-numbers_good.ensures ∙ c.if-not-numbers_good.false in
-    let e = c in
     rw (
       c.unless.ensures,
       c.unless-from_8.ensures,

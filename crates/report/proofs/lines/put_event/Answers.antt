@@ -8,11 +8,8 @@ pub returns : goal.returns
 unfolding event_text
 returns c =
     let p5 = c.put_field.ensures in
-    let c4 = c in
-    let p4 = c4.put_field-at-4.ensures in
-    let c3 = c4 in
-    let p3 = c3.put_field-at-3.ensures in
-    let c2 = c3 in
-    let p2 = c2.put_field-at-2.ensures in
-    let p1 = c2.put_field-at.ensures in
+    let p4 = c.put_field-at-4.ensures in
+    let p3 = c.put_field-at-3.ensures in
+    let p2 = c.put_field-at-2.ensures in
+    let p1 = c.put_field-at.ensures in
     (then (then (then (then p1.0 p2.0) p3.0) p4.0) p5.0, omega (arith, p1.1, p2.1, p3.1, p4.1, p5.1))

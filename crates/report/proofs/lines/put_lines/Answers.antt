@@ -11,15 +11,12 @@ use Rattle.report.proofs.lines.put_lines.Goals as goal
 
 pub loop-i-preserved : goal.loop-i-preserved
 loop-i-preserved c =
-    let w = c in
-    let v = w in
-    let r = v in
-    let l = r.loop-i in
-    let a = r.args in
-    let event = same_text (ap event_text r.event_at-event.ensures ∙ event_text_is (events_in a.format a.events.now) l.i) v.put_event-next.ensures.0 in
-    let row = same_text (ap row_fields r.record_at-row.ensures.0) w.put_row-at.ensures.0 in (
+    let l = c.loop-i in
+    let a = c.args in
+    let event = same_text (ap event_text c.event_at-event.ensures ∙ event_text_is (events_in a.format a.events.now) l.i) c.put_event-next.ensures.0 in
+    let row = same_text (ap row_fields c.record_at-row.ensures.0) c.put_row-at.ensures.0 in (
       omega arith,
-      omega (arith, v.put_event-next.ensures.1, w.put_row-at.ensures.1, l.invariant.1),
+      omega (arith, c.put_event-next.ensures.1, c.put_row-at.ensures.1, l.invariant.1),
       omega (arith, put_size event, put_size row, l.invariant.2),
       same_text (sym (lines_more a.format l.i (events_in a.format a.events.now) a.rows.now)) (then l.invariant.3 (then event row)),
     )

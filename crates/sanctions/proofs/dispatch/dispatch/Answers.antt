@@ -13,9 +13,8 @@ dispatch_penalty-penalty-requires c = c.revenue.ensures.1
 pub returns : goal.returns
 unfolding dispatch_row no_sanction
 returns c =
-    let w = c in
     rw (
-      sym w.with_impact.ensures ∙ w.if-not-with_impact.false,
+      sym c.with_impact.ensures ∙ c.if-not-with_impact.false,
       c.dispatch_penalty-penalty.ensures,
       c.revenue.ensures.0,
       c.event_cells-cells.ensures.0,

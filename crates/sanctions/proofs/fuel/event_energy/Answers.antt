@@ -33,39 +33,34 @@ loop-h-init c =
 pub overflow_add-gain : goal.overflow_add-gain
 unfolding energy_of energy_in
 overflow_add-gain c =
-    let small : (c.hour_energy-hour.result.gain ≤ hour_energies) × (c.hour_energy-hour.result.loss ≤ hour_energies) = let s = c in
-    let t = c.loop-h-test.true in (
-      rw c.hour_energy-hour.ensures.0 (hour_small (positive_part 32) positive_part_holds s.args.cells.now s.args.mask s.requires.1 _ t),
-      rw c.hour_energy-hour.ensures.1 (hour_small (negative_part 32) negative_part_holds s.args.cells.now s.args.mask s.requires.1 _ t),
+    let small : (c.hour_energy-hour.result.gain ≤ hour_energies) × (c.hour_energy-hour.result.loss ≤ hour_energies) = let t = c.loop-h-test.true in (
+      rw c.hour_energy-hour.ensures.0 (hour_small (positive_part 32) positive_part_holds c.args.cells.now c.args.mask c.requires.1 _ t),
+      rw c.hour_energy-hour.ensures.1 (hour_small (negative_part 32) negative_part_holds c.args.cells.now c.args.mask c.requires.1 _ t),
     ) in
-    let s = small in omega arith
+    omega arith
 
 pub overflow_add-loss : goal.overflow_add-loss
 unfolding energy_of energy_in
 overflow_add-loss c =
-    let small : (c.hour_energy-hour.result.gain ≤ hour_energies) × (c.hour_energy-hour.result.loss ≤ hour_energies) = let s = c in
-    let t = c.loop-h-test.true in (
-      rw c.hour_energy-hour.ensures.0 (hour_small (positive_part 32) positive_part_holds s.args.cells.now s.args.mask s.requires.1 _ t),
-      rw c.hour_energy-hour.ensures.1 (hour_small (negative_part 32) negative_part_holds s.args.cells.now s.args.mask s.requires.1 _ t),
+    let small : (c.hour_energy-hour.result.gain ≤ hour_energies) × (c.hour_energy-hour.result.loss ≤ hour_energies) = let t = c.loop-h-test.true in (
+      rw c.hour_energy-hour.ensures.0 (hour_small (positive_part 32) positive_part_holds c.args.cells.now c.args.mask c.requires.1 _ t),
+      rw c.hour_energy-hour.ensures.1 (hour_small (negative_part 32) negative_part_holds c.args.cells.now c.args.mask c.requires.1 _ t),
     ) in
-    let s = small in omega arith
+    omega arith
 
 pub loop-h-preserved : goal.loop-h-preserved
 unfolding energy_of energy_in
 loop-h-preserved c =
-    let small : (c.hour_energy-hour.result.gain ≤ hour_energies) × (c.hour_energy-hour.result.loss ≤ hour_energies) = let s = c in
-    let t = c.loop-h-test.true in (
-      rw c.hour_energy-hour.ensures.0 (hour_small (positive_part 32) positive_part_holds s.args.cells.now s.args.mask s.requires.1 _ t),
-      rw c.hour_energy-hour.ensures.1 (hour_small (negative_part 32) negative_part_holds s.args.cells.now s.args.mask s.requires.1 _ t),
+    let small : (c.hour_energy-hour.result.gain ≤ hour_energies) × (c.hour_energy-hour.result.loss ≤ hour_energies) = let t = c.loop-h-test.true in (
+      rw c.hour_energy-hour.ensures.0 (hour_small (positive_part 32) positive_part_holds c.args.cells.now c.args.mask c.requires.1 _ t),
+      rw c.hour_energy-hour.ensures.1 (hour_small (negative_part 32) negative_part_holds c.args.cells.now c.args.mask c.requires.1 _ t),
     ) in
-    let t = c in
-    let l = t.loop-h in
-    let s = small in (
+    let l = c.loop-h in (
       omega arith,
       omega arith,
       omega arith,
-      rw (l.invariant.3, t.hour_energy-hour.ensures.0, sum_more, add_assoc),
-      rw (l.invariant.4, t.hour_energy-hour.ensures.1, sum_more, add_assoc),
+      rw (l.invariant.3, c.hour_energy-hour.ensures.0, sum_more, add_assoc),
+      rw (l.invariant.4, c.hour_energy-hour.ensures.1, sum_more, add_assoc),
     )
 
 pub returns : goal.returns

@@ -10,25 +10,22 @@ returns-then-leaders-j c = rw (ne_eqb _ _ c.if-leaders-j.true)
 
 pub event_energy-e-requires : goal.event_energy-e-requires
 unfolding event_at party_share led_by energy_of
-event_energy-e-requires c =
-    let t = c in
-    let s = t in (
-      c.event_cells-cells.ensures.1,
-      rw c.event_cells-cells.ensures.0
-          (led_amounts s.args.format s.args.events.now s.args.leaders.now _ _ s.requires.2 s.requires.3 s.requires.0 t.if-leaders-j.false),
-    )
+event_energy-e-requires c = (
+  c.event_cells-cells.ensures.1,
+  rw c.event_cells-cells.ensures.0
+      (led_amounts c.args.format c.args.events.now c.args.leaders.now _ _ c.requires.2 c.requires.3 c.requires.0 c.if-leaders-j.false),
+)
 
 pub returns : goal.returns
 unfolding event_at party_share led_by energy_of
 returns c =
-    let e = c in
     rw (
-      eq-eqb _ _ e.if-leaders-j.false,
+      eq-eqb _ _ c.if-leaders-j.false,
       c.wide-fall.ensures.0,
       c.negative_part.ensures,
       c.wide-rise.ensures.0,
       c.positive_part.ensures,
-      e.event_energy-e.ensures,
-      e.event_cells-cells.ensures.0,
-      e.event_at-event.ensures,
+      c.event_energy-e.ensures,
+      c.event_cells-cells.ensures.0,
+      c.event_at-event.ensures,
     )

@@ -13,13 +13,11 @@ pub withheld-requires : goal.withheld-requires
 unfolding row_at no_sanction event_at
 withheld-requires c =
     let kind : let a = c.args in
-    c.event_at-event.result.kind ≡ (events_in a.format a.events.now).kind a.i = rw c.event_at-event.ensures in
-    let k = kind in
-    let s = c in (
-      s.requires.in_range.0,
+    c.event_at-event.result.kind ≡ (events_in a.format a.events.now).kind a.i = rw c.event_at-event.ensures in (
+      c.requires.in_range.0,
       omega arith,
-      s.requires.in_range.2,
-      s.requires.sound.withheld s.args.i s.requires.in_range.0 (sym k ∙ c.if-kind-eq1.true),
+      c.requires.in_range.2,
+      c.requires.sound.withheld c.args.i c.requires.in_range.0 (sym kind ∙ c.if-kind-eq1.true),
     )
 
 pub returns-then-kind-eq1 : goal.returns-then-kind-eq1
@@ -34,11 +32,9 @@ unfolding row_at no_sanction event_at
 returns-then-kind-eq2 c =
     let kind : let a = c.args in
     c.event_at-event.result.kind ≡ (events_in a.format a.events.now).kind a.i = rw c.event_at-event.ensures in
-    let w = c in
-    let k = kind in
     rw (
-      ne_eqb _ 1 (λ e. w.if-kind-eq1.false (k ∙ e)),
-      eq-eqb _ 2 (sym k ∙ c.if-kind-eq2.true),
+      ne_eqb _ 1 (λ e. c.if-kind-eq1.false (kind ∙ e)),
+      eq-eqb _ 2 (sym kind ∙ c.if-kind-eq2.true),
       c.dispatch.ensures,
     )
 
@@ -46,13 +42,11 @@ pub fuel-requires : goal.fuel-requires
 unfolding row_at no_sanction event_at
 fuel-requires c =
     let kind : let a = c.args in
-    c.event_at-event.result.kind ≡ (events_in a.format a.events.now).kind a.i = rw c.event_at-event.ensures in
-    let k = kind in
-    let s = c in (
-      s.requires.in_range.0,
-      s.requires.in_range.1,
-      sym k ∙ eqb-true _ 3 (and_l (eqb c.event_at-event.result.kind 3) (eqb (get_or s.args.leaders.now s.args.i 0) s.args.i) c.if-kind-leaders.true),
-      s.requires.sound,
+    c.event_at-event.result.kind ≡ (events_in a.format a.events.now).kind a.i = rw c.event_at-event.ensures in (
+      c.requires.in_range.0,
+      c.requires.in_range.1,
+      sym kind ∙ eqb-true _ 3 (and_l (eqb c.event_at-event.result.kind 3) (eqb (get_or c.args.leaders.now c.args.i 0) c.args.i) c.if-kind-leaders.true),
+      c.requires.sound,
     )
 
 pub returns-then-kind-leaders : goal.returns-then-kind-leaders
@@ -60,13 +54,10 @@ unfolding row_at no_sanction event_at
 returns-then-kind-leaders c =
     let kind : let a = c.args in
     c.event_at-event.result.kind ≡ (events_in a.format a.events.now).kind a.i = rw c.event_at-event.ensures in
-    let d = c in
-    let w = d in
-    let k = kind in
     rw (
-      ne_eqb _ 1 (λ e. w.if-kind-eq1.false (k ∙ e)),
-      ne_eqb _ 2 (λ e. d.if-kind-eq2.false (k ∙ e)),
-      ← k,
+      ne_eqb _ 1 (λ e. c.if-kind-eq1.false (kind ∙ e)),
+      ne_eqb _ 2 (λ e. c.if-kind-eq2.false (kind ∙ e)),
+      ← kind,
       c.if-kind-leaders.true,
       c.fuel.ensures,
     )
@@ -76,12 +67,9 @@ unfolding row_at no_sanction event_at
 returns c =
     let kind : let a = c.args in
     c.event_at-event.result.kind ≡ (events_in a.format a.events.now).kind a.i = rw c.event_at-event.ensures in
-    let d = c in
-    let w = d in
-    let k = kind in
     rw (
-      ne_eqb _ 1 (λ e. w.if-kind-eq1.false (k ∙ e)),
-      ne_eqb _ 2 (λ e. d.if-kind-eq2.false (k ∙ e)),
-      ← k,
+      ne_eqb _ 1 (λ e. c.if-kind-eq1.false (kind ∙ e)),
+      ne_eqb _ 2 (λ e. c.if-kind-eq2.false (kind ∙ e)),
+      ← kind,
       c.if-kind-leaders.false,
     )

@@ -9,9 +9,8 @@ use Rattle.sanctions.proofs.withheld.amount.Goals as goal
 
 small : (c : goal.After-hour_amount-sum) → c.hour_amount-sum.result ≤ hour_energies
 small c =
-    let s = c in
     rw c.hour_amount-sum.ensures
-    (hour_small (positive_part 32) positive_part_holds s.args.cells.now s.args.mask s.requires.1 _ c.loop-h-test.true)
+    (hour_small (positive_part 32) positive_part_holds c.args.cells.now c.args.mask c.requires.1 _ c.loop-h-test.true)
 
 pub loop-h-init : goal.loop-h-init
 loop-h-init c = (omega arith, omega arith, sum_none _)

@@ -9,8 +9,7 @@ returns-then-n3-eq0 c = rw (← c.instances_at-counts.ensures, eq-eqb _ 0 c.if-n
 pub amount-requires : goal.amount-requires
 unfolding withheld_row instance_row no_sanction
 amount-requires c =
-    let s = c in
-    (c.event_cells-cells.ensures.1, rw c.event_cells-cells.ensures.0 s.requires.3)
+    (c.event_cells-cells.ensures.1, rw c.event_cells-cells.ensures.0 c.requires.3)
 
 pub withheld_penalty-penalty-requires : goal.withheld_penalty-penalty-requires
 unfolding withheld_row instance_row no_sanction
@@ -19,12 +18,11 @@ withheld_penalty-penalty-requires c = c.amount.ensures.1
 pub returns : goal.returns
 unfolding withheld_row instance_row no_sanction
 returns c =
-    let l = c in
     rw (
-      ← l.instances_at-counts.ensures,
-      ne_eqb _ 0 l.if-n3-eq0.false,
+      ← c.instances_at-counts.ensures,
+      ne_eqb _ 0 c.if-n3-eq0.false,
       c.withheld_penalty-penalty.ensures,
       c.amount.ensures.0,
       c.event_cells-cells.ensures.0,
-      l.ladder-multiplier.ensures,
+      c.ladder-multiplier.ensures,
     )

@@ -10,9 +10,8 @@ event_at-event-requires c = omega (arith, c.if-i-event_count.true, c.event_count
 
 pub returns-then-i-event_count : goal.returns-then-i-event_count
 returns-then-i-event_count c =
-    let t = c in
-    let a = t.args in
-    let l : a.i < (events_in a.format a.events.now).count = omega (arith, t.if-i-event_count.true, t.event_count.ensures) in
+    let a = c.args in
+    let l : a.i < (events_in a.format a.events.now).count = omega (arith, c.if-i-event_count.true, c.event_count.ensures) in
     rw (lt-ltb _ _ l, kind_here _ _ _ _ c.event_at-event.ensures)
 
 pub returns : goal.returns

@@ -33,7 +33,7 @@ offset_bounds-masks-i c =
     let below : c.args.i < (events_in c.format_of-format.result c.section-events.result.now).count = let q = count_is _ c.args.file.now _ c.format_of-format.ensures c.section-events.ensures in omega (arith, c.requires.accepted_file.1) in
     let few : (events_in c.format_of-format.result c.section-events.result.now).count ≤ most_events = file_few c.args.file.now c.requires.accepted_file.0 _ _ _ c.format_of-format.ensures refl c.section-events.ensures in
     let inside : c.args.i < most_events = omega (arith, below, few) in
-    let q = inside in omega arith
+    omega arith
 
 pub bounds-masks-i : goal.bounds-masks-i
 bounds-masks-i c =
@@ -44,17 +44,14 @@ bounds-masks-i c =
 
 pub part_over-requires : goal.part_over-requires
 part_over-requires c =
-    let s = c in
-    let p = s.requires.accepted_file in (
+    let p = c.requires.accepted_file in (
       c.event_cells-cells.ensures.1,
-      rw c.event_cells-cells.ensures.0 (small s.args.file.now p.0 s.args.i p.1 p.2 _ _ s.format_of-format.ensures s.section-events.ensures),
+      rw c.event_cells-cells.ensures.0 (small c.args.file.now p.0 c.args.i p.1 p.2 _ _ c.format_of-format.ensures c.section-events.ensures),
     )
 
 pub returns : goal.returns
 returns c =
-    let e = c in
-    let s = e in
-    let p = s.requires.accepted_file in
+    let p = c.requires.accepted_file in
     c.part_over.ensures
-    ∙ part_is s.args.file.now p.0 s.args.i p.1 p.2 _ _ s.format_of-format.ensures s.section-events.ensures _ _ _
-    e.event_at-event.ensures e.event_cells-cells.ensures.0 (s.find_flags.ensures.flagged s.args.i p.1)
+    ∙ part_is c.args.file.now p.0 c.args.i p.1 p.2 _ _ c.format_of-format.ensures c.section-events.ensures _ _ _
+    c.event_at-event.ensures c.event_cells-cells.ensures.0 (c.find_flags.ensures.flagged c.args.i p.1)

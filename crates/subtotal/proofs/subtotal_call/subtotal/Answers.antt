@@ -31,32 +31,21 @@ section-requires c =
 
 pub part_at-requires : goal.part_at-requires
 part_at-requires c =
-    let fuel : let s = c in
-    c.is_fuel.result ≡ is_fuel_event (decode s.args.file.now) s.args.event = let s = c in
-    c.is_fuel.ensures ∙ fuel_is s.args.file.now s.args.event _ _ c.format_of.ensures c.section.ensures in
+    let fuel : c.is_fuel.result ≡ is_fuel_event (decode c.args.file.now) c.args.event = c.is_fuel.ensures ∙ fuel_is c.args.file.now c.args.event _ _ c.format_of.ensures c.section.ensures in
     let fine : refusal c.args.file.now [] (most_rows c.args.file.now) ≡ 0 = sym c.check_into-number.ensures.value ∙ c.if-number-ne0.false in
     let accepted : AcceptedFile c.args.file.now = record { correction = []; rows_length = most_rows c.args.file.now; accepted = fine } in
-    let t = c in
-    let e = t in
-    let h = e.check_into-number.ensures.handed_on e.if-number-ne0.false in
-    let q = fuel_event (decode e.args.file.now) e.args.event (sym fuel ∙ t.if-is_fuel.true) in
+    let h = c.check_into-number.ensures.handed_on c.if-number-ne0.false in
+    let q = fuel_event (decode c.args.file.now) c.args.event (sym fuel ∙ c.if-is_fuel.true) in
     record { accepted_file = (accepted, q.0, q.1); places_found = h.placed; levels_found = h.levelled }
 
 pub returns-then-is_fuel : goal.returns-then-is_fuel
 returns-then-is_fuel c =
     let fine : refusal c.args.file.now [] (most_rows c.args.file.now) ≡ 0 = sym c.check_into-number.ensures.value ∙ c.if-number-ne0.false in
-    let fuel : let s = c in
-    c.is_fuel.result ≡ is_fuel_event (decode s.args.file.now) s.args.event = let s = c in
-    c.is_fuel.ensures ∙ fuel_is s.args.file.now s.args.event _ _ c.format_of.ensures c.section.ensures in
-    let t = c in
-    let e = t in
-    given_is e.args.file.now e.args.event _ fine (sym fuel ∙ t.if-is_fuel.true) c.part_at.ensures
+    let fuel : c.is_fuel.result ≡ is_fuel_event (decode c.args.file.now) c.args.event = c.is_fuel.ensures ∙ fuel_is c.args.file.now c.args.event _ _ c.format_of.ensures c.section.ensures in
+    given_is c.args.file.now c.args.event _ fine (sym fuel ∙ c.if-is_fuel.true) c.part_at.ensures
 
 pub returns : goal.returns
 returns c =
     let fine : refusal c.args.file.now [] (most_rows c.args.file.now) ≡ 0 = sym c.check_into-number.ensures.value ∙ c.if-number-ne0.false in
-    let fuel : let s = c in
-    c.is_fuel.result ≡ is_fuel_event (decode s.args.file.now) s.args.event = let s = c in
-    c.is_fuel.ensures ∙ fuel_is s.args.file.now s.args.event _ _ c.format_of.ensures c.section.ensures in
-    let e = c in
-    other_is e.args.file.now e.args.event fine (sym fuel ∙ c.if-is_fuel.false)
+    let fuel : c.is_fuel.result ≡ is_fuel_event (decode c.args.file.now) c.args.event = c.is_fuel.ensures ∙ fuel_is c.args.file.now c.args.event _ _ c.format_of.ensures c.section.ensures in
+    other_is c.args.file.now c.args.event fine (sym fuel ∙ c.if-is_fuel.false)

@@ -49,16 +49,15 @@ cell_at-cell-requires c = let l = c.requires.accepted_file.2 in search rules
 pub returns : goal.returns
 unfolding figures_with tight decode case_in unit_at event_at
 returns c =
-    let s = c in
     rw (
       c.cell_at-cell.ensures,
       c.event_cells.ensures.0,
       c.bit_of-set.ensures,
       c.unit_at-unit.ensures,
       c.event_at-event.ensures,
-      s.section-events.ensures,
-      s.section-units.ensures,
-      s.format_of-format.ensures,
-      s.requires.place_found,
+      c.section-events.ensures,
+      c.section-units.ensures,
+      c.format_of-format.ensures,
+      c.requires.place_found,
       cell_amount,
     )

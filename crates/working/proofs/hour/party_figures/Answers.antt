@@ -32,7 +32,7 @@ offset_bounds-leaders-i c =
     let found : let a = c.args in
     Led c.format_of-format.result c.section-units.result.now c.section-events.result.now a.places.now a.leaders.now = let p = c.requires in
     found_led _ c.args.file.now _ _ c.format_of-format.ensures c.section-units.ensures c.section-events.ensures p.accepted_file.0 _ _ p.places_found p.leaders_found in
-    let b = below in omega (arith, found.few)
+    omega (arith, found.few)
 
 pub bounds-leaders-i : goal.bounds-leaders-i
 bounds-leaders-i c =
@@ -40,20 +40,18 @@ bounds-leaders-i c =
     let found : let a = c.args in
     Led c.format_of-format.result c.section-units.result.now c.section-events.result.now a.places.now a.leaders.now = let p = c.requires in
     found_led _ c.args.file.now _ _ c.format_of-format.ensures c.section-units.ensures c.section-events.ensures p.accepted_file.0 _ _ p.places_found p.leaders_found in
-    let b = below in omega (arith, found.few)
+    omega (arith, found.few)
 
 pub run_end-end-requires : goal.run_end-end-requires
 run_end-end-requires c =
-    let s = c in
-    let a = s.args in
-    let ef = s.format_of-format.ensures in record { in_range = leader_below _ a.file.now _ ef s.section-events.ensures a.leaders.now s.requires.leaders_found _ s.requires.accepted_file.1; runs_together = file_runs a.file.now s.requires.accepted_file.0 _ _ _ ef s.section-units.ensures s.section-events.ensures (λ b. (s.shared_slice_known-1.given b).fits) }
+    let a = c.args in
+    let ef = c.format_of-format.ensures in record { in_range = leader_below _ a.file.now _ ef c.section-events.ensures a.leaders.now c.requires.leaders_found _ c.requires.accepted_file.1; runs_together = file_runs a.file.now c.requires.accepted_file.0 _ _ _ ef c.section-units.ensures c.section-events.ensures (λ b. (c.shared_slice_known-1.given b).fits) }
 
 pub party_sums-sums-requires : goal.party_sums-sums-requires
 party_sums-sums-requires c =
     let found : let a = c.args in
     Led c.format_of-format.result c.section-units.result.now c.section-events.result.now a.places.now a.leaders.now = let p = c.requires in
     found_led _ c.args.file.now _ _ c.format_of-format.ensures c.section-units.ensures c.section-events.ensures p.accepted_file.0 _ _ p.places_found p.leaders_found in
-    let s = c in
     record { in_range = (omega (arith, c.run_end-end.ensures.after), c.run_end-end.ensures.within, found.few); party_within = party_within _ _ _ _ _ found _ _ c.run_end-end.ensures }
 
 pub offset_bounds-sums-h : goal.offset_bounds-sums-h
@@ -68,7 +66,7 @@ offset_bounds-places-i c =
     let found : let a = c.args in
     Led c.format_of-format.result c.section-units.result.now c.section-events.result.now a.places.now a.leaders.now = let p = c.requires in
     found_led _ c.args.file.now _ _ c.format_of-format.ensures c.section-units.ensures c.section-events.ensures p.accepted_file.0 _ _ p.places_found p.leaders_found in
-    let b = below in omega (arith, found.few)
+    omega (arith, found.few)
 
 pub bounds-places-i : goal.bounds-places-i
 bounds-places-i c =
@@ -76,7 +74,7 @@ bounds-places-i c =
     let found : let a = c.args in
     Led c.format_of-format.result c.section-units.result.now c.section-events.result.now a.places.now a.leaders.now = let p = c.requires in
     found_led _ c.args.file.now _ _ c.format_of-format.ensures c.section-units.ensures c.section-events.ensures p.accepted_file.0 _ _ p.places_found p.leaders_found in
-    let b = below in omega (arith, found.few)
+    omega (arith, found.few)
 
 pub listed_capability-requires : goal.listed_capability-requires
 listed_capability-requires c =
@@ -84,19 +82,16 @@ listed_capability-requires c =
     Led c.format_of-format.result c.section-units.result.now c.section-events.result.now a.places.now a.leaders.now = let p = c.requires in
     found_led _ c.args.file.now _ _ c.format_of-format.ensures c.section-units.ensures c.section-events.ensures p.accepted_file.0 _ _ p.places_found p.leaders_found in
     let below : c.args.i < (events_in c.format_of-format.result c.section-events.result.now).count = let q = count_is _ c.args.file.now _ c.format_of-format.ensures c.section-events.ensures in omega (arith, c.requires.accepted_file.1) in
-    let s = c in
-    let led = found in
-    record { in_range = (below, place_in _ _ [] [] _ s.args.places.now _ below led.listed led.placed, led.short); place_found = led.placed _ below }
+    record { in_range = (below, place_in _ _ [] [] _ c.args.places.now _ below found.listed found.placed, found.short); place_found = found.placed _ below }
 
 pub returns : goal.returns
 returns c =
-    let s = c in
-    let a = s.args in
-    let p = s.requires in
-    let ef = s.format_of-format.ensures in
+    let a = c.args in
+    let p = c.requires in
+    let ef = c.format_of-format.ensures in
     let sums = c.party_sums-sums.ensures in
-    let all = sums_are _ a.i a.h _ (led_sum_is _ a.file.now _ ef s.section-events.ensures a.leaders.now p.leaders_found _ a.i a.h sums.has_row p.accepted_file.1 p.accepted_file.2) _ _ _ _
-    (kind_of _ a.file.now _ ef s.section-events.ensures _ _ c.event_at-event.ensures) (sums.small_row _ p.accepted_file.2)
+    let all = sums_are _ a.i a.h _ (led_sum_is _ a.file.now _ ef c.section-events.ensures a.leaders.now p.leaders_found _ a.i a.h sums.has_row p.accepted_file.1 p.accepted_file.2) _ _ _ _
+    (kind_of _ a.file.now _ ef c.section-events.ensures _ _ c.event_at-event.ensures) (sums.small_row _ p.accepted_file.2)
     c.choose_u64.ensures
-    (c.listed_capability.ensures ∙ listed_is _ a.file.now _ _ ef s.section-units.ensures s.section-events.ensures a.i) c.choose_u64-2.ensures in
+    (c.listed_capability.ensures ∙ listed_is _ a.file.now _ _ ef c.section-units.ensures c.section-events.ensures a.i) c.choose_u64-2.ensures in
     record { value = all.0; sum_in_range = all.1 }

@@ -30,35 +30,26 @@ format_of-requires c =
 
 pub working_at-requires : goal.working_at-requires
 working_at-requires c =
-    let counted : c.event_count.result ≡ (decode c.args.file.now).events.count = let s = c in
-    c.event_count.ensures ∙ count_is _ s.args.file.now _ c.format_of.ensures s.section-events.ensures in
+    let counted : c.event_count.result ≡ (decode c.args.file.now).events.count = c.event_count.ensures ∙ count_is _ c.args.file.now _ c.format_of.ensures c.section-events.ensures in
     let fine : let a = c.args in refusal a.file.now a.correction.now (most_rows a.file.now) ≡ 0 = sym c.check_into-number.ensures.value ∙ c.if-number-ne0.false in
     let accepted : AcceptedFile c.args.file.now = record { correction = c.args.correction.now; rows_length = most_rows c.args.file.now; accepted = fine } in
-    let t = c in
-    let e = t in
-    let a = e.args in
-    let h = e.check_into-number.ensures.handed_on e.if-number-ne0.false in
-    let l = inside a.event _ a.hour (rw counted at t.if-event-event_count.true) in
+    let a = c.args in
+    let h = c.check_into-number.ensures.handed_on c.if-number-ne0.false in
+    let l = inside a.event _ a.hour (rw counted at c.if-event-event_count.true) in
     record { accepted_file = (accepted, l.0, l.1); places_found = h.placed; levels_found = h.levelled }
 
 pub returns-then-event-event_count : goal.returns-then-event-event_count
 returns-then-event-event_count c =
     let fine : let a = c.args in refusal a.file.now a.correction.now (most_rows a.file.now) ≡ 0 = sym c.check_into-number.ensures.value ∙ c.if-number-ne0.false in
-    let counted : c.event_count.result ≡ (decode c.args.file.now).events.count = let s = c in
-    c.event_count.ensures ∙ count_is _ s.args.file.now _ c.format_of.ensures s.section-events.ensures in
-    let t = c in
-    let e = t in
-    let a = e.args in
+    let counted : c.event_count.result ≡ (decode c.args.file.now).events.count = c.event_count.ensures ∙ count_is _ c.args.file.now _ c.format_of.ensures c.section-events.ensures in
+    let a = c.args in
     c.working_at.ensures
-    ∙ working_is a.file.now a.correction.now a.event a.hour fine (rw counted at t.if-event-event_count.true)
+    ∙ working_is a.file.now a.correction.now a.event a.hour fine (rw counted at c.if-event-event_count.true)
 
 pub returns : goal.returns
 returns c =
     let fine : let a = c.args in refusal a.file.now a.correction.now (most_rows a.file.now) ≡ 0 = sym c.check_into-number.ensures.value ∙ c.if-number-ne0.false in
-    let counted : c.event_count.result ≡ (decode c.args.file.now).events.count = let s = c in
-    c.event_count.ensures ∙ count_is _ s.args.file.now _ c.format_of.ensures s.section-events.ensures in
-    let t = c in
-    let e = t in
-    let a = e.args in
+    let counted : c.event_count.result ≡ (decode c.args.file.now).events.count = c.event_count.ensures ∙ count_is _ c.args.file.now _ c.format_of.ensures c.section-events.ensures in
+    let a = c.args in
     c.refused_working-2.ensures
-    ∙ outside_is a.file.now a.correction.now a.event a.hour fine (rw counted at t.if-event-event_count.false)
+    ∙ outside_is a.file.now a.correction.now a.event a.hour fine (rw counted at c.if-event-event_count.false)

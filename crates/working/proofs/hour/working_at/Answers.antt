@@ -39,46 +39,45 @@ pub instances_at-instances-requires : goal.instances_at-instances-requires
 instances_at-instances-requires c =
     let below : c.args.i < (events_in c.format_of-format.result c.section-events.result.now).count = let q = count_is _ c.args.file.now _ c.format_of-format.ensures c.section-events.ensures in omega (arith, c.requires.accepted_file.1) in
     let few : (events_in c.format_of-format.result c.section-events.result.now).count ≤ most_events = file_few c.args.file.now c.requires.accepted_file.0 _ _ _ c.format_of-format.ensures refl c.section-events.ensures in
-    let inside : c.args.i < most_events = let b = below in let n = few in omega arith in
-    let s = c in (below, inside, past_few s.args.file.now s.requires.accepted_file.0 _ c.section.ensures)
+    let inside : c.args.i < most_events = omega arith in
+    (below, inside, past_few c.args.file.now c.requires.accepted_file.0 _ c.section.ensures)
 
 pub party_figures-sums-requires : goal.party_figures-sums-requires
-party_figures-sums-requires c = let s = c in record { accepted_file = s.requires.accepted_file; places_found = s.requires.places_found; leaders_found = s.find_flags.ensures.led }
+party_figures-sums-requires c = record { accepted_file = c.requires.accepted_file; places_found = c.requires.places_found; leaders_found = c.find_flags.ensures.led }
 
 pub time_totals-totals-requires : goal.time_totals-totals-requires
 time_totals-totals-requires c =
     let below : c.args.i < (events_in c.format_of-format.result c.section-events.result.now).count = let q = count_is _ c.args.file.now _ c.format_of-format.ensures c.section-events.ensures in omega (arith, c.requires.accepted_file.1) in
     let few : (events_in c.format_of-format.result c.section-events.result.now).count ≤ most_events = file_few c.args.file.now c.requires.accepted_file.0 _ _ _ c.format_of-format.ensures refl c.section-events.ensures in
-    let s = c in
-    record { in_range = (below, few); bids_in_order = file_bids s.args.file.now s.requires.accepted_file.0 _ _ _ s.format_of-format.ensures refl s.section-events.ensures }
+    record { in_range = (below, few); bids_in_order = file_bids c.args.file.now c.requires.accepted_file.0 _ _ _ c.format_of-format.ensures refl c.section-events.ensures }
 
 pub offset_bounds-places-i : goal.offset_bounds-places-i
 offset_bounds-places-i c =
     let below : c.args.i < (events_in c.format_of-format.result c.section-events.result.now).count = let q = count_is _ c.args.file.now _ c.format_of-format.ensures c.section-events.ensures in omega (arith, c.requires.accepted_file.1) in
     let few : (events_in c.format_of-format.result c.section-events.result.now).count ≤ most_events = file_few c.args.file.now c.requires.accepted_file.0 _ _ _ c.format_of-format.ensures refl c.section-events.ensures in
-    let inside : c.args.i < most_events = let b = below in let n = few in omega arith in
-    let b = inside in omega arith
+    let inside : c.args.i < most_events = omega arith in
+    omega arith
 
 pub bounds-places-i : goal.bounds-places-i
 bounds-places-i c =
     let below : c.args.i < (events_in c.format_of-format.result c.section-events.result.now).count = let q = count_is _ c.args.file.now _ c.format_of-format.ensures c.section-events.ensures in omega (arith, c.requires.accepted_file.1) in
     let few : (events_in c.format_of-format.result c.section-events.result.now).count ≤ most_events = file_few c.args.file.now c.requires.accepted_file.0 _ _ _ c.format_of-format.ensures refl c.section-events.ensures in
-    let inside : c.args.i < most_events = let b = below in let n = few in omega arith in
-    let b = inside in omega arith
+    let inside : c.args.i < most_events = omega arith in
+    omega arith
 
 pub offset_bounds-levels-i : goal.offset_bounds-levels-i
 offset_bounds-levels-i c =
     let below : c.args.i < (events_in c.format_of-format.result c.section-events.result.now).count = let q = count_is _ c.args.file.now _ c.format_of-format.ensures c.section-events.ensures in omega (arith, c.requires.accepted_file.1) in
     let few : (events_in c.format_of-format.result c.section-events.result.now).count ≤ most_events = file_few c.args.file.now c.requires.accepted_file.0 _ _ _ c.format_of-format.ensures refl c.section-events.ensures in
-    let inside : c.args.i < most_events = let b = below in let n = few in omega arith in
-    let b = inside in omega arith
+    let inside : c.args.i < most_events = omega arith in
+    omega arith
 
 pub bounds-levels-i : goal.bounds-levels-i
 bounds-levels-i c =
     let below : c.args.i < (events_in c.format_of-format.result c.section-events.result.now).count = let q = count_is _ c.args.file.now _ c.format_of-format.ensures c.section-events.ensures in omega (arith, c.requires.accepted_file.1) in
     let few : (events_in c.format_of-format.result c.section-events.result.now).count ≤ most_events = file_few c.args.file.now c.requires.accepted_file.0 _ _ _ c.format_of-format.ensures refl c.section-events.ensures in
-    let inside : c.args.i < most_events = let b = below in let n = few in omega arith in
-    let b = inside in omega arith
+    let inside : c.args.i < most_events = omega arith in
+    omega arith
 
 pub offset_bounds-totals-h : goal.offset_bounds-totals-h
 offset_bounds-totals-h c = omega (arith, c.requires.accepted_file.2)
@@ -94,14 +93,13 @@ working_from-requires c = small_s _ _ _ _ _ _ _ c.figures_at-figures.ensures c.p
 
 pub returns : goal.returns
 returns c =
-    let s = c in
-    let a = s.args in
-    let p = s.requires in
-    let ef = s.format_of-format.ensures in
-    let f = s.find_flags.ensures in
+    let a = c.args in
+    let p = c.requires in
+    let ef = c.format_of-format.ensures in
+    let f = c.find_flags.ensures in
     working_full (decode a.file.now) a.i a.h _ _ _ _ c.working_from.ensures
-    (figures_full _ a.file.now _ ef s.section-events.ensures a.levels.now p.levels_found a.i a.h _ _ _ p.accepted_file.1 c.figures_at-figures.ensures
+    (figures_full _ a.file.now _ ef c.section-events.ensures a.levels.now p.levels_found a.i a.h _ _ _ p.accepted_file.1 c.figures_at-figures.ensures
     c.party_figures-sums.ensures.value (c.time_totals-totals.ensures.each _ p.accepted_file.2))
     (c.bit_of-flagged.ensures ∙ flag_is a.file.now a.i a.h _ (f.flagged _ p.accepted_file.1) p.accepted_file.2)
-    (counts_are a.file.now p.accepted_file.0 _ _ _ _ s.find_flags.new.leaders _ a.i _ ef c.section.ensures s.section-events.ensures
+    (counts_are a.file.now p.accepted_file.0 _ _ _ _ c.find_flags.new.leaders _ a.i _ ef c.section.ensures c.section-events.ensures
     (record { group_held = f.grouped; leader_held = f.led; mask_held = f.flagged }) p.accepted_file.1 c.instances_at-instances.ensures)
