@@ -9,7 +9,6 @@ ghost use Rattle.api.specs.Exported.{exported_settlement};
 use case_check::check;
 use report::case_listing;
 use settlement::settle;
-use settlement::settle::Settlement;
 use working::figures::Working;
 use working::hour::working;
 
@@ -32,7 +31,10 @@ pub extern "C" fn attachment_h_check<'a>(
 ) -> u8
     ensures { result ≡ refusal file.now correction.now rows_length }
 {
-    check::check(file, correction, rows_length)
+    match check::check(file, correction, rows_length) {
+        Ok(()) => 0,
+        Err(refusal) => u8::from(refusal),
+    }
 }
 
 // Settles the case into rows; where it is refused they are as they were.
@@ -46,21 +48,17 @@ pub extern "C" fn attachment_h_settle<'a>(
     ensures rows_after { rows.new ≡ rows_after file.now correction.now rows.old }
 {
     match settle::settle(file, correction, rows) {
-        Settlement::Refused(number) => Outcome {
-            number,
+        Err(refusal) => Outcome {
+            number: u8::from(refusal),
             rows: 0,
             penalties: 0,
             make_ups: 0,
         },
-        Settlement::Settled {
-            rows,
-            penalties,
-            make_ups,
-        } => Outcome {
+        Ok(settled) => Outcome {
             number: 0,
-            rows,
-            penalties,
-            make_ups,
+            rows: settled.rows,
+            penalties: settled.penalties,
+            make_ups: settled.make_ups,
         },
     }
 }

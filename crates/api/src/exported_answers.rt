@@ -3,7 +3,7 @@ ghost use Rattle.std.specs.Prelude.{◌≡◌};
 ghost use Rattle.calls.specs.Answers.{verdict_answer, figure_answer, time_answer};
 ghost use Rattle.api.specs.Exported.{exported, exported_times};
 
-use calls::answers::{Figure, TimeVerdict, Verdict};
+use calls::answers::{Refusal, TimesFailed};
 
 // The refusal's number, or 0 and the figure; a question's figure is 1 for yes.
 #[repr(C)]
@@ -23,49 +23,48 @@ pub struct ExportedTimes {
     pub minimum_down: bool,
 }
 
-pub fn of_verdict(verdict: Verdict) -> ExportedAnswer
+pub fn of_verdict(verdict: Result<bool, Refusal>) -> ExportedAnswer
     ensures { result ≡ exported (verdict_answer verdict) }
 {
     match verdict {
-        Verdict::Refused(number) => ExportedAnswer { number, figure: 0 },
-        Verdict::No => ExportedAnswer {
-            number: 0,
+        Err(refusal) => ExportedAnswer {
+            number: u8::from(refusal),
             figure: 0,
         },
-        Verdict::Yes => ExportedAnswer {
+        Ok(fails) => ExportedAnswer {
             number: 0,
-            figure: 1,
+            figure: u64::from(fails),
         },
     }
 }
 
-pub fn of_figure(figure: Figure) -> ExportedAnswer
+pub fn of_figure(figure: Result<u64, Refusal>) -> ExportedAnswer
     ensures { result ≡ exported (figure_answer figure) }
 {
     match figure {
-        Figure::Refused(number) => ExportedAnswer { number, figure: 0 },
-        Figure::Value(value) => ExportedAnswer {
-            number: 0,
-            figure: value,
-        },
+        Err(refusal) => {
+            let number = u8::from(refusal);
+            ExportedAnswer { number, figure: 0 }
+        }
+        Ok(figure) => ExportedAnswer { number: 0, figure },
     }
 }
 
-pub fn of_times(times: TimeVerdict) -> ExportedTimes
+pub fn of_times(times: Result<TimesFailed, Refusal>) -> ExportedTimes
     ensures { result ≡ exported_times (time_answer times) }
 {
     match times {
-        TimeVerdict::Refused(number) => ExportedTimes {
-            number,
+        Err(refusal) => ExportedTimes {
+            number: u8::from(refusal),
             start_up: false,
             minimum_run: false,
             minimum_down: false,
         },
-        TimeVerdict::Fails(start_up, minimum_run, minimum_down) => ExportedTimes {
+        Ok(fails) => ExportedTimes {
             number: 0,
-            start_up,
-            minimum_run,
-            minimum_down,
+            start_up: fails.start_up,
+            minimum_run: fails.minimum_run,
+            minimum_down: fails.minimum_down,
         },
     }
 }

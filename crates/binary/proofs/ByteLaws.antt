@@ -8,7 +8,7 @@ use native.Mathlib.Numerals.{add-one}
 use native.Mathlib.Omega.{arith}
 use lib.ListN.{length, drop, take, set, length-set, length-take, length-drop}
 use lib.Seq.{sets, get_or-set_same, get_or-set_other, get_or-append-add, get_or-take, get_or-drop, ext_get_or}
-use Rattle.binary.specs.Bytes.{byte_at, value_at, bytes_of}
+use Rattle.binary.specs.Bytes.{byte_at, value_at, bytes_of, byte_value}
 
 -- the lower bytes and the upper bytes
 pub value_add : (m n : ℕ) (s : List ℕ) (p : ℕ) → value_at (m + n) s p ≡ value_at m s p + 256 ^ m * value_at n s (p + m)
@@ -20,8 +20,7 @@ value_add (suc m) n s p =
     simp (suc-add, step, e, pow-suc) (omega arith)
 
 pub value_one : (s : List ℕ) (p : ℕ) → value_at 1 s p ≡ byte_at s p
-unfolding value_at
-value_one s p = omega arith
+value_one s p = sym (byte_value s p)
 
 -- a number past the first a bytes
 value_drop : (w a : ℕ) (s : List ℕ) (p : ℕ) → value_at w (drop a s) p ≡ value_at w s (a + p)

@@ -5,3 +5,4 @@ pub mod ByteLaws
 pub mod WordLaws
 pub mod IntegerLaws
 pub mod ListLaws
+pub mod ChainLaws

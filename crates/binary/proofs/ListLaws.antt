@@ -12,24 +12,24 @@ use lib.Seq.{drop-cons, set_at, append_snoc, get_or_at, take_at, drop_at, drop-d
 use borrow.Rule.Slice.PartMut.{put_mid}
 use Rattle.binary.specs.Lists.{list_to, join_to, first_from, Holds}
 
-module _ (f : ℕ → ℕ) where
+module _ {A : Type 0} (f : ℕ → A) where
   pub list_length : (n : ℕ) → length (list_to n f) ≡ n
   unfolding list_to
   list_length zero = refl
   list_length (suc n) = length-append (list_to n f) (f n ∷ []) ∙ rw (list_length n, add-one)
 
-  pub fill_none : (d : List ℕ) → d ≡ list_to 0 f ++ drop 0 d
+  pub fill_none : (d : List A) → d ≡ list_to 0 f ++ drop 0 d
   unfolding list_to
   fill_none d = refl
 
   -- a store of f n at n
-  pub fill_more : (n : ℕ) (d : List ℕ) → n < length d → set (list_to n f ++ drop n d) n (f n) ≡ list_to (n + 1) f ++ drop (n + 1) d
+  pub fill_more : (n : ℕ) (d : List A) → n < length d → set (list_to n f ++ drop n d) n (f n) ≡ list_to (n + 1) f ++ drop (n + 1) d
   unfolding list_to
   fill_more n d h =
       rw (add-one, drop-cons d n (f n) h)
       (set_at (list_to n f) (get_or d n (f n)) (drop (suc n) d) (f n) n (list_length n) ∙ sym (append_snoc (list_to n f) (f n) (drop (suc n) d)))
 
-  pub list_at : (n i : ℕ) (d : ℕ) → i < n → get_or (list_to n f) i d ≡ f i
+  pub list_at : (n i : ℕ) (d : A) → i < n → get_or (list_to n f) i d ≡ f i
   unfolding list_to
   list_at zero i d h = absurd (not-suc-le-zero h)
   list_at (suc n) i d h =
@@ -38,14 +38,14 @@ module _ (f : ℕ → ℕ) where
       (eq-or-lt_of_le (le_of_suc-le-suc h))
 
   -- the same with a rest behind it
-  pub fill_at : (n i : ℕ) (d : ℕ) (rest : List ℕ) → i < n → get_or (list_to n f ++ rest) i d ≡ f i
+  pub fill_at : (n i : ℕ) (d : A) (rest : List A) → i < n → get_or (list_to n f ++ rest) i d ≡ f i
   fill_at n i d rest h = get_or-append (list_to n f) rest d i (rw list_length h) ∙ list_at n i d h
 
 -- functions that agree below n
-pub list_same : (n : ℕ) (f g : ℕ → ℕ) → ((k : ℕ) → k < n → f k ≡ g k) → list_to n f ≡ list_to n g
+pub list_same : {A : Type 0} (n : ℕ) (f g : ℕ → A) → ((k : ℕ) → k < n → f k ≡ g k) → list_to n f ≡ list_to n g
 unfolding list_to
 list_same zero f g e = refl
-list_same (suc n) f g e = ap₂ (λ (x : List ℕ) (y : ℕ). x ++ (y ∷ [])) (list_same n f g (λ k l. e k (omega arith))) (e n (le_refl (suc n)))
+list_same {A} (suc n) f g e = ap₂ (λ (x : List A) (y : A). x ++ (y ∷ [])) (list_same n f g (λ k l. e k (omega arith))) (e n (le_refl (suc n)))
 
 pub join_none : (f : ℕ → List ℕ) (k : ℕ) (d : List ℕ) → d ≡ join_to 0 f ++ drop (k * 0) d
 unfolding join_to

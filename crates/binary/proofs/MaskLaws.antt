@@ -1,4 +1,4 @@
--- Masks: a mask is below 2 ^ n, bit i of the mask of p is p i, a mask is 0 where no i passes, and one turn of the loop that builds a mask.
+-- Masks: a mask is below 2 ^ n, bit i of the mask of p is p i and a mask is 0 where no i passes.
 use Prim.Native.Nat.{ℕ, zero, suc, ◌+◌, ◌-◌, ◌*◌, ◌/◌, ◌%◌, ◌^◌, ◌≤◌, ◌<◌, zero-le}
 use mathlib.Core.Bool.{Bool, true, false, cond, ◌&&◌, ◌||◌}
 use mathlib.Core.Path.{◌≡◌, refl, sym, ap, ap₂, subst, ◌∙◌}
@@ -16,7 +16,7 @@ pub mask_none : (p : ℕ → Bool) → 0 ≡ mask_to 0 p
 unfolding mask_to
 mask_none p = refl
 
-mask_more : (n : ℕ) (p : ℕ → Bool) → mask_to (n + 1) p ≡ mask_to n p + cond (p n) (2 ^ n) 0
+pub mask_more : (n : ℕ) (p : ℕ → Bool) → mask_to (n + 1) p ≡ mask_to n p + cond (p n) (2 ^ n) 0
 unfolding mask_to
 mask_more n p = rw add-one
 
@@ -26,7 +26,7 @@ mask_same zero p q h = refl
 mask_same (suc n) p q h =
     ap₂ (λ (m : ℕ) (t : Bool). m + cond t (2 ^ n) 0) (mask_same n p q (λ i l. h i (omega arith))) (h n (omega arith))
 
-cond_le : (c : Bool) (x : ℕ) → cond c x 0 ≤ x
+pub cond_le : (c : Bool) (x : ℕ) → cond c x 0 ≤ x
 cond_le true x = le_refl x
 cond_le false x = zero-le
 
@@ -118,24 +118,3 @@ bit_of_and a b i =
     go (suc zero) (suc zero) l k = refl
     go (suc zero) (suc (suc y)) l k = absurd (omega arith)
     go (suc (suc x)) y l k = absurd (omega arith)
-
--- one turn of the loop that builds a mask of at most 31 bits with a weight that doubles
-pub record MaskTurn (i mask weight x : ℕ) (p : ℕ → Bool) : Type 0 where
-  pub mask_fits : mask + x < 4294967296
-  pub weight_fits : weight * 2 < 4294967296
-  pub weight_next : weight * 2 ≡ 2 ^ (i + 1)
-  pub mask_next : mask + x ≡ mask_to (i + 1) p
-
-weight_more : (i : ℕ) → 2 ^ i * 2 ≡ 2 ^ (i + 1)
-weight_more i = sym (rw add-one (pow-suc 2 i))
-
-pub mask_turn : (i mask weight x : ℕ) (p : ℕ → Bool)
-    → i < 31 → weight ≡ 2 ^ i → mask ≡ mask_to i p → x ≡ cond (p i) weight 0 → MaskTurn i mask weight x p
-mask_turn i mask weight x p lt w m e =
-    let small : 2 ^ i ≤ 1073741824 = pow_mono {j = 30} (le_of_suc-le-suc lt) in
-    record {
-      mask_fits = omega (arith, mask_lt i p, cond_le (p i) weight);
-      weight_fits = omega arith;
-      weight_next = ap (λ (k : ℕ). k * 2) w ∙ weight_more i;
-      mask_next = rw (mask_more, e, m, w);
-    }

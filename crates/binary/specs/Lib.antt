@@ -3,3 +3,4 @@ pub mod Bytes
 pub mod Word
 pub mod Integers
 pub mod Lists
+pub mod StageClosures

@@ -2,7 +2,7 @@
 use Rattle.std.specs.Prelude.{ℕ, zero, suc, ◌<◌, Bool, cond, List, [], ◌∷◌, ◌++◌, ◌≡◌, get_or}
 
 -- f 0, .. , f (n - 1)
-unfoldable pub list_to : ℕ → (ℕ → ℕ) → List ℕ
+unfoldable pub list_to : {A : Type 0} → ℕ → (ℕ → A) → List A
 list_to zero f = []
 list_to (suc n) f = list_to n f ++ (f n ∷ [])
 

@@ -1,80 +1,129 @@
 // Little-endian numbers read from and stored into a slice, at an offset that the caller knows to be in range.
-ghost use Rattle.std.specs.Prelude.{◌≡◌, ◌+◌, ◌<◌, ◌≤◌, length};
+ghost use Rattle.std.specs.Prelude.{ℕ, List, ◌≡◌, ◌+◌, ◌≤◌, length, refl};
 ghost use Rattle.std.proofs.lemmas.List.Edits.{sets};
-ghost use Rattle.binary.specs.Bytes.{byte_at, u16_at, u32_at, u64_at, bytes_of};
+ghost use Rattle.binary.specs.Bytes.{byte_at, value_at, u16_at, u32_at, u64_at, bytes_of, byte_value};
 
-pub fn load_u8(s: &[u8], at: usize) -> u8
-    requires { at < length s.now }
-    ensures { result ≡ byte_at s.now at }
-{
-    s[at]
+// A number that is kept in bytes, the lowest first.
+pub trait LittleEndian: Copy {
+    ghost WIDTH: { ℕ };
+
+    ghost number: { Self → ℕ };
+
+    ghost number_at: { List ℕ → ℕ → Self };
+
+    const WIDTH: usize;
+
+    // The number at an offset.
+    fn read(s: &[u8], at: usize) -> Self
+        requires { at + WIDTH ≤ length s.now }
+        ensures { result ≡ number_at s.now at };
+
+    fn wide(self) -> u64
+        ensures { result ≡ number self };
+
+    ghost is_its_bytes: { (s : List ℕ) (at : ℕ) → number (number_at s at) ≡ value_at WIDTH s at };
 }
 
-pub fn load_u16(s: &[u8], at: usize) -> u16
-    requires { at + 2 ≤ length s.now }
-    ensures { result ≡ u16_at s.now at }
-{
-    let a = load_u8(s, at);
-    let b = load_u8(s, at + 1);
-    (a as u16) + 256 * (b as u16)
-}
+impl LittleEndian for u8 {
+    ghost WIDTH = { 1 };
 
-pub fn load_u32(s: &[u8], at: usize) -> u32
-    requires { at + 4 ≤ length s.now }
-    ensures { result ≡ u32_at s.now at }
-{
-    let a = load_u16(s, at);
-    let b = load_u16(s, at + 2);
-    (a as u32) + 65536 * (b as u32)
-}
+    ghost number = { λ n. n };
 
-pub fn load_u64(s: &[u8], at: usize) -> u64
-    requires { at + 8 ≤ length s.now }
-    ensures { result ≡ u64_at s.now at }
-{
-    let a = load_u32(s, at);
-    let b = load_u32(s, at + 4);
-    (a as u64) + 4294967296 * (b as u64)
-}
+    ghost number_at = { byte_at };
 
-// The low `count` bytes of v, from offset at on.
-fn store(s: &mut [u8], at: usize, count: usize, v: u64)
-    requires { at + count ≤ length s.old }
-    ensures { s.new ≡ sets s.old at (bytes_of count v) }
-{
-    let mut rest = v;
-    let mut k = 0;
-    while k < count {
-        s[at + k] = (rest % 256) as u8;
-        rest = rest / 256;
-        k += 1;
+    ghost is_its_bytes = { byte_value };
+
+    const WIDTH: usize = 1;
+
+    fn read(s: &[u8], at: usize) -> u8 {
+        s[at]
+    }
+
+    fn wide(self) -> u64 {
+        u64::from(self)
     }
 }
 
-pub fn store_u8(s: &mut [u8], at: usize, v: u8)
-    requires { at + 1 ≤ length s.old }
-    ensures { s.new ≡ sets s.old at (bytes_of 1 v) }
-{
-    store(s, at, 1, v as u64)
+impl LittleEndian for u16 {
+    ghost WIDTH = { 2 };
+
+    ghost number = { λ n. n };
+
+    ghost number_at = { u16_at };
+
+    ghost is_its_bytes = { λ s at. refl };
+
+    const WIDTH: usize = 2;
+
+    fn read(s: &[u8], at: usize) -> u16 {
+        let low = load::<u8>(s, at);
+        let high = load::<u8>(s, at + 1);
+        u16::from(low) + 256 * u16::from(high)
+    }
+
+    fn wide(self) -> u64 {
+        u64::from(self)
+    }
 }
 
-pub fn store_u16(s: &mut [u8], at: usize, v: u16)
-    requires { at + 2 ≤ length s.old }
-    ensures { s.new ≡ sets s.old at (bytes_of 2 v) }
-{
-    store(s, at, 2, v as u64)
+impl LittleEndian for u32 {
+    ghost WIDTH = { 4 };
+
+    ghost number = { λ n. n };
+
+    ghost number_at = { u32_at };
+
+    ghost is_its_bytes = { λ s at. refl };
+
+    const WIDTH: usize = 4;
+
+    fn read(s: &[u8], at: usize) -> u32 {
+        let low = load::<u16>(s, at);
+        let high = load::<u16>(s, at + 2);
+        u32::from(low) + 65536 * u32::from(high)
+    }
+
+    fn wide(self) -> u64 {
+        u64::from(self)
+    }
 }
 
-pub fn store_u32(s: &mut [u8], at: usize, v: u32)
-    requires { at + 4 ≤ length s.old }
-    ensures { s.new ≡ sets s.old at (bytes_of 4 v) }
-{
-    store(s, at, 4, v as u64)
+impl LittleEndian for u64 {
+    ghost WIDTH = { 8 };
+
+    ghost number = { λ n. n };
+
+    ghost number_at = { u64_at };
+
+    ghost is_its_bytes = { λ s at. refl };
+
+    const WIDTH: usize = 8;
+
+    fn read(s: &[u8], at: usize) -> u64 {
+        let low = load::<u32>(s, at);
+        let high = load::<u32>(s, at + 4);
+        u64::from(low) + 4294967296 * u64::from(high)
+    }
+
+    fn wide(self) -> u64 {
+        self
+    }
 }
 
-pub fn store_u64(s: &mut [u8], at: usize, v: u64)
-    requires { at + 8 ≤ length s.old }
-    ensures { s.new ≡ sets s.old at (bytes_of 8 v) }
+pub fn load<N: LittleEndian>(s: &[u8], at: usize) -> N
+    requires { at + N.WIDTH ≤ length s.now }
+    ensures { result ≡ N.number_at s.now at }
 {
-    store(s, at, 8, v)
+    N::read(s, at)
+}
+
+pub fn store<N: LittleEndian>(s: &mut [u8], at: usize, v: N)
+    requires { at + N.WIDTH ≤ length s.old }
+    ensures { s.new ≡ sets s.old at (bytes_of N.WIDTH (N.number v)) }
+{
+    let mut rest = v.wide();
+    for k in 0..N::WIDTH {
+        s[at + k] = (rest % 256) as u8;
+        rest = rest / 256;
+    }
 }

@@ -1,58 +1,16 @@
-// Choices and small arithmetic that leave their caller no branch and no overflow to prove.
-ghost use Rattle.std.specs.Prelude.{◌≡◌, cond, ◌-◌, ◌*◌, ◌≤◌, min, max};
+// Choices and products that leave their caller no branch and no overflow to prove.
+ghost use Rattle.std.specs.Prelude.{◌≡◌, cond, ◌*◌, ◌≤◌};
 
-pub fn choose_u32(c: bool, x: u32, y: u32) -> u32
+// x where c holds, otherwise y.
+pub fn choose<T: Copy>(c: bool, x: T, y: T) -> T
     ensures { result ≡ cond c x y }
 {
     if c { x } else { y }
 }
 
-pub fn choose_u64(c: bool, x: u64, y: u64) -> u64
-    ensures { result ≡ cond c x y }
-{
-    if c { x } else { y }
-}
-
-pub fn choose_usize(c: bool, x: usize, y: usize) -> usize
-    ensures { result ≡ cond c x y }
-{
-    if c { x } else { y }
-}
-
-pub fn choose_bool(c: bool, x: bool, y: bool) -> bool
-    ensures { result ≡ cond c x y }
-{
-    if c { x } else { y }
-}
-
-pub fn smaller(x: u64, y: u64) -> u64
-    ensures { result ≡ min x y }
-{
-    if x <= y { x } else { y }
-}
-
-pub fn larger(x: usize, y: usize) -> usize
-    ensures { result ≡ max x y }
-{
-    if x <= y { y } else { x }
-}
-
-// x - y, or 0 if negative.
-pub fn difference(x: u64, y: u64) -> u64
-    ensures { result ≡ x - y }
-{
-    if y <= x { x - y } else { 0 }
-}
-
+// Not u64's product, since its bound is a fact of each caller's proof.
 pub fn product(x: u32, y: u32) -> u64
     ensures { (result ≡ x * y) × (result ≤ 18446744065119617025) }
 {
-    (x as u64) * (y as u64)
-}
-
-// A number of 32 bits as one of 64.
-pub fn wide(x: u32) -> u64
-    ensures { (result ≡ x) × (result ≤ 4294967295) }
-{
-    x as u64
+    u64::from(x) * u64::from(y)
 }

@@ -74,7 +74,7 @@ unfolding month_of
 month_in d = subst (λ (x : ℕ). InMonth x (month_from d 0 d)) (omega (arith, start_first)) (from_in d 0 d (le_refl d))
 
 -- one of two numbers is not above the other
-split : {A : Type 0} (j k : ℕ) → (j ≤ k → A) → (k < j → A) → A
+pub split : {A : Type 0} (j k : ℕ) → (j ≤ k → A) → (k < j → A) → A
 split {A} j k f g = go (leb j k) refl
   where
     go : (t : Bool) → leb j k ≡ t → A

@@ -6,7 +6,7 @@ ghost use Rattle.calendar.specs.Periods.{day_within, window_start, in_window, pe
 
 use crate::months::month_of;
 use crate::table::{DAYS, MONTHS, month_start, month_starts};
-use binary::numbers::choose_u32;
+use binary::numbers::choose;
 
 // Day x of month k, or the month's last where it has no such day; the first is 0.
 fn day_within(starts: &[u16; MONTHS], k: usize, x: u32) -> u32
@@ -15,7 +15,7 @@ fn day_within(starts: &[u16; MONTHS], k: usize, x: u32) -> u32
 {
     let first = month_start(starts, k);
     let last = month_start(starts, k + 1) - first - 1;
-    first + choose_u32(x <= last, x, last)
+    first + choose(x <= last, x, last)
 }
 
 // The same day of the month six months earlier, or day 0 where that is before 2000.

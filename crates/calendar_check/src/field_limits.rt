@@ -1,24 +1,23 @@
 // Limits 10, 18, 19 and 11, in checking order.
 ghost use Rattle.std.specs.Prelude.{true, ◌≡◌};
+ghost use Rattle.limits.specs.Numbers.{number_in};
 ghost use Rattle.limits.specs.Refusal.{event_numbers_fine};
 ghost use Rattle.limits.specs.StageRefusal.{fields_refusal};
 
 use crate::calendar_limits::calendar_refusal;
-use casefile::layout::Format;
+use casefile::case::Case;
 use event_check::event_limits::order_refusal;
+use limits::refusal::Refusal;
 
-// The number of the first of these limits that the past and the events break, or 0.
-pub fn fields_refusal(format: Format, past: &[u8], events: &[u8]) -> u8
-    requires { event_numbers_fine format events.now ≡ true }
-    ensures { result ≡ fields_refusal format past.now events.now 0 }
+// Held to these limits, the past and the events.
+pub fn fields_refusal(case: Case) -> Result<(), Refusal>
+    requires { event_numbers_fine case.format case.events.now ≡ true }
+    ensures { number_in result ≡ fields_refusal case.entry.format case.entry.past.now case.entry.events.now 0 }
 {
-    let order = order_refusal(format, events);
-    if order == 10 {
-        return 10;
+    let order = order_refusal(case)?;
+    calendar_refusal(case, order.dated)?;
+    if order.rising {
+        return Ok(());
     }
-    let calendar = calendar_refusal(format, past, events, order != 19);
-    if calendar != 0 {
-        return calendar;
-    }
-    order
+    Err(Refusal::EventOrder)
 }

@@ -1,61 +1,58 @@
-// The answers of the smaller public calls.
+// The answers of the smaller public calls: a Result of what is asked for, or of the reason that it is refused.
 ghost use Rattle.std.specs.Prelude.{◌≡◌};
-ghost use Rattle.calls.specs.Answers.{verdict_of, figure_of, times_of, answer, time_answered, bit};
+ghost use Rattle.calls.specs.Answers.{number_of, refused_if};
 
-// The answer to a question.
-#[derive(Clone, Copy)]
-pub enum Verdict {
-    Refused(u8),
-    No,
-    Yes,
+use std::error::Error;
+use std::fmt;
+
+// Why a call is refused: a number, not a variant for each, since the laws figure_answered and times_answered are of every number.
+#[derive(Clone, Copy, Debug, PartialEq, Eq, Hash)]
+pub struct Refusal {
+    pub number: u8,
 }
 
-// The answer of a computation.
-#[derive(Clone, Copy)]
-pub enum Figure {
-    Refused(u8),
-    Value(u64),
+impl Refusal {
+    // A reference level out of its component's range.
+    pub const REFERENCE: Refusal = Refusal { number: 7 };
+
+    // Any other argument out of its range.
+    pub const ARGUMENT: Refusal = Refusal { number: 10 };
+
+    // An argument of the line out of its range.
+    pub const LINE: Refusal = Refusal { number: 16 };
 }
+
+// By the number docs/RULES.md and other languages know it.
+impl From<Refusal> for u8 {
+    ghost from_gives = { λ refusal number. number ≡ number_of refusal };
+
+    fn from(refusal: Refusal) -> u8 {
+        refusal.number
+    }
+}
+
+impl fmt::Display for Refusal {
+    fn fmt<W: fmt::Write>(&self, f: &mut fmt::Formatter<W>) -> fmt::Result {
+        write!(f, "refused {}", self.number)
+    }
+}
+
+impl Error for Refusal {}
 
 // Which of start-up, minimum run and minimum down time fail.
-#[derive(Clone, Copy)]
-pub enum TimeVerdict {
-    Refused(u8),
-    Fails(bool, bool, bool),
+#[derive(Clone, Copy, Debug, PartialEq, Eq, Hash)]
+pub struct TimesFailed {
+    pub start_up: bool,
+    pub minimum_run: bool,
+    pub minimum_down: bool,
 }
 
-pub fn verdict_of(seven: bool, ten: bool, yes: bool) -> Verdict
-    ensures { result ≡ verdict_of (answer seven ten (bit yes)) }
+// Goes on only where the argument isn't out of its range.
+pub fn refuse_if(out_of_range: bool, refusal: Refusal) -> Result<(), Refusal>
+    ensures { result ≡ refused_if out_of_range refusal }
 {
-    if seven {
-        return Verdict::Refused(7);
+    if out_of_range {
+        return Err(refusal);
     }
-    if ten {
-        return Verdict::Refused(10);
-    }
-    if yes {
-        return Verdict::Yes;
-    }
-    Verdict::No
-}
-
-pub fn figure_of(seven: bool, ten: bool, value: u64) -> Figure
-    ensures { result ≡ figure_of (answer seven ten value) }
-{
-    if seven {
-        return Figure::Refused(7);
-    }
-    if ten {
-        return Figure::Refused(10);
-    }
-    Figure::Value(value)
-}
-
-pub fn time_verdict_of(ten: bool, x: bool, y: bool, z: bool) -> TimeVerdict
-    ensures { result ≡ times_of (time_answered ten x y z) }
-{
-    if ten {
-        return TimeVerdict::Refused(10);
-    }
-    TimeVerdict::Fails(x, y, z)
+    Ok(())
 }

@@ -4,4 +4,4 @@
 pub mod answers;
 pub mod out_of_range;
 
-pub use answers::{Figure, TimeVerdict, Verdict};
+pub use answers::{Refusal, TimesFailed};

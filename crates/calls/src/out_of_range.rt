@@ -1,4 +1,5 @@
-// References, bids and units' fields out of their ranges.
+// References, bids and units' fields out of their ranges. Each is a bool, since a call joins several of them before it refuses, and
+// the line refuses with 16 what other calls refuse with 7 or 10.
 ghost use Rattle.std.specs.Prelude.{◌≡◌};
 ghost use Rattle.calls.specs.OutOfRange.{bad_reference, bad_bid, bad_unit};
 

@@ -1,56 +1,52 @@
 // The check of a whole case, in the order of the limits.
-ghost use Rattle.std.specs.Prelude.{◌≡◌, ◌≤◌};
+ghost use Rattle.std.specs.Prelude.{◌≡◌, ◌≤◌, OnOk};
 ghost use Rattle.casefile.specs.Layout.{most_events};
-ghost use Rattle.casefile.specs.Decode.{events_in};
 ghost use Rattle.casefile.specs.Lookup.{correct_references};
+ghost use Rattle.casefile.specs.Sections.{events_of};
 ghost use Rattle.limits.specs.StageLookup.{UnitsInOrder, InOrder};
+ghost use Rattle.limits.specs.Numbers.{number_in, answered};
 ghost use Rattle.limits.specs.Refusal.{refusal};
 ghost use Rattle.limits.specs.StageRefusal.{found_refusal};
 ghost use Rattle.limits.specs.StageChecked.{HandedOn};
 ghost use Rattle.event_check.specs.StageFound.{Found};
 
 use calendar_check::field_limits::fields_refusal;
-use casefile::events::event_count;
-use casefile::header::{format_of, section};
+use casefile::case::Case;
 use casefile::layout;
-use casefile::layout::Format;
 use event_check::event_limits::{references_found, unit_refusal};
 use limits::header_limits::header_refusal;
-use limits::refusal::unless;
+use limits::refusal::Refusal;
 use record_check::record_limits::records_refusal;
 
-// The number of the first limit broken by what is found for the events, or 0: then the tables hold what was found of each event.
+// Held to the limits of what is found for the events; where nothing is refused the tables hold what was found of each event.
 fn found_refusal<'a>(
-    format: Format,
-    units: &[u8],
-    references: &'a [u8],
+    case: Case,
     correction: &'a [u8],
-    events: &[u8],
     rows_length: usize,
     places: &mut [usize; layout::MOST_EVENTS],
     levels: &mut [u32; layout::MOST_EVENTS],
     corrects: &mut [u32; layout::MOST_EVENTS],
-) -> u8
-    requires { UnitsInOrder format units.now × InOrder format references.now × InOrder format (correct_references correction.now references.now)
-        × ((events_in format events.now).count ≤ most_events) }
-    ensures value { result ≡ found_refusal format units.now references.now (correct_references correction.now references.now)
-        events.now rows_length }
-    ensures found { result ≡ 0 → Found format units.now references.now (correct_references correction.now references.now) events.now
-        places.new levels.new corrects.new }
+) -> Result<(), Refusal>
+    requires { UnitsInOrder case.format case.units.now × InOrder case.format case.references.now × InOrder case.format (correct_references correction.now case.references.now)
+        × ((events_of case).count ≤ most_events) }
+    ensures value { number_in result ≡ found_refusal case.entry.format case.entry.units.now case.entry.references.now (correct_references correction.now case.entry.references.now)
+        case.entry.events.now rows_length }
+    ensures found { OnOk result (Found case.entry.format case.entry.units.now case.entry.references.now (correct_references correction.now case.entry.references.now) case.entry.events.now
+        places.new levels.new corrects.new) }
 {
-    let unit = unit_refusal(format, units, events, places);
-    if unit != 0 {
-        return unit;
+    unit_refusal(case, places)?;
+    let references_good = references_found(case, correction, levels, corrects);
+    if !references_good {
+        return Err(Refusal::NoReference);
     }
-    let references_good = references_found(
-        format, references, correction, events, levels, corrects,
-    );
-    let rows = layout::ROW_WIDTH * event_count(format, events);
-    let from_15 = unless(rows <= rows_length, 15, 0);
-    unless(references_good, 14, from_15)
+    let rows = layout::ROW_WIDTH * case.event_count();
+    if rows_length < rows {
+        return Err(Refusal::RowsTooShort);
+    }
+    Ok(())
 }
 
-// The number of the first limit that the case breaks, or 0 where it is accepted: then the tables hold what was found of each event.
+// Held to every limit; where the case is accepted the tables hold what was found of each event.
 pub fn check_into<'a>(
     file: &'a [u8],
     correction: &'a [u8],
@@ -58,43 +54,20 @@ pub fn check_into<'a>(
     places: &mut [usize; layout::MOST_EVENTS],
     levels: &mut [u32; layout::MOST_EVENTS],
     corrects: &mut [u32; layout::MOST_EVENTS],
-) -> u8
-    ensures value { result ≡ refusal file.now correction.now rows_length }
-    ensures handed_on { result ≡ 0 → HandedOn file.now correction.now places.new levels.new corrects.new }
+) -> Result<(), Refusal>
+    ensures value { number_in result ≡ refusal file.now correction.now rows_length }
+    ensures handed_on { OnOk result (HandedOn file.now correction.now places.new levels.new corrects.new) }
 {
-    let header = header_refusal(file);
-    if header != 0 {
-        return header;
-    }
-    let format = format_of(file);
-    let units = section(file, 0);
-    let references = section(file, 1);
-    let past = section(file, 2);
-    let events = section(file, 3);
-    let records = records_refusal(format, units, references, correction, past, events);
-    if records != 0 {
-        return records;
-    }
-    let fields = fields_refusal(format, past, events);
-    if fields != 0 {
-        return fields;
-    }
-    found_refusal(
-        format,
-        units,
-        references,
-        correction,
-        events,
-        rows_length,
-        places,
-        levels,
-        corrects,
-    )
+    header_refusal(file)?;
+    let case = Case::of(file);
+    records_refusal(case, correction)?;
+    fields_refusal(case)?;
+    found_refusal(case, correction, rows_length, places, levels, corrects)
 }
 
-// The number of the first limit that the case breaks, or 0 where it is accepted.
-pub fn check<'a>(file: &'a [u8], correction: &'a [u8], rows_length: usize) -> u8
-    ensures { result ≡ refusal file.now correction.now rows_length }
+// Held to every limit: the answer that the refusal's number stands for.
+pub fn check<'a>(file: &'a [u8], correction: &'a [u8], rows_length: usize) -> Result<(), Refusal>
+    ensures { result ≡ answered (refusal file.now correction.now rows_length) }
 {
     let mut places = [0usize; layout::MOST_EVENTS];
     let mut levels = [0u32; layout::MOST_EVENTS];

@@ -3,4 +3,5 @@ pub mod Case
 pub mod Decode
 pub mod File
 pub mod Lookup
+pub mod Sections
 pub mod StageRead

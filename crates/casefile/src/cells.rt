@@ -4,7 +4,7 @@ ghost use Rattle.casefile.specs.Layout.{cell_width, most_hours};
 ghost use Rattle.casefile.specs.StageRead.{cell_of};
 
 use crate::layout;
-use binary::bytes::load_u32;
+use binary::bytes::load;
 
 #[derive(Clone, Copy)]
 pub struct Cell {
@@ -20,8 +20,8 @@ pub fn cell_at(cells: &[u8], h: usize) -> Cell
 {
     let at = layout::CELL_WIDTH * h;
     Cell {
-        a: load_u32(cells, at),
-        b: load_u32(cells, at + 4),
-        m: load_u32(cells, at + 8),
+        a: load::<u32>(cells, at),
+        b: load::<u32>(cells, at + 4),
+        m: load::<u32>(cells, at + 8),
     }
 }

@@ -4,20 +4,20 @@ ghost use Rattle.casefile.specs.Layout.{section_count, header_width};
 ghost use Rattle.casefile.specs.Decode.{format_in, sections_in, offset_of, length_of, section_of, HasSection};
 
 use crate::layout::Format;
-use binary::bytes::{load_u16, load_u32};
+use binary::bytes::load;
 
 pub fn offset_of(file: &[u8], k: usize) -> u32
     requires { (k < section_count) × (header_width ≤ length file.now) }
     ensures { result ≡ offset_of file.now k }
 {
-    load_u32(file, 4 + 8 * k)
+    load::<u32>(file, 4 + 8 * k)
 }
 
 pub fn length_of(file: &[u8], k: usize) -> u32
     requires { (k < section_count) × (header_width ≤ length file.now) }
     ensures { result ≡ length_of file.now k }
 {
-    load_u32(file, 8 + 8 * k)
+    load::<u32>(file, 8 + 8 * k)
 }
 
 // The format of a file: its version.
@@ -26,7 +26,7 @@ pub fn format_of(file: &[u8]) -> Format
     ensures { result ≡ format_in file.now }
 {
     Format {
-        version: load_u16(file, 0),
+        version: load::<u16>(file, 0),
     }
 }
 
@@ -35,7 +35,7 @@ pub fn sections_of(file: &[u8]) -> u16
     requires { header_width ≤ length file.now }
     ensures { result ≡ sections_in file.now }
 {
-    load_u16(file, 2)
+    load::<u16>(file, 2)
 }
 
 // Section k (0 units, 1 references, 2 past, 3 events): that stretch of the file itself.

@@ -71,7 +71,7 @@ pub const SECOND_REFERENCE_WIDTH: usize = REFERENCE_WIDTH + NUMBER_WIDTH;
 
 pub const SECOND_EVENT_WIDTH: usize = EVENT_WIDTH + NUMBER_WIDTH;
 
-// What a file says of its own layout.
+// What a file says of its own layout. A number, since widths_of reads each unknown version as the first.
 #[derive(Clone, Copy)]
 pub struct Format {
     pub version: u16,

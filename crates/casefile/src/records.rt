@@ -1,10 +1,10 @@
-// Records of a section.
+// Records of a section. Units, references, events and past entries each add their width, and what they are to the definitions.
 ghost use Rattle.std.specs.Prelude.{◌⊎◌, ◌≡◌, ◌+◌, ◌-◌, ◌/◌, ◌≤◌, ◌<◌, length};
 ghost use Rattle.binary.specs.Bytes.{value_at};
 ghost use Rattle.casefile.specs.Decode.{record_at};
 
 use crate::layout;
-use binary::bytes::{load_u16, load_u32};
+use binary::bytes::load;
 
 // How many records of that width there are.
 pub fn count_of(records: &[u8], width: usize) -> usize
@@ -30,14 +30,14 @@ pub fn number_at(source: &[u8], at: usize, width: usize) -> u32
     ensures { result ≡ value_at width source.now at }
 {
     if width == layout::OLD_NUMBER_WIDTH {
-        return load_u16(source, at) as u32;
+        return u32::from(load::<u16>(source, at));
     }
-    load_u32(source, at)
+    load::<u32>(source, at)
 }
 
 // The place before i; the first has none before it, and is its own.
 pub fn place_before(i: usize) -> usize
     ensures { result ≡ i - 1 }
 {
-    if 0 < i { i - 1 } else { 0 }
+    i.saturating_sub(1)
 }

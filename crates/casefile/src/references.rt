@@ -7,13 +7,13 @@ ghost use Rattle.casefile.specs.StageRead.{reference_at};
 
 use crate::layout::{Format, widths_of};
 use crate::records::{count_of, number_at, record_at};
-use binary::bytes::{load_u8, load_u32};
+use binary::bytes::load;
 
 // The correction slice where it isn't empty, otherwise the case's own reference section.
 pub fn correct_references<'a>(correction: &'a [u8], own: &'a [u8]) -> &'a [u8]
     ensures { result.now ≡ correct_references correction.now own.now }
 {
-    if correction.len() == 0 {
+    if correction.is_empty() {
         own
     } else {
         correction
@@ -53,8 +53,8 @@ pub fn reference_at(format: Format, references: &[u8], i: usize) -> Reference
     let reference = reference_record(format, references, i);
     Reference {
         unit: number_at(reference, w.reference_unit, w.number_width),
-        component: load_u8(reference, 2),
-        value: load_u32(reference, 4),
+        component: load::<u8>(reference, 2),
+        value: load::<u32>(reference, 4),
     }
 }
 
@@ -64,6 +64,6 @@ pub fn reference_spare_fine(format: Format, references: &[u8], i: usize) -> bool
     ensures { result ≡ reference_spare_fine (record_at (reference_width format) references.now i) }
 {
     let reference = reference_record(format, references, i);
-    let spare = load_u8(reference, 3);
+    let spare = load::<u8>(reference, 3);
     spare == 0
 }

@@ -3,15 +3,14 @@ ghost use Rattle.std.specs.Prelude.{◌≡◌, ◌*◌, ◌≤◌, ◌<◌, leng
 ghost use Rattle.binary.specs.Bounded.{mask_to};
 ghost use Rattle.binary.specs.Lists.{list_to};
 ghost use Rattle.casefile.specs.Layout.{cell_width, most_hours};
-ghost use Rattle.casefile.specs.Decode.{units_in, events_in};
+ghost use Rattle.casefile.specs.Sections.{units_of, events_of};
 ghost use Rattle.conduct.specs.StageMasks.{bid_of, test_of, tight_hours, amount_of, fails_at};
 
-use binary::numbers::choose_u32;
+use binary::bounded::list_to;
+use binary::numbers::choose;
+use casefile::case::Case;
 use casefile::cells::cell_at;
-use casefile::events::event_at;
 use casefile::layout;
-use casefile::layout::Format;
-use casefile::units::unit_at;
 use hour_masks::bid_hours::{Bid, bid_hours};
 use hour_masks::columns::sums_over;
 use hour_masks::megawatt_hours::{dispatch_hours, withheld_hours};
@@ -38,14 +37,7 @@ fn amounts_of(cells: &[u8]) -> [u32; layout::HOURS]
     requires { cell_width * most_hours ≤ length cells.now }
     ensures { result ≡ list_to most_hours (amount_of cells.now) }
 {
-    let mut column = [0u32; layout::HOURS];
-    let mut h = 0;
-    while h < layout::HOURS {
-        let cell = cell_at(cells, h);
-        column[h] = cell.a;
-        h += 1;
-    }
-    column
+    list_to(|h| cell_at(cells, h).a)
 }
 
 // The hours that fail; tight are the tight hours. Of sums the test reads S for kinds 1 and 2, the events that have the hour for kind 3, and the
@@ -80,33 +72,26 @@ pub fn failing_hours(
 }
 
 // The tight hours of event i: P where its unit's area is 1.
-pub fn tight_hours(format: Format, units: &[u8], events: &[u8], place: usize, i: usize) -> u32
-    requires { (i < (events_in format events.now).count) × (place < (units_in format units.now).count) }
-    ensures { result ≡ tight_hours (units_in format units.now) (events_in format events.now) place i }
+pub fn tight_hours(case: Case, place: usize, i: usize) -> u32
+    requires { (i < (events_of case).count) × (place < (units_of case).count) }
+    ensures { result ≡ tight_hours (units_of case.entry) (events_of case.entry) place i }
 {
-    let event = event_at(format, events, i);
+    let event = case.event_at(i);
     let p = event.p;
-    let unit = unit_at(format, units, place);
+    let unit = case.unit_at(place);
     let area = unit.area;
-    choose_u32(area == 1, p, 0)
+    choose(area == 1, p, 0)
 }
 
 // What the test of bid i reads, with a reference level.
-pub fn bid_of(
-    format: Format,
-    units: &[u8],
-    events: &[u8],
-    place: usize,
-    level: u32,
-    i: usize,
-) -> Bid
-    requires { (i < (events_in format events.now).count) × (place < (units_in format units.now).count) }
-    ensures { result ≡ bid_of (units_in format units.now) (events_in format events.now) place level i }
+pub fn bid_of(case: Case, place: usize, level: u32, i: usize) -> Bid
+    requires { (i < (events_of case).count) × (place < (units_of case).count) }
+    ensures { result ≡ bid_of (units_of case.entry) (events_of case.entry) place level i }
 {
-    let event = event_at(format, events, i);
+    let event = case.event_at(i);
     let component = event.component;
     let market = event.market;
-    let unit = unit_at(format, units, place);
+    let unit = case.unit_at(place);
     let average_price = unit.average_price;
     let constrained_hours = unit.constrained_hours;
     Bid {
@@ -119,24 +104,16 @@ pub fn bid_of(
 }
 
 // The test of event i, by its kind; g is the listed capability of its group where the kind is 1.
-pub fn test_of(
-    format: Format,
-    units: &[u8],
-    events: &[u8],
-    place: usize,
-    level: u32,
-    g: u64,
-    i: usize,
-) -> ConductTest
-    requires { (i < (events_in format events.now).count) × (place < (units_in format units.now).count) }
-    ensures { result ≡ test_of (units_in format units.now) (events_in format events.now) place level g i }
+pub fn test_of(case: Case, place: usize, level: u32, g: u64, i: usize) -> ConductTest
+    requires { (i < (events_of case).count) × (place < (units_of case).count) }
+    ensures { result ≡ test_of (units_of case.entry) (events_of case.entry) place level g i }
 {
-    let event = event_at(format, events, i);
+    let event = case.event_at(i);
     let kind = event.kind;
     if kind == 4 {
-        return ConductTest::Bid(bid_of(format, units, events, place, level, i));
+        return ConductTest::Bid(bid_of(case, place, level, i));
     }
-    let unit = unit_at(format, units, place);
+    let unit = case.unit_at(place);
     let capability = unit.capability;
     let rate = unit.rate;
     if kind == 1 {

@@ -2,27 +2,27 @@
 ghost use Rattle.std.specs.Prelude.{true, [], ◌≡◌, ℕ, ◌+◌, ◌≤◌, ◌<◌, min, length};
 ghost use Rattle.binary.specs.Lists.{Holds};
 ghost use Rattle.casefile.specs.Layout.{most_hours, most_events};
-ghost use Rattle.casefile.specs.Decode.{events_in, amounts_in, case_in};
+ghost use Rattle.casefile.specs.Decode.{amounts_in, case_in};
+ghost use Rattle.casefile.specs.Sections.{events_of};
 ghost use Rattle.conduct.specs.Flags.{time_bid};
 ghost use Rattle.conduct.specs.StageMasks.{SmallRow};
 ghost use Rattle.conduct.specs.StageFlags.{Added, HasRow, total_read};
 ghost use Rattle.conduct.specs.StageTime.{BidsInOrder, component_bid, counted_increase, component_increase, cell, HasIncreases, SmallTable, same_totals, total_before};
 
-use binary::numbers::wide;
+use binary::bounded::list_to;
+use casefile::case::Case;
 use casefile::cells::cell_at;
-use casefile::events::{event_at, event_cells, event_count};
 use casefile::layout;
-use casefile::layout::Format;
 use casefile::records::place_before;
 use tariff::conduct_tests::increase;
 
 // Whether event j is a bid on a time component, of event i's unit, day and market.
-fn time_bid(format: Format, events: &[u8], i: usize, j: usize) -> bool
-    requires { (i < (events_in format events.now).count) × (j < (events_in format events.now).count) }
-    ensures { result ≡ time_bid (case_in format [] [] [] events.now) i j }
+fn time_bid(case: Case, i: usize, j: usize) -> bool
+    requires { (i < (events_of case).count) × (j < (events_of case).count) }
+    ensures { result ≡ time_bid (case_in case.entry.format [] [] [] case.entry.events.now) i j }
 {
-    let event = event_at(format, events, i);
-    let other = event_at(format, events, j);
+    let event = case.event_at(i);
+    let other = case.event_at(j);
     let kind = other.kind;
     let component = other.component;
     let same_unit = other.unit == event.unit;
@@ -31,32 +31,30 @@ fn time_bid(format: Format, events: &[u8], i: usize, j: usize) -> bool
     (kind == 4) & same_unit & same_day & same_market & (4 <= component) & (component <= 6)
 }
 
-fn component_bid(format: Format, events: &[u8], i: usize, component: u8, j: usize) -> bool
-    requires { (i < (events_in format events.now).count) × (j < (events_in format events.now).count) }
-    ensures { result ≡ component_bid (case_in format [] [] [] events.now) i component j }
+fn component_bid(case: Case, i: usize, component: u8, j: usize) -> bool
+    requires { (i < (events_of case).count) × (j < (events_of case).count) }
+    ensures { result ≡ component_bid (case_in case.entry.format [] [] [] case.entry.events.now) i component j }
 {
-    let event = event_at(format, events, j);
+    let event = case.event_at(j);
     let own = event.component;
-    time_bid(format, events, i, j) & (own == component)
+    time_bid(case, i, j) & (own == component)
 }
 
 // Adds the positive d of event j in each hour, where it counts.
-fn add_increases(format: Format, row: &mut [u64], events: &[u8], level: u32, j: usize, counts: bool)
-    requires whole_row { (length row.old ≡ most_hours) × (j < (events_in format events.now).count) }
+fn add_increases(case: Case, row: &mut [u64], level: u32, j: usize, counts: bool)
+    requires whole_row { (length row.old ≡ most_hours) × (j < (events_of case).count) }
     requires small_row { SmallRow row.old }
-    ensures { Added most_hours row.old row.new (counted_increase (amounts_in format events.now) level j counts) }
+    ensures { Added most_hours row.old row.new (counted_increase (amounts_in case.entry.format case.entry.events.now) level j counts) }
 {
     if !counts {
         return;
     }
-    let cells = event_cells(format, events, j);
-    let mut h = 0;
-    while h < layout::HOURS {
+    let cells = case.event_cells(j);
+    for h in 0..layout::HOURS {
         let cell = cell_at(cells, h);
         let a = cell.a;
-        let d = wide(increase(level, a));
+        let d = u64::from(increase(level, a));
         row[h] = row[h] + d;
-        h += 1;
     }
 }
 
@@ -70,42 +68,34 @@ fn third_after(i: usize, n: usize) -> usize
 
 // The positive d of the bids on this component of the unit, day and market of the time bid i, by hour: they stand within two places of it.
 fn component_increases(
-    format: Format,
-    events: &[u8],
+    case: Case,
     levels: &[u32; layout::MOST_EVENTS],
     i: usize,
     component: u8,
 ) -> [u64; 24]
-    requires in_range { (i < (events_in format events.now).count) × ((events_in format events.now).count ≤ most_events) }
-    requires bids_in_order { BidsInOrder (events_in format events.now) × (time_bid (case_in format [] [] [] events.now) i i ≡ true) }
-    ensures { Holds most_hours result (component_increase format events.now levels.now i component (events_in format events.now).count) }
+    requires in_range { (i < (events_of case).count) × ((events_of case).count ≤ most_events) }
+    requires bids_in_order { BidsInOrder (events_of case) × (time_bid (case_in case.format [] [] [] case.events.now) i i ≡ true) }
+    ensures { Holds most_hours result (component_increase case.entry.format case.entry.events.now levels.now i component (events_of case.entry).count) }
 {
-    let n = event_count(format, events);
+    let n = case.event_count();
     let end = third_after(i, n);
     let mut row = [0u64; 24];
-    let mut j = place_before(place_before(i));
-    while j < end {
-        let counts = component_bid(format, events, i, component, j);
-        add_increases(format, &mut row, events, levels[j], j, counts);
-        j += 1;
+    for j in place_before(place_before(i))..end {
+        let counts = component_bid(case, i, component, j);
+        add_increases(case, &mut row, levels[j], j, counts);
     }
     row
 }
 
 // The increases of the unit, day and market of the time bid i: three time components by twenty-four hours.
-pub fn time_increases(
-    format: Format,
-    events: &[u8],
-    levels: &[u32; layout::MOST_EVENTS],
-    i: usize,
-) -> [[u64; 24]; 3]
-    requires in_range { (i < (events_in format events.now).count) × ((events_in format events.now).count ≤ most_events) }
-    requires bids_in_order { BidsInOrder (events_in format events.now) × (time_bid (case_in format [] [] [] events.now) i i ≡ true) }
-    ensures { HasIncreases (λ (k : ℕ). component_increase format events.now levels.now i (4 + k) (events_in format events.now).count) result }
+pub fn time_increases(case: Case, levels: &[u32; layout::MOST_EVENTS], i: usize) -> [[u64; 24]; 3]
+    requires in_range { (i < (events_of case).count) × ((events_of case).count ≤ most_events) }
+    requires bids_in_order { BidsInOrder (events_of case) × (time_bid (case_in case.format [] [] [] case.events.now) i i ≡ true) }
+    ensures { HasIncreases (λ (k : ℕ). component_increase case.entry.format case.entry.events.now levels.now i (4 + k) (events_of case.entry).count) result }
 {
-    let start_up = component_increases(format, events, levels, i, 4);
-    let minimum_run = component_increases(format, events, levels, i, 5);
-    let minimum_down = component_increases(format, events, levels, i, 6);
+    let start_up = component_increases(case, levels, i, 4);
+    let minimum_run = component_increases(case, levels, i, 5);
+    let minimum_down = component_increases(case, levels, i, 6);
     [start_up, minimum_run, minimum_down]
 }
 
@@ -114,57 +104,45 @@ pub fn hour_totals(increases: [[u64; 24]; 3]) -> [u64; 24]
     requires { SmallTable increases }
     ensures { HasRow (λ (h : ℕ). cell increases 0 h + cell increases 1 h + cell increases 2 h) result }
 {
-    let mut totals = [0u64; 24];
-    let mut h = 0;
-    while h < layout::HOURS {
-        totals[h] = increases[0][h] + increases[1][h] + increases[2][h];
-        h += 1;
-    }
-    totals
+    list_to(|h| increases[0][h] + increases[1][h] + increases[2][h])
 }
 
 // The time totals of event i's unit, day and market, where its component reads them.
-pub fn time_totals(
-    format: Format,
-    events: &[u8],
-    levels: &[u32; layout::MOST_EVENTS],
-    i: usize,
-) -> [u64; 24]
-    requires in_range { (i < (events_in format events.now).count) × ((events_in format events.now).count ≤ most_events) }
-    requires bids_in_order { BidsInOrder (events_in format events.now) }
-    ensures { HasRow (total_read (case_in format [] [] [] events.now) levels.now i) result }
+pub fn time_totals(case: Case, levels: &[u32; layout::MOST_EVENTS], i: usize) -> [u64; 24]
+    requires in_range { (i < (events_of case).count) × ((events_of case).count ≤ most_events) }
+    requires bids_in_order { BidsInOrder (events_of case) }
+    ensures { HasRow (total_read (case_in case.entry.format [] [] [] case.entry.events.now) levels.now i) result }
 {
-    if time_bid(format, events, i, i) {
-        return hour_totals(time_increases(format, events, levels, i));
+    if time_bid(case, i, i) {
+        return hour_totals(time_increases(case, levels, i));
     }
     [0u64; 24]
 }
 
 // Whether event i and the event before it are time bids of one unit, day and market.
-fn same_totals(format: Format, events: &[u8], i: usize) -> bool
-    requires { i < (events_in format events.now).count }
-    ensures { result ≡ same_totals (case_in format [] [] [] events.now) i }
+fn same_totals(case: Case, i: usize) -> bool
+    requires { i < (events_of case).count }
+    ensures { result ≡ same_totals (case_in case.entry.format [] [] [] case.entry.events.now) i }
 {
-    let own = time_bid(format, events, i, i);
-    let last = time_bid(format, events, i, place_before(i));
+    let own = time_bid(case, i, i);
+    let last = time_bid(case, i, place_before(i));
     (0 < i) & own & last
 }
 
 // The same, where `before` are those that the event before it read.
 pub fn bid_totals(
-    format: Format,
-    events: &[u8],
+    case: Case,
     levels: &[u32; layout::MOST_EVENTS],
     i: usize,
     before: [u64; 24],
 ) -> [u64; 24]
-    requires in_range { (i < (events_in format events.now).count) × ((events_in format events.now).count ≤ most_events) }
-    requires bids_in_order { BidsInOrder (events_in format events.now) }
-    requires has_row { HasRow (total_before (case_in format [] [] [] events.now) levels.now i) before }
-    ensures { HasRow (total_read (case_in format [] [] [] events.now) levels.now i) result }
+    requires in_range { (i < (events_of case).count) × ((events_of case).count ≤ most_events) }
+    requires bids_in_order { BidsInOrder (events_of case) }
+    requires has_row { HasRow (total_before (case_in case.format [] [] [] case.events.now) levels.now i) before }
+    ensures { HasRow (total_read (case_in case.entry.format [] [] [] case.entry.events.now) levels.now i) result }
 {
-    if same_totals(format, events, i) {
+    if same_totals(case, i) {
         return before;
     }
-    time_totals(format, events, levels, i)
+    time_totals(case, levels, i)
 }

@@ -2,20 +2,19 @@
 ghost use Rattle.std.specs.Prelude.{◌≡◌, ◌≤◌, ◌<◌, length};
 ghost use Rattle.binary.specs.Lists.{Holds};
 ghost use Rattle.casefile.specs.Layout.{most_events};
-ghost use Rattle.casefile.specs.Decode.{events_in, decode};
+ghost use Rattle.casefile.specs.Decode.{decode};
 ghost use Rattle.casefile.specs.Lookup.{unit_of, group_of, bid_level};
+ghost use Rattle.casefile.specs.Sections.{events_of};
 ghost use Rattle.limits.specs.StageChecked.{AcceptedFile};
 ghost use Rattle.conduct.specs.Flags.{flag_mask};
 ghost use Rattle.counted_instances.specs.CountedInstances.{byte_of, counted_length, with_counted, instances_answer, instances_out};
 ghost use Rattle.counted_instances.specs.StageCounted.{event_counted, entry_counted, byte_in};
 
-use binary::numbers::choose_u32;
+use binary::bounded::mask_to;
+use binary::numbers::choose;
 use case_check::check::check_into;
-use casefile::events::{event_at, event_count};
-use casefile::header::{format_of, section};
+use casefile::case::Case;
 use casefile::layout;
-use casefile::layout::Format;
-use casefile::past::entry_count;
 use conduct::flags::find_flags;
 use instance_counts::instances::{entry_period, is_entry, is_instance, is_instance_of, period_of};
 use tariff::sanction_rules::period_counts;
@@ -34,24 +33,23 @@ const LAST_LIST: usize = LIST_BYTES + EVENT_BYTES;
 
 // Whether event j is one of those before event i that its count over k periods back has.
 fn event_counted(
-    format: Format,
-    events: &[u8],
+    case: Case,
     groups: &[u16; layout::MOST_EVENTS],
     masks: &[u32; layout::MOST_EVENTS],
     k: u8,
     i: usize,
     j: usize,
 ) -> bool
-    requires { (i < (events_in format events.now).count) × (i < most_events) }
-    ensures { result ≡ event_counted format events.now groups.now masks.now k i j }
+    requires { (i < (events_of case).count) × (i < most_events) }
+    ensures { result ≡ event_counted case.entry.format case.entry.events.now groups.now masks.now k i j }
 {
     if j < i {
-        let event = event_at(format, events, i);
+        let event = case.event_at(i);
         let market = event.market;
         let period = event.period;
-        let own = is_instance(format, events, masks, i);
-        let same = is_instance_of(format, events, groups, masks, groups[i], market, j);
-        let near = period_counts(k, period, period_of(format, events, j));
+        let own = is_instance(case, masks, i);
+        let same = is_instance_of(case, groups, masks, groups[i], market, j);
+        let near = period_counts(k, period, period_of(case, j));
         return own & (same & near);
     }
     false
@@ -59,25 +57,23 @@ fn event_counted(
 
 // Whether past entry j is one of those.
 fn entry_counted(
-    format: Format,
-    past: &[u8],
-    events: &[u8],
+    case: Case,
     groups: &[u16; layout::MOST_EVENTS],
     masks: &[u32; layout::MOST_EVENTS],
     k: u8,
     i: usize,
     j: usize,
 ) -> bool
-    requires { (i < (events_in format events.now).count) × (i < most_events) }
-    ensures { result ≡ entry_counted format past.now events.now groups.now masks.now k i j }
+    requires { (i < (events_of case).count) × (i < most_events) }
+    ensures { result ≡ entry_counted case.entry.format case.entry.past.now case.entry.events.now groups.now masks.now k i j }
 {
-    if j < entry_count(past) {
-        let event = event_at(format, events, i);
+    if j < case.entry_count() {
+        let event = case.event_at(i);
         let market = event.market;
         let period = event.period;
-        let own = is_instance(format, events, masks, i);
-        let same = is_entry(past, groups[i], market, j);
-        let near = period_counts(k, period, entry_period(past, j));
+        let own = is_instance(case, masks, i);
+        let same = is_entry(case, groups[i], market, j);
+        let near = period_counts(k, period, entry_period(case, j));
         return own & (same & near);
     }
     false
@@ -85,78 +81,61 @@ fn entry_counted(
 
 // Eight events in a byte.
 fn event_byte(
-    format: Format,
-    events: &[u8],
+    case: Case,
     groups: &[u16; layout::MOST_EVENTS],
     masks: &[u32; layout::MOST_EVENTS],
     k: u8,
     i: usize,
     b: usize,
 ) -> u8
-    requires { (i < (events_in format events.now).count) × (i < most_events) × (b < counted_length) }
-    ensures { result ≡ byte_of (event_counted format events.now groups.now masks.now k i) b }
+    requires { (i < (events_of case).count) × (i < most_events) × (b < counted_length) }
+    ensures { result ≡ byte_of (event_counted case.entry.format case.entry.events.now groups.now masks.now k i) b }
 {
-    let mut byte: u32 = 0;
-    let mut weight: u32 = 1;
-    let mut t = 0;
-    while t < 8 {
-        let counted = event_counted(format, events, groups, masks, k, i, 8 * b + t);
-        byte += choose_u32(counted, weight, 0);
-        weight *= 2;
-        t += 1;
-    }
-    byte as u8
+    mask_to(8, |t| {
+        let counted = event_counted(case, groups, masks, k, i, 8 * b + t);
+        counted
+    }) as u8
 }
 
 // Eight past entries in a byte.
 fn past_byte(
-    format: Format,
-    past: &[u8],
-    events: &[u8],
+    case: Case,
     groups: &[u16; layout::MOST_EVENTS],
     masks: &[u32; layout::MOST_EVENTS],
     k: u8,
     i: usize,
     b: usize,
 ) -> u8
-    requires { (i < (events_in format events.now).count) × (i < most_events) × (b < counted_length) }
-    ensures { result ≡ byte_of (entry_counted format past.now events.now groups.now masks.now k i) b }
+    requires { (i < (events_of case).count) × (i < most_events) × (b < counted_length) }
+    ensures { result ≡ byte_of (entry_counted case.entry.format case.entry.past.now case.entry.events.now groups.now masks.now k i) b }
 {
-    let mut byte: u32 = 0;
-    let mut weight: u32 = 1;
-    let mut t = 0;
-    while t < 8 {
-        let counted = entry_counted(format, past, events, groups, masks, k, i, 8 * b + t);
-        byte += choose_u32(counted, weight, 0);
-        weight *= 2;
-        t += 1;
-    }
-    byte as u8
+    mask_to(8, |t| {
+        let counted = entry_counted(case, groups, masks, k, i, 8 * b + t);
+        counted
+    }) as u8
 }
 
 // Byte b of the lists of event i.
 fn byte_at(
-    format: Format,
-    past: &[u8],
-    events: &[u8],
+    case: Case,
     groups: &[u16; layout::MOST_EVENTS],
     masks: &[u32; layout::MOST_EVENTS],
     i: usize,
     b: usize,
 ) -> u8
-    requires { (i < (events_in format events.now).count) × (i < most_events) × (b < counted_length) }
-    ensures { result ≡ byte_in format past.now events.now groups.now masks.now i b }
+    requires { (i < (events_of case).count) × (i < most_events) × (b < counted_length) }
+    ensures { result ≡ byte_in case.entry.format case.entry.past.now case.entry.events.now groups.now masks.now i b }
 {
     if b < EVENT_BYTES {
-        return event_byte(format, events, groups, masks, 2, i, b);
+        return event_byte(case, groups, masks, 2, i, b);
     }
     if b < LIST_BYTES {
-        return past_byte(format, past, events, groups, masks, 2, i, b - EVENT_BYTES);
+        return past_byte(case, groups, masks, 2, i, b - EVENT_BYTES);
     }
     if b < LAST_LIST {
-        return event_byte(format, events, groups, masks, 1, i, b - LIST_BYTES);
+        return event_byte(case, groups, masks, 1, i, b - LIST_BYTES);
     }
-    past_byte(format, past, events, groups, masks, 1, i, b - LAST_LIST)
+    past_byte(case, groups, masks, 1, i, b - LAST_LIST)
 }
 
 // The lists of event i of an accepted case, from the tables of its flags; the bytes beyond them stay.
@@ -172,13 +151,9 @@ fn put_counted(
     requires masks_found { Holds (decode file.now).events.count masks.now (flag_mask (decode file.now)) }
     ensures { out.new ≡ with_counted (decode file.now) i out.old }
 {
-    let format = format_of(file);
-    let past = section(file, 2);
-    let events = section(file, 3);
-    let mut b = 0;
-    while b < COUNTED_LENGTH {
-        out[b] = byte_at(format, past, events, groups, masks, i, b);
-        b += 1;
+    let case = Case::of(file);
+    for b in 0..COUNTED_LENGTH {
+        out[b] = byte_at(case, groups, masks, i, b);
     }
 }
 
@@ -210,7 +185,7 @@ pub fn instances<'a>(file: &'a [u8], correction: &'a [u8], event: usize, out: &m
     let mut places = [0usize; layout::MOST_EVENTS];
     let mut levels = [0u32; layout::MOST_EVENTS];
     let mut corrects = [0u32; layout::MOST_EVENTS];
-    let number = check_into(
+    let checked = check_into(
         file,
         correction,
         layout::MOST_ROWS,
@@ -218,11 +193,11 @@ pub fn instances<'a>(file: &'a [u8], correction: &'a [u8], event: usize, out: &m
         &mut levels,
         &mut corrects,
     );
-    if number != 0 {
-        return number;
+    if let Err(refusal) = checked {
+        return u8::from(refusal);
     }
-    let events = section(file, 3);
-    if event_count(format_of(file), events) <= event {
+    let case = Case::of(file);
+    if case.event_count() <= event {
         return 10;
     }
     if out.len() < COUNTED_LENGTH {

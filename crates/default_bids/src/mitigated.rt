@@ -1,18 +1,17 @@
 // Mitigated hours.
 ghost use Rattle.std.specs.Prelude.{◌≡◌, ◌<◌};
-ghost use Rattle.casefile.specs.Decode.{events_in};
+ghost use Rattle.casefile.specs.Sections.{events_of};
 ghost use Rattle.default_bids.specs.StageFigures.{mitigated_by};
 
-use casefile::events::event_at;
-use casefile::layout::Format;
+use casefile::case::Case;
 use tariff::default_bid_rules::span_mask;
 
 // The mitigated hours of event i, whose flag mask is given; bids alone have some, and a span where an hour is hit.
-pub fn mitigated_mask(format: Format, events: &[u8], i: usize, flags: u32) -> u32
-    requires { i < (events_in format events.now).count }
-    ensures { result ≡ mitigated_by (events_in format events.now) i flags }
+pub fn mitigated_mask(case: Case, i: usize, flags: u32) -> u32
+    requires { i < (events_of case).count }
+    ensures { result ≡ mitigated_by (events_of case.entry) i flags }
 {
-    let event = event_at(format, events, i);
+    let event = case.event_at(i);
     let kind = event.kind;
     if kind != 4 {
         return 0;

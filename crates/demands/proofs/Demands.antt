@@ -3,7 +3,7 @@ use Prim.Native.Nat.{ℕ}
 use mathlib.Core.Bool.{Bool, true, false}
 use mathlib.Core.List.{List}
 use mathlib.Core.Logic.{◌⊎◌, inl, inr}
-use mathlib.Core.Path.{◌≡◌, refl, ap, ◌∙◌}
+use mathlib.Core.Path.{◌≡◌, refl, sym, ap, ◌∙◌}
 use borrow.Author.Tests.{eqb-true, eqb-false, eq-eqb, ne_eqb}
 use lib.Dec.{eqb}
 use lib.ListN.{length}
@@ -11,13 +11,15 @@ use Rattle.limits.specs.Refusal.{limits, refusal, MeetsAll, DecidedBy}
 use Rattle.limits.proofs.LimitLaws.{accepted_meets, meets_accepted, refused_decided, decided_refused, decided_number}
 use Rattle.settlement.specs.Row.{rows_of}
 use Rattle.settlement.specs.Settled.{SettlementAnswer, accepted, answer_of, settlement_of, answer_of_settlement, rows_after, settled}
-use Rattle.settlement.specs.declared.settle.Settlement.{Settlement}
-use Rattle.settlement.specs.declared.settle.Settlement.TheVariants as settlement
+use Rattle.std.proofs.Common.{Result, Err}
+use Rattle.calls.specs.Answers.{refusal_of}
+use Rattle.calls.specs.declared.answers.Refusal.{Refusal}
+use Rattle.settlement.specs.declared.settle.Settled.{Settled}
 use Rattle.settlement.proofs.SettleLaws.{told_answer}
 use Rattle.worse_conduct.proofs.WorseConduct.{worse_conduct}
 use Rattle.demands.specs.Demands.{Run, Demand1, Demand2, Demand3}
 
-module _ (file correction rows : List ℕ) (answer : Settlement) (after : List ℕ) (run : Run file correction rows answer after) where
+module _ (file correction rows : List ℕ) (answer : Result Settled Refusal) (after : List ℕ) (run : Run file correction rows answer after) where
   -- the answer's number and values
   values : answer_of_settlement answer ≡ answer_of file correction (length rows)
   values = ap answer_of_settlement run.answered ∙ told_answer file correction (length rows)
@@ -30,7 +32,7 @@ module _ (file correction rows : List ℕ) (answer : Settlement) (after : List �
   unfolding answer_of
   accepts h = run.answered ∙ rw (eq-eqb _ _ h) refl
 
-  refuses : (refusal file correction (length rows) ≡ 0 → ⊥) → answer ≡ settlement.Refused (refusal file correction (length rows))
+  refuses : (refusal file correction (length rows) ≡ 0 → ⊥) → answer ≡ Err (refusal_of (refusal file correction (length rows)))
   unfolding answer_of settlement_of
   refuses ne = run.answered ∙ rw (ne_eqb _ _ ne, ne_eqb _ _ ne) refl
 
@@ -53,7 +55,9 @@ module _ (file correction rows : List ℕ) (answer : Settlement) (after : List �
       record {
         either = either (eqb (refusal file correction (length rows)) 0) refl;
         accepts = λ m. accepts (meets_accepted file correction (length rows) m);
-        refuses = λ m b. refuses (applies m b) ∙ ap settlement.Refused (decided_refused file correction (length rows) m b);
+        refuses = λ m b.
+            let e = decided_refused file correction (length rows) m b in
+            refuses (applies m b) ∙ ap (λ (x : ℕ). Err (refusal_of x)) e;
         untouched = λ m b. untouched (applies m b);
       }
 
@@ -71,7 +75,7 @@ module _ (file correction rows : List ℕ) (answer : Settlement) (after : List �
   unfolding settled
   is_settled = rw (values, run.left) refl
 
-pub demand_3 : (file worse correction rows worse_rows : List ℕ) (answer worse_answer : Settlement) (after worse_after : List ℕ)
+pub demand_3 : (file worse correction rows worse_rows : List ℕ) (answer worse_answer : Result Settled Refusal) (after worse_after : List ℕ)
     → Run file correction rows answer after
     → Run worse correction worse_rows worse_answer worse_after
     → Demand3 file worse correction rows worse_rows answer worse_answer after worse_after

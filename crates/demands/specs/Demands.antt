@@ -1,6 +1,6 @@
 -- The three demands, about the call `settle` of crate settlement: each in words, and the claim beside it. Each is a contract, proved
 -- of the code, of a function of src/run.rt.
-use Rattle.std.specs.Prelude.{ℕ, ◌*◌, List, ◌++◌, ◌⊎◌, ◌≡◌, length, drop}
+use Rattle.std.specs.Prelude.{ℕ, ◌*◌, List, ◌++◌, ◌⊎◌, ◌≡◌, length, drop, Result, Ok, Err}
 use Rattle.binary.specs.Lists.{join_to}
 use Rattle.casefile.specs.Layout.{row_width}
 use Rattle.casefile.specs.Case.{Case}
@@ -11,18 +11,19 @@ use Rattle.sanctions.specs.Penalties.{total_penalty}
 use Rattle.default_bids.specs.Mitigation.{total_make_up}
 use Rattle.settlement.specs.Row.{row_of}
 use Rattle.settlement.specs.Settled.{answer_of, settlement_of, answer_of_settlement, rows_after}
-use Rattle.settlement.specs.declared.settle.Settlement.{Settlement}
-use Rattle.settlement.specs.declared.settle.Settlement.TheVariants as settlement
+use Rattle.calls.specs.Answers.{refusal_of}
+use Rattle.calls.specs.declared.answers.Refusal.{Refusal}
+use Rattle.settlement.specs.declared.settle.Settled.{Settled}
 use Rattle.worse_conduct.specs.Changes.{Change, apply_all, TakesAll}
 use Rattle.worse_conduct.specs.Promise.{EnergyNotNegative, NoSmaller}
 
 -- a run of the call on these arguments: its answer, and the rows buffer that it leaves. Every call of `settle` is one, for every
 -- file, correction and buffer
-pub record Run (file correction rows : List ℕ) (answer : Settlement) (after : List ℕ) : Type 0 where
+pub record Run (file correction rows : List ℕ) (answer : Result Settled Refusal) (after : List ℕ) : Type 0 where
   pub answered : answer ≡ settlement_of (answer_of file correction (length rows))
   pub left : after ≡ rows_after file correction rows
 
-module _ (file correction rows : List ℕ) (answer : Settlement) (after : List ℕ) where
+module _ (file correction rows : List ℕ) (answer : Result Settled Refusal) (after : List ℕ) where
   -- Demand 1. The limits of a case are those of its file, of the correction beside it and of the length of the rows buffer, in
   -- checking order. Where it meets all of them it is accepted: the answer is Settled, with one row for each event and both totals.
   -- Otherwise one of them is the first that is broken, every limit before it being met; the case is refused with that limit's
@@ -30,8 +31,9 @@ module _ (file correction rows : List ℕ) (answer : Settlement) (after : List �
   pub record Demand1 : Type 0 where
     pub either : MeetsAll (limits file correction (length rows)) ⊎ ((m : ℕ) × DecidedBy (limits file correction (length rows)) m)
     pub accepts : MeetsAll (limits file correction (length rows))
-        → answer ≡ settlement.Settled (decode file).events.count (total_penalty (decode file)) (total_make_up (decode file) (correct_in file correction))
-    pub refuses : (m : ℕ) → DecidedBy (limits file correction (length rows)) m → answer ≡ settlement.Refused m
+        → answer
+        ≡ Ok (record { rows = (decode file).events.count; penalties = total_penalty (decode file); make_ups = total_make_up (decode file) (correct_in file correction) })
+    pub refuses : (m : ℕ) → DecidedBy (limits file correction (length rows)) m → answer ≡ Err (refusal_of m)
     pub untouched : (m : ℕ) → DecidedBy (limits file correction (length rows)) m → after ≡ rows
 
   -- Demand 2. Where the case is accepted, the rows buffer is the row of each event as the documents state it, from the first event
@@ -44,7 +46,7 @@ module _ (file correction rows : List ℕ) (answer : Settlement) (after : List �
     pub make_ups_stated : refusal file correction (length rows) ≡ 0
         → (answer_of_settlement answer).make_ups ≡ total_make_up (decode file) (correct_in file correction)
 
-module _ (file worse correction rows worse_rows : List ℕ) (answer worse_answer : Settlement) (after worse_after : List ℕ) where
+module _ (file worse correction rows worse_rows : List ℕ) (answer worse_answer : Result Settled Refusal) (after worse_after : List ℕ) where
   -- the claim of demand 3, under a premise on the case before
   abbrev pub NeverCheaper : (Premise : Case → Type 0) → Type 0
   NeverCheaper Premise =

@@ -1,16 +1,21 @@
 // The runs of which specs/Demands speaks are those of the call: one run, and the runs before and after a list of changes.
 ghost use Rattle.demands.specs.Demands.{Run, Demand1, Demand2, Demand3};
 
-use settlement::settle::{Settlement, settle};
+use calls::answers::Refusal;
+use settlement::settle::{Settled, settle};
 
 #[derive(Clone, Copy)]
 pub struct Answers {
-    pub before: Settlement,
-    pub after: Settlement,
+    pub before: Result<Settled, Refusal>,
+    pub after: Result<Settled, Refusal>,
 }
 
 // One case settled is a run of the demands, and meets the first two.
-pub fn settled_once<'a>(file: &'a [u8], correction: &'a [u8], rows: &mut [u8]) -> Settlement
+pub fn settled_once<'a>(
+    file: &'a [u8],
+    correction: &'a [u8],
+    rows: &mut [u8],
+) -> Result<Settled, Refusal>
     ensures run { Run file.now correction.now rows.old result rows.new }
     ensures demand1 { Demand1 file.now correction.now rows.old result rows.new }
     ensures demand2 { Demand2 file.now correction.now rows.old result rows.new }

@@ -6,6 +6,11 @@ use mathlib.Core.Path.{◌≡◌, refl, sym, ap, ap₂, subst, ◌∙◌}
 use native.Mathlib.Omega.{arith}
 use lib.Dec.{ltb, eqb}
 use borrow.Author.Tests.{ne_eqb}
+use Rattle.std.proofs.Common.{Option, Some, None, Ok, Err, cond}
+use Rattle.limits.specs.StageRefusal.{events_in_calendar}
+use Rattle.limits.specs.declared.refusal.Refusal.{Refusal}
+use Rattle.limits.specs.declared.refusal.Refusal.TheVariants.{EventFields}
+use Rattle.event_check.specs.declared.event_limits.EventOrder.{EventOrder}
 use Rattle.binary.specs.Bounded.{all_to}
 use Rattle.binary.specs.Lists.{Bytes}
 use Rattle.binary.proofs.BoundedLaws.{all_more, all_true}
@@ -18,11 +23,9 @@ use Rattle.casefile.specs.Decode.{cells_from, cells_in, events_in, amounts_in}
 use Rattle.casefile.specs.Lookup.{place_of}
 use Rattle.casefile.specs.StageRead.{cell_of, event_at}
 use Rattle.casefile.specs.declared.events.Event.{Event}
-use Rattle.limits.specs.Refusal.{event_numbers_fine, rises, fields_fine, cell_fine, hour_fine, event_fine, event_key, within_capability, unless}
+use Rattle.limits.specs.Refusal.{event_numbers_fine, rises, fields_fine, cell_fine, hour_fine, event_fine, events_fine, order_fine, event_key, within_capability, unless}
 use Rattle.limits.proofs.RangeLaws.{event_range, number_lt}
-use Rattle.event_check.specs.StageReading.{cell_fine_at, amount_within, key_of, number_of, read_if, read_event}
-use Rattle.event_check.specs.declared.event_limits.EventRead.{EventRead}
-use Rattle.event_check.specs.declared.event_limits.EventRead.TheVariants.{Event as Readable, Unreadable}
+use Rattle.event_check.specs.StageReading.{cell_fine_at, amount_within, key_of, number_of, read_if, read_event, order_of}
 
 -- ---- the cells, read in the part where they begin
 
@@ -67,7 +70,7 @@ read_is format s i e r fields cells b same f part t d =
     o : Event
     o = event_at (events_in format s) i
 
-pub read_number : (format : Format) (s : List ℕ) (i : ℕ) (a : EventRead) → a ≡ read_event format s i → number_of a ≡ unless (event_fine (events_in format s) (amounts_in format s) i) 10 0
+pub read_number : (format : Format) (s : List ℕ) (i : ℕ) (a : Option Event) → a ≡ read_event format s i → number_of a ≡ unless (event_fine (events_in format s) (amounts_in format s) i) 10 0
 unfolding read_event number_of read_if
 read_number format s i a h = ap number_of h ∙ go (event_fine (events_in format s) (amounts_in format s) i)
   where
@@ -75,22 +78,22 @@ read_number format s i a h = ap number_of h ∙ go (event_fine (events_in format
     go true = refl
     go false = refl
 
-readable_of : (b : Bool) (x e : Event) → read_if b x ≡ Readable e → (b ≡ true) × (e ≡ x)
+readable_of : (b : Bool) (x e : Event) → read_if b x ≡ Some e → (b ≡ true) × (e ≡ x)
 unfolding read_if
 readable_of true x e h = (refl, cc)
 readable_of false x e h = (cc, cc)
 
-unreadable_of : (b : Bool) (e : Event) → read_if b e ≡ Unreadable → b ≡ false
+unreadable_of : (b : Bool) (e : Event) → read_if b e ≡ None → b ≡ false
 unfolding read_if
 unreadable_of true e h = cc
 unreadable_of false e h = refl
 
-pub readable : (format : Format) (s : List ℕ) (i : ℕ) (e : Event) → read_event format s i ≡ Readable e
+pub readable : (format : Format) (s : List ℕ) (i : ℕ) (e : Event) → read_event format s i ≡ Some e
     → (event_fine (events_in format s) (amounts_in format s) i ≡ true) × (e ≡ event_at (events_in format s) i)
 unfolding read_event
 readable format s i e h = readable_of _ _ e h
 
-pub unreadable : (format : Format) (s : List ℕ) (i : ℕ) → read_event format s i ≡ Unreadable → event_fine (events_in format s) (amounts_in format s) i ≡ false
+pub unreadable : (format : Format) (s : List ℕ) (i : ℕ) → read_event format s i ≡ None → event_fine (events_in format s) (amounts_in format s) i ≡ false
 unfolding read_event
 unreadable format s i h = unreadable_of _ _ h
 
@@ -117,19 +120,31 @@ unfolding event_at
 read_dated format s i e same = ap (λ (x : Event). has_period x.day x.period) same
 
 -- the order of one event more
-pub order_turn : (key : ℕ → ℕ) (i last k order : ℕ) → order ≡ unless (all_to i (rises key)) 11 0 → (0 < i → last ≡ key (i - 1)) → k ≡ key i
-    → unless (eqb i 0 || ltb last k) 11 order ≡ unless (all_to (i + 1) (rises key)) 11 0
+pub order_turn : (key : ℕ → ℕ) (i last k : ℕ) (rising : Bool) → rising ≡ all_to i (rises key) → (0 < i → last ≡ key (i - 1)) → k ≡ key i
+    → (rising && (eqb i 0 || ltb last k)) ≡ all_to (i + 1) (rises key)
 unfolding rises
-order_turn key i last k order f before e =
-    ap₂ (λ (t : Bool) (x : ℕ). unless t 11 x) (above i before ∙ ap (λ (x : ℕ). eqb i 0 || ltb (key (i - 1)) x) e) f
-    ∙ either (all_to i (rises key)) (rises key i)
-    ∙ ap (λ (t : Bool). unless t 11 0) (sym (all_more i (rises key)))
+order_turn key i last k rising f before e =
+    ap₂ ◌&&◌ f (above i before ∙ ap (λ (x : ℕ). eqb i 0 || ltb (key (i - 1)) x) e) ∙ sym (all_more i (rises key))
   where
     above : (j : ℕ) → (0 < j → last ≡ key (j - 1)) → (eqb j 0 || ltb last k) ≡ (eqb j 0 || ltb (key (j - 1)) k)
     above zero l = refl
     above (suc j) l = ap (λ (x : ℕ). eqb (suc j) 0 || ltb x k) (l (omega arith))
 
-    either : (a b : Bool) → unless b 11 (unless a 11 0) ≡ unless (a && b) 11 0
-    either true b = refl
-    either false true = refl
-    either false false = refl
+-- ---- what one look at each event finds
+
+order_refused : (b : Bool) (x : EventOrder) (r : Refusal) → Err r ≡ cond b (Ok x) (Err EventFields) → (b ≡ false) × (r ≡ EventFields)
+order_refused true x r h = (cc, cc)
+order_refused false x r h = (refl, cc)
+
+order_found : (b : Bool) (x o : EventOrder) → Ok o ≡ cond b (Ok x) (Err EventFields) → (b ≡ true) × (o ≡ x)
+order_found true x o h = (refl, cc)
+order_found false x o h = (cc, cc)
+
+pub unread : (format : Format) (s : List ℕ) (r : Refusal) → Err r ≡ order_of format s → (events_fine format s ≡ false) × (r ≡ EventFields)
+unfolding order_of
+unread format s r h = order_refused _ _ r h
+
+pub read : (format : Format) (s : List ℕ) (o : EventOrder) → Ok o ≡ order_of format s
+    → (events_fine format s ≡ true) × (o ≡ record { dated = events_in_calendar (events_in format s); rising = order_fine (events_in format s) })
+unfolding order_of
+read format s o h = order_found _ _ o h

@@ -1,5 +1,5 @@
 -- What the check finds of each event: its unit's place, r and c, over the sections of the file.
-use Rattle.std.specs.Prelude.{ℕ, true, List, ◌≡◌}
+use Rattle.std.specs.Prelude.{ℕ, cond, List, Option, Some, None, ◌≡◌}
 use Rattle.binary.specs.Lists.{Holds}
 use Rattle.casefile.specs.declared.layout.Format.{Format}
 use Rattle.casefile.specs.Case.{Units, References, Events}
@@ -18,8 +18,9 @@ pub record Found (format : Format) (units references correct events places level
   pub levelled : Holds (events_in format events).count levels (bid_level (references_in format references) (events_in format events))
   pub corrected : Holds (events_in format events).count corrects (correct_level (references_in format correct) (events_in format events))
 
--- of event i: whether the references that it reads are there, and then r and c
-pub record EventLevels (own correct : References) (e : Events) (i : ℕ) (l : Levels) : Type 0 where
-  pub found : l.found ≡ reference_found own correct e i
-  pub levelled : l.found ≡ true → l.level ≡ bid_level own e i
-  pub corrected : l.found ≡ true → l.correct ≡ correct_level correct e i
+-- of event i: r and c, where the references that it reads are there
+unfoldable pub levels_of : (own correct : References) → Events → ℕ → Option Levels
+levels_of own correct e i = cond (reference_found own correct e i) (Some (record { level = bid_level own e i; correct = correct_level correct e i })) None
+
+abbrev pub EventLevels : (own correct : References) → Events → ℕ → Option Levels → Type 0
+EventLevels own correct e i l = l ≡ levels_of own correct e i

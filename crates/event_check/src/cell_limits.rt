@@ -4,7 +4,8 @@ ghost use Rattle.binary.specs.Bounded.{all_to};
 ghost use Rattle.casefile.specs.Layout.{cell_width, most_hours};
 ghost use Rattle.event_check.specs.StageReading.{cell_fine_at, amount_within};
 
-use binary::words::is_within;
+use binary::bounded::all_to;
+use binary::words::Word;
 use casefile::cells::cell_at;
 use casefile::layout;
 use tariff::ranges;
@@ -14,17 +15,10 @@ fn withheld_cells(cells: &[u8]) -> bool
     requires { cell_width * most_hours ≤ length cells.now }
     ensures { result ≡ all_to most_hours (cell_fine_at 1 0 cells.now) }
 {
-    let mut fine = true;
-    let mut h = 0;
-    while h < layout::HOURS {
+    all_to(layout::HOURS, |h| {
         let cell = cell_at(cells, h);
-        let b = cell.b;
-        let m = cell.m;
-        let price = is_within(ranges::HIGHEST_PRICE, b);
-        fine = fine & (price & (m == 0));
-        h += 1;
-    }
-    fine
+        cell.b.is_within(ranges::HIGHEST_PRICE) & (cell.m == 0)
+    })
 }
 
 // Of kind 2.
@@ -32,16 +26,10 @@ fn dispatch_cells(cells: &[u8]) -> bool
     requires { cell_width * most_hours ≤ length cells.now }
     ensures { result ≡ all_to most_hours (cell_fine_at 2 0 cells.now) }
 {
-    let mut fine = true;
-    let mut h = 0;
-    while h < layout::HOURS {
+    all_to(layout::HOURS, |h| {
         let cell = cell_at(cells, h);
-        let b = cell.b;
-        let m = cell.m;
-        fine = fine & ((b <= ranges::HIGHEST_REVENUE) & (m == 0));
-        h += 1;
-    }
-    fine
+        (cell.b <= ranges::HIGHEST_REVENUE) & (cell.m == 0)
+    })
 }
 
 // Of kind 3.
@@ -49,18 +37,11 @@ fn fuel_cells(cells: &[u8]) -> bool
     requires { cell_width * most_hours ≤ length cells.now }
     ensures { result ≡ all_to most_hours (cell_fine_at 3 0 cells.now) }
 {
-    let mut fine = true;
-    let mut h = 0;
-    while h < layout::HOURS {
+    all_to(layout::HOURS, |h| {
         let cell = cell_at(cells, h);
-        let a = cell.a;
-        let b = cell.b;
-        let m = cell.m;
-        let change = is_within(ranges::HIGHEST_PRICE_CHANGE, b);
-        fine = fine & ((a <= ranges::HIGHEST_ENERGY) & change & (m == 0));
-        h += 1;
-    }
-    fine
+        let change = cell.b.is_within(ranges::HIGHEST_PRICE_CHANGE);
+        (cell.a <= ranges::HIGHEST_ENERGY) & change & (cell.m == 0)
+    })
 }
 
 // Of kind 4.
@@ -68,19 +49,11 @@ fn bid_cells(component: u8, cells: &[u8]) -> bool
     requires { cell_width * most_hours ≤ length cells.now }
     ensures { result ≡ all_to most_hours (cell_fine_at 4 component cells.now) }
 {
-    let mut fine = true;
-    let mut h = 0;
-    while h < layout::HOURS {
+    all_to(layout::HOURS, |h| {
         let cell = cell_at(cells, h);
-        let a = cell.a;
-        let b = cell.b;
-        let m = cell.m;
-        let bid = ranges::bid_in_range(component, a);
-        let price = is_within(ranges::HIGHEST_PRICE, b);
-        fine = fine & (bid & price & (m <= ranges::HIGHEST_MEGAWATTS));
-        h += 1;
-    }
-    fine
+        let bid = ranges::bid_in_range(component, cell.a);
+        bid & cell.b.is_within(ranges::HIGHEST_PRICE) & (cell.m <= ranges::HIGHEST_MEGAWATTS)
+    })
 }
 
 // The ranges of an event's cells: the kind is asked once, and not in each hour.
@@ -108,13 +81,5 @@ pub fn amounts_within(capability: u32, cells: &[u8]) -> bool
     requires { cell_width * most_hours ≤ length cells.now }
     ensures { result ≡ all_to most_hours (amount_within capability cells.now) }
 {
-    let mut fine = true;
-    let mut h = 0;
-    while h < layout::HOURS {
-        let cell = cell_at(cells, h);
-        let a = cell.a;
-        fine = fine & (a <= capability);
-        h += 1;
-    }
-    fine
+    all_to(layout::HOURS, |h| cell_at(cells, h).a <= capability)
 }

@@ -1,40 +1,35 @@
 // Events: the reader, limits 10 to 14, and what 18 and 19 ask of events.
-ghost use Rattle.std.specs.Prelude.{true, false, ◌≡◌, ◌<◌, ◌≤◌};
+ghost use Rattle.std.specs.Prelude.{true, false, ◌≡◌, ◌<◌, ◌≤◌, OnOk};
 ghost use Rattle.binary.specs.Lists.{Holds};
 ghost use Rattle.tariff.specs.Ranges.{highest_day};
 ghost use Rattle.casefile.specs.Layout.{most_hours, most_events, number_limit};
-ghost use Rattle.casefile.specs.Decode.{units_in, references_in, events_in, amounts_in};
-ghost use Rattle.casefile.specs.Lookup.{has_reference, level_of, correct_references, reads_correct, bid_level};
-ghost use Rattle.limits.specs.StageLookup.{UnitsInOrder, InOrder, correct_level};
-ghost use Rattle.limits.specs.Refusal.{event_numbers_fine, quantities_fine, fields_fine, event_fine, events_fine, order_fine, events_listed, amount_fine, amounts_fine, references_found, unless as unless_of};
-ghost use Rattle.limits.specs.StageRefusal.{events_in_calendar};
-ghost use Rattle.event_check.specs.StageReading.{key_of, number_of, read_event};
+ghost use Rattle.casefile.specs.Decode.{references_in, amounts_in};
+ghost use Rattle.casefile.specs.Lookup.{correct_references, reads_correct, bid_level};
+ghost use Rattle.casefile.specs.Sections.{units_of, events_of};
+ghost use Rattle.limits.specs.StageLookup.{UnitsInOrder, InOrder, level_in, correct_level};
+ghost use Rattle.limits.specs.Numbers.{number_in};
+ghost use Rattle.limits.specs.Refusal.{event_numbers_fine, quantities_fine, fields_fine, event_fine, events_listed, amount_fine, amounts_fine, references_found, unless as unless_of};
+ghost use Rattle.event_check.specs.StageReading.{key_of, number_of, read_event, order_of};
 ghost use Rattle.event_check.specs.StageFound.{event_place, EventLevels};
 
 use crate::cell_limits::{amounts_within, cells_fine};
-use binary::words::is_within;
+use binary::words::Word;
 use calendar::periods::has_period;
-use casefile::events::{Event, event_at, event_cells, event_count};
+use casefile::case::Case;
+use casefile::events::Event;
 use casefile::layout;
 use casefile::layout::Format;
 use casefile::references::correct_references;
-use casefile::units::unit_at;
-use limits::lookup::{Level, level_of, next_place, unit_place};
-use limits::refusal::unless;
+use limits::lookup::{level_of, next_place, unit_place};
+use limits::refusal::Refusal;
 use tariff::ranges;
-
-#[derive(Clone, Copy)]
-pub enum EventRead {
-    Event(Event),
-    Unreadable,
-}
 
 // The ranges of Q and R, by kind.
 fn quantities_fine(kind: u8, market: u8, q: u32, r: u32) -> bool
     ensures { result ≡ quantities_fine most_hours kind market q r }
 {
-    let guarantee = is_within(ranges::HIGHEST_FUEL_MONEY, q);
-    let congestion = is_within(ranges::HIGHEST_FUEL_MONEY, r);
+    let guarantee = q.is_within(ranges::HIGHEST_FUEL_MONEY);
+    let congestion = r.is_within(ranges::HIGHEST_FUEL_MONEY);
     ((kind != 1) | ((q == 0) & (r == 0)))
         & ((kind != 2) | ((q == 0) & (r == 0)))
         & ((kind != 3) | (guarantee & congestion & ((market == 0) | (r == 0))))
@@ -69,11 +64,11 @@ fn fields_fine(
 }
 
 // Event i, where its fields and its cells are in their ranges.
-pub fn read_event(format: Format, events: &[u8], i: usize) -> EventRead
-    requires { i < (events_in format events.now).count }
-    ensures { (result ≡ read_event format events.now i) × (number_of result ≡ unless_of (event_fine (events_in format events.now) (amounts_in format events.now) i) 10 0) }
+pub fn read_event(case: Case, i: usize) -> Option<Event>
+    requires { i < (events_of case).count }
+    ensures { (result ≡ read_event case.entry.format case.entry.events.now i) × (number_of result ≡ unless_of (event_fine (events_of case.entry) (amounts_in case.entry.format case.entry.events.now) i) 10 0) }
 {
-    let e = event_at(format, events, i);
+    let e = case.event_at(i);
     let fields = fields_fine(
         e.kind,
         e.market,
@@ -86,12 +81,12 @@ pub fn read_event(format: Format, events: &[u8], i: usize) -> EventRead
     );
     // The tests of the fields need not be kept while the cells are looked at.
     if !fields {
-        return EventRead::Unreadable;
+        return None;
     }
-    if !cells_fine(e.kind, e.component, event_cells(format, events, i)) {
-        return EventRead::Unreadable;
+    if !cells_fine(e.kind, e.component, case.event_cells(i)) {
+        return None;
     }
-    EventRead::Event(e)
+    Some(e)
 }
 
 // The place of an event in the order: by day, kind, market, unit, component.
@@ -106,82 +101,81 @@ fn event_key(e: Event) -> u64
         + (e.component as u64)
 }
 
-// 10 where an event can't be read, else 19 where a day or a period is not the calendar's, else 11 where one is out of order, else 0.
-pub fn order_refusal(format: Format, events: &[u8]) -> u8
-    requires { event_numbers_fine format events.now ≡ true }
-    ensures { result ≡ unless_of (events_fine format events.now) 10
-        (unless_of (events_in_calendar (events_in format events.now)) 19 (unless_of (order_fine (events_in format events.now)) 11 0)) }
+// What the limits after 10 ask of events that can be read.
+#[derive(Clone, Copy)]
+pub struct EventOrder {
+    // Whether each day and period is the calendar's.
+    pub dated: bool,
+    // Whether each event comes after the one before it.
+    pub rising: bool,
+}
+
+// One look at each event: refused where one can't be read.
+pub fn order_refusal(case: Case) -> Result<EventOrder, Refusal>
+    requires { event_numbers_fine case.format case.events.now ≡ true }
+    ensures { result ≡ order_of case.entry.format case.entry.events.now }
 {
-    let n = event_count(format, events);
     let mut dated = true;
-    let mut order = 0;
+    let mut rising = true;
     let mut last = 0;
-    let mut i = 0;
-    while i < n {
-        let EventRead::Event(e) = read_event(format, events, i) else {
-            return 10;
+    for i in 0..case.event_count() {
+        let Some(e) = read_event(case, i) else {
+            return Err(Refusal::EventFields);
         };
         dated = dated & has_period(e.day, e.period);
         let key = event_key(e);
-        order = unless((i == 0) | (last < key), 11, order);
+        rising = rising & ((i == 0) | (last < key));
         last = key;
-        i += 1;
     }
-    unless(dated, 19, order)
+    Ok(EventOrder { dated, rising })
 }
 
 // Whether a is within the capability in each hour of event i, where its kind asks that; its unit is at this place.
-fn amount_fine(format: Format, units: &[u8], events: &[u8], i: usize, place: usize) -> bool
-    requires in_range { (i < (events_in format events.now).count) × (place < (units_in format units.now).count) }
-    requires place_found { place ≡ event_place (units_in format units.now) (events_in format events.now) i }
-    ensures { result ≡ amount_fine (units_in format units.now) (events_in format events.now) (amounts_in format events.now) i }
+fn amount_fine(case: Case, i: usize, place: usize) -> bool
+    requires in_range { (i < (events_of case).count) × (place < (units_of case).count) }
+    requires place_found { place ≡ event_place (units_of case) (events_of case) i }
+    ensures { result ≡ amount_fine (units_of case.entry) (events_of case.entry) (amounts_in case.entry.format case.entry.events.now) i }
 {
-    let event = event_at(format, events, i);
+    let event = case.event_at(i);
     if 2 < event.kind {
         return true;
     }
-    let unit = unit_at(format, units, place);
-    amounts_within(unit.capability, event_cells(format, events, i))
+    let unit = case.unit_at(place);
+    amounts_within(unit.capability, case.event_cells(i))
 }
 
-// 12 where an event's unit is not listed, else 13 where an amount is above its capability, else 0: then the table holds the place of each event's unit.
-pub fn unit_refusal(
-    format: Format,
-    units: &[u8],
-    events: &[u8],
-    places: &mut [usize; layout::MOST_EVENTS],
-) -> u8
-    requires { UnitsInOrder format units.now × ((events_in format events.now).count ≤ most_events) }
-    ensures value { result ≡ unless_of (events_listed (units_in format units.now) (events_in format events.now)) 12
-        (unless_of (amounts_fine format (units_in format units.now) events.now) 13 0) }
-    ensures places_found { result ≡ 0 → Holds (events_in format events.now).count places.new (event_place (units_in format units.now) (events_in format events.now)) }
+// Held to 12 and 13; where nothing is refused the table holds the place of each event's unit.
+pub fn unit_refusal(case: Case, places: &mut [usize; layout::MOST_EVENTS]) -> Result<(), Refusal>
+    requires { UnitsInOrder case.format case.units.now × ((events_of case).count ≤ most_events) }
+    ensures value { number_in result ≡ unless_of (events_listed (units_of case.entry) (events_of case.entry)) 12
+        (unless_of (amounts_fine case.entry.format (units_of case.entry) case.entry.events.now) 13 0) }
+    ensures places_found { OnOk result (Holds (events_of case.entry).count places.new (event_place (units_of case.entry) (events_of case.entry))) }
 {
     // As a slice the table has a length that is known.
     let table: &mut [usize] = places;
-    let n = event_count(format, events);
+    let n = case.event_count();
     if n == 0 {
-        return 0;
+        return Ok(());
     }
-    let first = event_at(format, events, 0);
+    let first = case.event_at(0);
     let mut last = first.unit;
-    let mut place = unit_place(format, units, last);
+    let mut place = unit_place(case, last);
     let mut fine = true;
-    let mut i = 0;
-    while i < n {
-        let event = event_at(format, events, i);
+    for i in 0..n {
+        let event = case.event_at(i);
         let unit = event.unit;
-        place = next_place(format, units, unit, last, place);
+        place = next_place(case, unit, last, place);
         last = unit;
-        let listed = place.listed;
-        if !listed {
-            return 12;
-        }
-        let at = place.at;
+        let Some(at) = place else {
+            return Err(Refusal::UnlistedUnit);
+        };
         table[i] = at;
-        fine = fine & amount_fine(format, units, events, i, at);
-        i += 1;
+        fine = fine & amount_fine(case, i, at);
     }
-    unless(fine, 13, 0)
+    if !fine {
+        return Err(Refusal::AboveCapability);
+    }
+    Ok(())
 }
 
 // Whether a component reads the correct reference.
@@ -191,10 +185,9 @@ fn reads_correct(component: u8) -> bool
     (component <= 1) | (component == 3)
 }
 
-// r and c of an event, each where it is read; found: whether all that is read is there.
+// r and c of an event, each where it is read.
 #[derive(Clone, Copy)]
 pub struct Levels {
-    pub found: bool,
     pub level: u32,
     pub correct: u32,
 }
@@ -204,92 +197,72 @@ fn correct_level(
     format: Format,
     correct: &[u8],
     corrected: bool,
-    own: Level,
+    own: u32,
     unit: u32,
     component: u8,
-) -> Level
+) -> Option<u32>
     requires in_order { InOrder format correct.now }
-    requires is_there { corrected ≡ false → (own.there ≡ has_reference (references_in format correct.now) unit component)
-        × (own.there ≡ true → own.level ≡ level_of (references_in format correct.now) unit component) }
-    ensures is_there { result.there ≡ has_reference (references_in format correct.now) unit component }
-    ensures has_level { result.there ≡ true → result.level ≡ level_of (references_in format correct.now) unit component }
+    requires is_own { corrected ≡ false → Some own ≡ level_in (references_in format correct.now) unit component }
+    ensures { result ≡ level_in (references_in format correct.now) unit component }
 {
     if corrected {
         return level_of(format, correct, unit, component);
     }
-    own
+    Some(own)
 }
 
-fn event_levels(
-    format: Format,
-    references: &[u8],
-    correct: &[u8],
-    corrected: bool,
-    events: &[u8],
-    i: usize,
-) -> Levels
-    requires { (i < (events_in format events.now).count) × InOrder format references.now × InOrder format correct.now × (corrected ≡ false → correct.now ≡ references.now) }
-    ensures { EventLevels (references_in format references.now) (references_in format correct.now) (events_in format events.now) i result }
+// The levels of event i, where all that it reads is there.
+fn event_levels(case: Case, correct: &[u8], corrected: bool, i: usize) -> Option<Levels>
+    requires { (i < (events_of case).count) × InOrder case.format case.references.now × InOrder case.format correct.now × (corrected ≡ false → correct.now ≡ case.references.now) }
+    ensures { EventLevels (references_in case.entry.format case.entry.references.now) (references_in case.entry.format correct.now) (events_of case.entry) i result }
 {
-    let event = event_at(format, events, i);
+    let event = case.event_at(i);
     if event.kind != 4 {
-        return Levels {
-            found: true,
+        return Some(Levels {
             level: 0,
             correct: 0,
-        };
+        });
     }
-    let unit = event.unit;
-    let component = event.component;
-    let own = level_of(format, references, unit, component);
-    let there = own.there;
-    let level = own.level;
-    if reads_correct(component) {
-        let other = correct_level(format, correct, corrected, own, unit, component);
-        return Levels {
-            found: there & other.there,
-            level,
-            correct: other.level,
-        };
+    let level = level_of(case.format, case.references, event.unit, event.component)?;
+    if !reads_correct(event.component) {
+        return Some(Levels { level, correct: 0 });
     }
-    Levels {
-        found: there,
+    let correct = correct_level(
+        case.format,
+        correct,
+        corrected,
         level,
-        correct: 0,
-    }
+        event.unit,
+        event.component,
+    )?;
+    Some(Levels { level, correct })
 }
 
 // Whether each event of kind 4 has its reference, and the correct one where it is read; the tables hold their levels.
 pub fn references_found<'a>(
-    format: Format,
-    references: &'a [u8],
+    case: Case,
     correction: &'a [u8],
-    events: &[u8],
     levels: &mut [u32; layout::MOST_EVENTS],
     corrects: &mut [u32; layout::MOST_EVENTS],
 ) -> bool
-    requires { InOrder format references.now × InOrder format (correct_references correction.now references.now) × ((events_in format events.now).count ≤ most_events) }
-    ensures value { result ≡ references_found (references_in format references.now)
-        (references_in format (correct_references correction.now references.now)) (events_in format events.now) }
-    ensures levels_found { result ≡ true → Holds (events_in format events.now).count levels.new
-        (bid_level (references_in format references.now) (events_in format events.now)) }
-    ensures corrects_found { result ≡ true → Holds (events_in format events.now).count corrects.new
-        (correct_level (references_in format (correct_references correction.now references.now)) (events_in format events.now)) }
+    requires { InOrder case.format case.references.now × InOrder case.format (correct_references correction.now case.references.now) × ((events_of case).count ≤ most_events) }
+    ensures value { result ≡ references_found (references_in case.entry.format case.entry.references.now)
+        (references_in case.entry.format (correct_references correction.now case.entry.references.now)) (events_of case.entry) }
+    ensures levels_found { result ≡ true → Holds (events_of case.entry).count levels.new
+        (bid_level (references_in case.entry.format case.entry.references.now) (events_of case.entry)) }
+    ensures corrects_found { result ≡ true → Holds (events_of case.entry).count corrects.new
+        (correct_level (references_in case.entry.format (correct_references correction.now case.entry.references.now)) (events_of case.entry)) }
 {
-    let correct = correct_references(correction, references);
+    let correct = correct_references(correction, case.references);
     let corrected = correction.len() != 0;
     let own: &mut [u32] = levels;
     let other: &mut [u32] = corrects;
-    let n = event_count(format, events);
-    let mut fine = true;
-    let mut i = 0;
-    while i < n {
-        let event = event_levels(format, references, correct, corrected, events, i);
-        let found = event.found;
-        own[i] = event.level;
-        other[i] = event.correct;
-        fine = fine & found;
-        i += 1;
+    for i in 0..case.event_count() {
+        let Some(found) = event_levels(case, correct, corrected, i) else {
+            return false;
+        };
+        own[i] = found.level;
+        other[i] = found.correct;
     }
-    fine
+    true
 }

@@ -6,7 +6,6 @@ ghost use Rattle.casefile.specs.Layout.{most_hours};
 ghost use Rattle.hour_masks.specs.StageHours.{either_over, over_shares, withheld_hour, dispatch_hour};
 
 use crate::columns::{hours_over, sums_over};
-use binary::numbers::smaller;
 use casefile::layout;
 use tariff::conduct_tests;
 use tariff::conduct_tests::{group_limit, unit_limit};
@@ -50,7 +49,7 @@ fn over_shares(
         column,
         sums,
         unit_line(unit, false),
-        smaller(group, group_limit(false)),
+        group.min(group_limit(false)),
     );
     if tight == 0 {
         return far;
@@ -59,7 +58,7 @@ fn over_shares(
         column,
         sums,
         unit_line(unit, true),
-        smaller(group, group_limit(true)),
+        group.min(group_limit(true)),
     );
     far | (near & tight)
 }

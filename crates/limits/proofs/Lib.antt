@@ -6,3 +6,4 @@ pub mod LimitLaws
 pub mod SectionLaws
 pub mod AcceptedLaws
 pub mod RunLaws
+pub mod NumberLaws

@@ -2,7 +2,8 @@
 use Prim.Native.Nat.{ℕ, zero, suc, ◌+◌, ◌≤◌, ◌<◌}
 use mathlib.Core.Bool.{Bool, true, false, cond}
 use mathlib.Core.List.{List, [], ◌∷◌}
-use mathlib.Core.Path.{◌≡◌, refl}
+use mathlib.Core.Path.{◌≡◌, refl, sym, ap, ◌∙◌}
+use Rattle.std.proofs.Common.{Result, Ok, Err, IsErrAnd}
 use native.Mathlib.Nat.{suc-ne-zero}
 use native.Mathlib.Omega.{arith}
 use lib.Dec.{leb, eqb, lit<}
@@ -13,7 +14,10 @@ use Rattle.casefile.specs.declared.layout.Format.{Format}
 use Rattle.casefile.specs.Layout.{section_count, header_width, longest_file}
 use Rattle.casefile.specs.Decode.{format_in, offset_of, length_of, section_of, FollowOn, HasSection, units_in, references_in, past_in, events_in}
 use Rattle.casefile.specs.Lookup.{correct_references}
-use Rattle.limits.specs.Refusal.{length_fine, version_fine, sections_fine, pairs_fine, sizes_fine, numbers_fine, units_fine, references_fine, correction_fine, past_fine, events_fine, days_fine, periods_fine, order_fine, events_listed, amounts_fine, references_found, rows_fine, Limit, header_limits, record_limits, field_limits, unless, first_broken, refusal}
+use Rattle.limits.specs.Numbers.{refusal_number, refusal_of, number_in, answered}
+use Rattle.limits.specs.declared.refusal.Refusal.{Refusal}
+use Rattle.limits.specs.declared.refusal.Refusal.TheVariants.{Length, Version, SectionCount, Offsets, SectionSizes, Numbers, Units, References, Correction, Past, EventFields, Days, Periods, EventOrder, UnlistedUnit, AboveCapability, NoReference, RowsTooShort}
+use Rattle.limits.specs.Refusal.{length_fine, version_fine, sections_fine, pairs_fine, sizes_fine, numbers_fine, units_fine, references_fine, correction_fine, past_fine, events_fine, days_fine, periods_fine, order_fine, events_listed, amounts_fine, references_found, rows_fine, Limit, limits, header_limits, record_limits, field_limits, unless, first_broken, refusal}
 use Rattle.limits.specs.StageRefusal.{header_refusal, records_refusal, fields_refusal, found_refusal}
 
 -- ---- one number of the chain
@@ -181,3 +185,66 @@ has_section f h k l = record { known = l; header = header_long f h; inside = go 
     go (suc (suc zero)) l p = omega arith
     go (suc (suc (suc zero))) l p = omega arith
     go (suc (suc (suc (suc k)))) l p = absurd (omega arith)
+
+-- ---- the refusals and their numbers
+
+pub refusal_of_number : (r : Refusal) → refusal_of (refusal_number r) ≡ r
+refusal_of_number Length = refl
+refusal_of_number Version = refl
+refusal_of_number SectionCount = refl
+refusal_of_number Offsets = refl
+refusal_of_number SectionSizes = refl
+refusal_of_number Numbers = refl
+refusal_of_number Units = refl
+refusal_of_number References = refl
+refusal_of_number Correction = refl
+refusal_of_number Past = refl
+refusal_of_number EventFields = refl
+refusal_of_number Days = refl
+refusal_of_number Periods = refl
+refusal_of_number EventOrder = refl
+refusal_of_number UnlistedUnit = refl
+refusal_of_number AboveCapability = refl
+refusal_of_number NoReference = refl
+refusal_of_number RowsTooShort = refl
+
+pub refusal_not_0 : (r : Refusal) → refusal_number r ≡ 0 → ⊥
+refusal_not_0 r z = go r (sym (refusal_of_number r) ∙ ap refusal_of z) z
+  where
+    go : (r : Refusal) → r ≡ RowsTooShort → refusal_number r ≡ 0 → ⊥
+    go r e z = let n : ◌≡◌ {A = ℕ} 15 0 = sym (ap refusal_number e) ∙ z in omega arith
+
+-- an answer is the one that its number stands for
+pub answered_is : (r : Result (Unit {0}) Refusal) (n : ℕ) → number_in r ≡ n → r ≡ answered n
+answered_is (Ok tt) n e = rw (← e) refl
+answered_is (Err r) n e = rw (← e, ne_eqb _ _ (refusal_not_0 r), refusal_of_number r) refl
+
+-- every number of the table is that of a refusal
+abbrev pub Tabled : List Limit → Type 0
+Tabled [] = Unit {0}
+Tabled (l ∷ ls) = (refusal_number (refusal_of l.number) ≡ l.number) × Tabled ls
+
+pub tabled_number : (ls : List Limit) → Tabled ls → (first_broken ls 0 ≡ 0 → ⊥) → refusal_number (refusal_of (first_broken ls 0)) ≡ first_broken ls 0
+tabled_number [] t ne = absurd (ne refl)
+tabled_number (l ∷ ls) t ne = go l.met ne (tabled_number ls t.1)
+  where
+    go : (met : Bool) → (unless met l.number (first_broken ls 0) ≡ 0 → ⊥)
+        → ((first_broken ls 0 ≡ 0 → ⊥) → refusal_number (refusal_of (first_broken ls 0)) ≡ first_broken ls 0)
+        → refusal_number (refusal_of (unless met l.number (first_broken ls 0))) ≡ unless met l.number (first_broken ls 0)
+    go true ne rest = rest ne
+    go false ne rest = t.0
+
+pub number_stands : (f k : List ℕ) (n : ℕ) → (refusal f k n ≡ 0 → ⊥) → refusal_number (refusal_of (refusal f k n)) ≡ refusal f k n
+unfolding refusal
+number_stands f k n ne =
+    tabled_number (limits f k n)
+    (refl, (refl, (refl, (refl, (refl, (refl, (refl, (refl, (refl, (refl, (refl, (refl, (refl, (refl, (refl, (refl, (refl, (refl, tt)))))))))))))))))) ne
+
+-- what `?` hands on
+pub err_number : {A : Type 0} (r : Result A Refusal) (f : Refusal) → IsErrAnd r (λ e. e ≡ f) → number_in r ≡ refusal_number f
+err_number (Ok x) f h = absurd h
+err_number (Err e) f h = ap refusal_number h
+
+pub err_is : {A : Type 0} (r : Result A Refusal) (f : Refusal) → IsErrAnd r (λ e. e ≡ f) → r ≡ Err f
+err_is (Ok x) f h = absurd h
+err_is (Err e) f h = ap Err h

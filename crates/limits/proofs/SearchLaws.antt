@@ -89,7 +89,7 @@ module _ (key : ℕ → ℕ) (n target p : ℕ) (rise : Rising key n) (b : Betwe
 -- ---- a unit by its number
 
 module _ (u : Units) (number : ℕ) (rise : Rising u.number u.count) (p : ℕ) (b : Between u.number u.count number p p) where
-  unit_place : is_listed u number ≡ true → place_of u number ≡ p
+  pub unit_place : is_listed u number ≡ true → place_of u number ≡ p
   unit_place h = same_place u.number u.count number p rise b (place_of u number) (listed_place u number h) (listed_number u number h)
 
   unit_here : p < u.count → eqb (u.number p) number ≡ true → is_listed u number ≡ true

@@ -1,3 +1,4 @@
+pub mod Numbers
 pub mod Refusal
 pub mod StageLookup
 pub mod StageRefusal

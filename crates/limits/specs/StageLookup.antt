@@ -1,12 +1,11 @@
 -- What the search for a unit or a reference leans on, records in order (limits 6 to 8), and what it finds.
-use Rattle.std.specs.Prelude.{ℕ, ◌≤◌, ◌<◌, Bool, cond, ◌&&◌, List, ◌≡◌, eqb}
+use Rattle.std.specs.Prelude.{ℕ, ◌≤◌, ◌<◌, Bool, cond, ◌&&◌, List, ◌≡◌, eqb, Option, Some, None}
 use Rattle.casefile.specs.declared.layout.Format.{Format}
 use Rattle.casefile.specs.Case.{Units, References, Events}
 use Rattle.casefile.specs.Layout.{reference_width}
 use Rattle.casefile.specs.Decode.{record_at, units_in, references_in, reference_spare_fine}
-use Rattle.casefile.specs.Lookup.{is_listed, place_of, level_of, reads_correct, reference_key}
+use Rattle.casefile.specs.Lookup.{is_listed, place_of, has_reference, level_of, reads_correct, reference_key}
 use Rattle.limits.specs.Refusal.{rises, reference_fields_fine}
-use Rattle.limits.specs.declared.lookup.Place.{Place}
 
 -- keys strictly rise below n
 abbrev pub Rising : (key : ℕ → ℕ) (n : ℕ) → Type 0
@@ -27,9 +26,16 @@ pub record Between (key : ℕ → ℕ) (n target lo hi : ℕ) : Type 0 where
   pub before : (j : ℕ) → j < lo → key j < target
   pub after : (j : ℕ) → hi ≤ j → j < n → target ≤ key j
 
--- what the search for a unit's number finds: whether it is listed, and its place
-abbrev pub IsPlace : Units → (number : ℕ) → Place → Type 0
-IsPlace u number p = (p.listed ≡ is_listed u number) × (p.at ≡ place_of u number)
+-- what the search for a unit's number finds: its place, where it is listed
+unfoldable pub place_in : Units → (number : ℕ) → Option ℕ
+place_in u number = cond (is_listed u number) (Some (place_of u number)) None
+
+abbrev pub IsPlace : Units → (number : ℕ) → Option ℕ → Type 0
+IsPlace u number p = p ≡ place_in u number
+
+-- what the search for a reference finds: its level, where it is there
+unfoldable pub level_in : References → (unit component : ℕ) → Option ℕ
+level_in r unit component = cond (has_reference r unit component) (Some (level_of r unit component)) None
 
 -- event i is a bid on a component that reads c
 unfoldable pub reads_level : Events → ℕ → Bool

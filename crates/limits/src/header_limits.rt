@@ -1,10 +1,11 @@
 // The header: limits 1 to 5.
 ghost use Rattle.std.specs.Prelude.{◌≡◌, ◌≤◌, ◌<◌, length};
 ghost use Rattle.casefile.specs.Layout.{header_width};
+ghost use Rattle.limits.specs.Numbers.{number_in};
 ghost use Rattle.limits.specs.Refusal.{pairs_fine, sizes_fine, size_fine};
 ghost use Rattle.limits.specs.StageRefusal.{header_refusal};
 
-use crate::refusal::unless;
+use crate::refusal::Refusal;
 use casefile::header::{format_of, length_of, offset_of, sections_of};
 use casefile::layout;
 use casefile::layout::widths_of;
@@ -52,24 +53,30 @@ fn sizes_fine(file: &[u8]) -> bool
         & size_fine(events, w.event_width, layout::MOST_EVENTS)
 }
 
-// The number of the first limit of the header that is broken, or 0.
-pub fn header_refusal(file: &[u8]) -> u8
-    ensures { result ≡ header_refusal file.now 0 }
+// Held to the limits of the header.
+pub fn header_refusal(file: &[u8]) -> Result<(), Refusal>
+    ensures { number_in result ≡ header_refusal file.now 0 }
 {
     if file.len() < layout::HEADER_WIDTH {
-        return 1;
+        return Err(Refusal::Length);
     }
     if layout::LONGEST_FILE < file.len() {
-        return 1;
+        return Err(Refusal::Length);
     }
-    let format = format_of(file);
-    let sections = sections_of(file);
-    let pairs = pairs_fine(file);
-    let sizes = sizes_fine(file);
-    let from_5 = unless(sizes, 5, 0);
-    let from_4 = unless(pairs, 4, from_5);
-    let from_3 = unless(sections == layout::SECTION_COUNT, 3, from_4);
-    let version = format.version;
+    let version = format_of(file).version;
     let known = (version == layout::FIRST_VERSION) | (version == layout::SECOND_VERSION);
-    unless(known, 2, from_3)
+    if !known {
+        return Err(Refusal::Version);
+    }
+    let sections = sections_of(file);
+    if sections != layout::SECTION_COUNT {
+        return Err(Refusal::SectionCount);
+    }
+    if !pairs_fine(file) {
+        return Err(Refusal::Offsets);
+    }
+    if !sizes_fine(file) {
+        return Err(Refusal::SectionSizes);
+    }
+    Ok(())
 }

@@ -13,7 +13,8 @@ use Rattle.tariff.specs.declared.threshold.Threshold.{Threshold}
 use Rattle.tariff.specs.Threshold.{threshold_of}
 use Rattle.tariff.specs.ConductTests.{bid_test}
 use Rattle.tariff.specs.Ranges.{highest_average_price, most_constrained_hours, highest_component, highest_market, highest_price_reference, highest_other_reference, reference_in_range, highest_price_bid, highest_other_bid, bid_in_range}
-use Rattle.calls.specs.declared.answers.Figure.{Figure}
+use Rattle.std.specs.Prelude.{Result}
+use Rattle.calls.specs.declared.answers.Refusal.{Refusal}
 use Rattle.calls.specs.Answers.{Answer, refused, given, figure_answer, figure_of}
 use Rattle.calls.specs.OutOfRange.{bad_reference, bad_unit}
 use Rattle.calls.proofs.AnswerLaws.{figure_answered}
@@ -203,8 +204,8 @@ promised k r market tight p H l = go (bad_line k r market p H) refl
         let x = arguments k r market p H f in
         subst (IsLine k r market tight p H) (ap figure e) (is_line k r market tight p H x.0 x.1)
 
--- the same of the call's enum
-pub answer_promised : (f : Figure) (k r market : ℕ) (tight : Bool) (p H : ℕ) → f ≡ figure_of (line_answer k r market tight p H)
+-- the same of the call's result
+pub answer_promised : (f : Result ℕ Refusal) (k r market : ℕ) (tight : Bool) (p H : ℕ) → f ≡ figure_of (line_answer k r market tight p H)
     → Promised k r market tight p H (figure_answer f)
 answer_promised f k r market tight p H e l g =
     promised k r market tight p H l (sym (figure_answered (line_answer k r market tight p H)) ∙ sym (ap figure_answer e) ∙ g)

@@ -5,8 +5,8 @@ ghost use Rattle.line.specs.BidLine.{line_of};
 ghost use Rattle.line.specs.LineCall.{bad_line, line_answer, Promised};
 
 use crate::open_line::open_line;
-use binary::numbers::{choose_u32, smaller};
-use calls::answers::Figure;
+use binary::numbers::choose;
+use calls::answers::{Refusal, refuse_if};
 use calls::out_of_range::{bad_reference, bad_unit};
 use tariff::ranges;
 
@@ -29,14 +29,15 @@ fn cut_line(
         average_price,
         constrained_hours,
     );
-    let highest = choose_u32(
+    let highest = choose(
         component <= 2,
         ranges::HIGHEST_PRICE_BID,
         ranges::HIGHEST_OTHER_BID,
     );
-    smaller(open, highest as u64)
+    open.min(highest as u64)
 }
 
+// Any argument out of its range: one bool, since the line has one number for all of them.
 fn bad_line(
     component: u8,
     reference: u32,
@@ -59,20 +60,19 @@ pub fn line(
     tight: bool,
     average_price: u32,
     constrained_hours: u16,
-) -> Figure
+) -> Result<u64, Refusal>
     ensures value { result ≡ figure_of (line_answer component reference market tight average_price constrained_hours) }
     ensures promised { Promised component reference market tight average_price constrained_hours (figure_answer result) }
 {
-    if bad_line(
+    let bad = bad_line(
         component,
         reference,
         market,
         average_price,
         constrained_hours,
-    ) {
-        return Figure::Refused(16);
-    }
-    Figure::Value(cut_line(
+    );
+    refuse_if(bad, Refusal::LINE)?;
+    Ok(cut_line(
         component,
         reference,
         market,

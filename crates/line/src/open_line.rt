@@ -2,7 +2,7 @@
 ghost use Rattle.std.specs.Prelude.{◌≡◌, ◌≤◌};
 ghost use Rattle.line.specs.OpenLine.{lower_line, clause_asked, constrained_line, energy_line, percent_line, time_line, maximum_line, open_line};
 
-use binary::numbers::{difference, product, smaller};
+use binary::numbers::product;
 use tariff::conduct_tests;
 use tariff::threshold::Threshold;
 
@@ -13,12 +13,9 @@ fn lower_line(t: Threshold, reference: u32) -> u64
     let percent = t.percent;
     let step = t.step;
     let floor = t.floor;
-    let lower = smaller(
-        product(percent, reference) / conduct_tests::WHOLE,
-        step as u64,
-    );
+    let lower = (product(percent, reference) / conduct_tests::WHOLE).min(step as u64);
     let above = (reference as u64) + lower;
-    let below = difference(floor as u64, 1);
+    let below = (floor as u64).saturating_sub(1);
     if below <= above { above } else { below }
 }
 
@@ -52,10 +49,7 @@ fn energy_line(
 {
     let lower = lower_line(t, reference);
     if clause_asked(market, tight, constrained_hours) {
-        return smaller(
-            lower,
-            constrained_line(reference, average_price, constrained_hours),
-        );
+        return lower.min(constrained_line(reference, average_price, constrained_hours));
     }
     lower
 }

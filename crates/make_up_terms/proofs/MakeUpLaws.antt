@@ -74,7 +74,7 @@ correct_read_is c correct i = refl
 abbrev terms : (sum : ℕ) (hours : List ℕ) → MakeUpTerms
 terms x l = record { sum = x; hours = l }
 
-zeros : replicate most_hours 0 ≡ list_to most_hours (λ (h : ℕ). 0)
+zeros : replicate {A = ℕ} most_hours 0 ≡ list_to most_hours (λ (h : ℕ). 0)
 unfolding list_to
 zeros = refl
 

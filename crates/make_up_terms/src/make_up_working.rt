@@ -3,8 +3,9 @@ ghost use Rattle.std.specs.Prelude.{true, ◌≡◌, ◌*◌, ◌≤◌, ◌<◌
 ghost use Rattle.binary.specs.Bounded.{mask_to};
 ghost use Rattle.binary.specs.Lists.{list_to, Holds};
 ghost use Rattle.casefile.specs.Layout.{cell_width, most_hours};
-ghost use Rattle.casefile.specs.Decode.{events_in, units_in, decode};
+ghost use Rattle.casefile.specs.Decode.{decode};
 ghost use Rattle.casefile.specs.Lookup.{bid_level, unit_of};
+ghost use Rattle.casefile.specs.Sections.{units_of, events_of};
 ghost use Rattle.limits.specs.Refusal.{events_fine};
 ghost use Rattle.limits.specs.StageChecked.{AcceptedFile};
 ghost use Rattle.default_bids.specs.StageFigures.{MegawattsFine, tenths_at};
@@ -12,13 +13,12 @@ ghost use Rattle.conduct.specs.Flags.{flag_mask};
 ghost use Rattle.make_up_terms.specs.MakeUpWorking.{refused_make_up, make_up_working_of};
 ghost use Rattle.make_up_terms.specs.StageMakeUp.{restored_in, restored_by, terms_by, make_up_working_in};
 
+use binary::bounded::{list_to, mask_to};
 use binary::masks::bit_of;
-use binary::numbers::choose_u32;
+use binary::numbers::choose;
 use case_check::check::check_into;
-use casefile::events::{event_at, event_cells, event_count};
-use casefile::header::{format_of, section};
+use casefile::case::Case;
 use casefile::layout;
-use casefile::layout::Format;
 use conduct::flags::find_flags;
 use default_bids::bids::failing_with;
 use default_bids::make_up::{event_make_up, hour_tenths, sum_tenths};
@@ -50,37 +50,29 @@ pub struct MakeUpTerms {
 fn passing_hours(mitigated: u32, failing: u32) -> u32
     ensures { result ≡ mask_to most_hours (restored_in mitigated failing) }
 {
-    let mut mask: u32 = 0;
-    let mut weight: u32 = 1;
-    let mut h = 0;
-    while h < layout::HOURS {
+    mask_to(layout::HOURS, |h| {
         let held = bit_of(mitigated, h);
         let fails = bit_of(failing, h);
-        mask += choose_u32(held & !fails, weight, 0);
-        weight *= 2;
-        h += 1;
-    }
-    mask
+        held & !fails
+    })
 }
 
 // The mitigated hours of event i whose bid is in force again, where c restores bids.
 fn restored_mask(
-    format: Format,
-    units: &[u8],
-    events: &[u8],
+    case: Case,
     place: usize,
     level: u32,
     correct: u32,
     mitigated: u32,
     i: usize,
 ) -> u32
-    requires { (i < (events_in format events.now).count) × (place < (units_in format units.now).count) }
-    ensures { result ≡ restored_by format units.now events.now place level correct mitigated i }
+    requires { (i < (events_of case).count) × (place < (units_of case).count) }
+    ensures { result ≡ restored_by case.entry.format case.entry.units.now case.entry.events.now place level correct mitigated i }
 {
-    let event = event_at(format, events, i);
+    let event = case.event_at(i);
     let component = event.component;
     if restores(component, level, correct) {
-        let failing = failing_with(format, units, events, place, correct, i);
+        let failing = failing_with(case, place, correct, i);
         return passing_hours(mitigated, failing);
     }
     0
@@ -90,31 +82,19 @@ fn hour_make_ups(cells: &[u8], correct: u32, mitigated: u32) -> [u64; layout::HO
     requires { (cell_width * most_hours ≤ length cells.now) × MegawattsFine cells.now }
     ensures { result ≡ list_to most_hours (tenths_at cells.now correct mitigated) }
 {
-    let mut hours = [0u64; layout::HOURS];
-    let mut h = 0;
-    while h < layout::HOURS {
-        hours[h] = hour_tenths(cells, h, correct, mitigated);
-        h += 1;
-    }
-    hours
+    list_to(|h| hour_tenths(cells, h, correct, mitigated))
 }
 
 // The terms of event i; component 0 alone has some.
-fn make_up_terms(
-    format: Format,
-    events: &[u8],
-    i: usize,
-    correct: u32,
-    mitigated: u32,
-) -> MakeUpTerms
-    requires { (i < (events_in format events.now).count) × (events_fine format events.now ≡ true) }
-    ensures { result ≡ terms_by format events.now i correct mitigated }
+fn make_up_terms(case: Case, i: usize, correct: u32, mitigated: u32) -> MakeUpTerms
+    requires { (i < (events_of case).count) × (events_fine case.format case.events.now ≡ true) }
+    ensures { result ≡ terms_by case.entry.format case.entry.events.now i correct mitigated }
 {
-    let event = event_at(format, events, i);
+    let event = case.event_at(i);
     let kind = event.kind;
     let component = event.component;
     if (kind == 4) & (component == 0) {
-        let cells = event_cells(format, events, i);
+        let cells = case.event_cells(i);
         let sum = sum_tenths(cells, correct, mitigated);
         let hours = hour_make_ups(cells, correct, mitigated);
         return MakeUpTerms { sum, hours };
@@ -138,13 +118,11 @@ fn working_by(
     requires place_found { (place ≡ unit_of (decode file.now) i) × (level ≡ bid_level (decode file.now).references (decode file.now).events i) × (flags ≡ flag_mask (decode file.now) i) }
     ensures { result ≡ make_up_working_in file.now correct i }
 {
-    let format = format_of(file);
-    let units = section(file, 0);
-    let events = section(file, 3);
-    let mitigated = mitigated_mask(format, events, i, flags);
-    let restored = restored_mask(format, units, events, place, level, correct, mitigated, i);
-    let terms = make_up_terms(format, events, i, correct, mitigated);
-    let make_up = event_make_up(format, events, i, level, correct, mitigated);
+    let case = Case::of(file);
+    let mitigated = mitigated_mask(case, i, flags);
+    let restored = restored_mask(case, place, level, correct, mitigated, i);
+    let terms = make_up_terms(case, i, correct, mitigated);
+    let make_up = event_make_up(case, i, level, correct, mitigated);
     let hours = terms.hours;
     MakeUpWorking {
         number: 0,
@@ -199,7 +177,7 @@ pub fn make_up_working<'a>(file: &'a [u8], correction: &'a [u8], event: usize) -
     let mut places = [0usize; layout::MOST_EVENTS];
     let mut levels = [0u32; layout::MOST_EVENTS];
     let mut corrects = [0u32; layout::MOST_EVENTS];
-    let number = check_into(
+    let checked = check_into(
         file,
         correction,
         layout::MOST_ROWS,
@@ -207,11 +185,11 @@ pub fn make_up_working<'a>(file: &'a [u8], correction: &'a [u8], event: usize) -
         &mut levels,
         &mut corrects,
     );
-    if number != 0 {
-        return refused_make_up(number);
+    if let Err(refusal) = checked {
+        return refused_make_up(u8::from(refusal));
     }
-    let events = section(file, 3);
-    if event < event_count(format_of(file), events) {
+    let case = Case::of(file);
+    if event < case.event_count() {
         return working_at(file, &places, &levels, &corrects, event);
     }
     refused_make_up(10)

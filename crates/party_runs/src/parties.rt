@@ -2,25 +2,24 @@
 ghost use Rattle.std.specs.Prelude.{true, [], ◌≡◌, ◌-◌, ◌≤◌, ◌<◌};
 ghost use Rattle.binary.specs.Lists.{first_from, Holds};
 ghost use Rattle.casefile.specs.Layout.{most_events};
-ghost use Rattle.casefile.specs.Decode.{units_in, events_in, case_in};
+ghost use Rattle.casefile.specs.Decode.{case_in};
 ghost use Rattle.casefile.specs.Lookup.{unit_of, group_of};
+ghost use Rattle.casefile.specs.Sections.{units_of, events_of};
 ghost use Rattle.limits.specs.Refusal.{events_listed};
 ghost use Rattle.party_runs.specs.StageParties.{same_run, RunsTogether, RunStart, RunEnd, leader_of, same_group, leader_in};
 
-use binary::numbers::choose_usize;
-use casefile::events::{event_at, event_count};
+use binary::numbers::choose;
+use casefile::case::Case;
 use casefile::layout;
-use casefile::layout::Format;
 use casefile::records::place_before;
-use casefile::units::unit_at;
 
 // Whether event j is of event i's day, kind and market.
-fn same_run(format: Format, events: &[u8], i: usize, j: usize) -> bool
-    requires { (i < (events_in format events.now).count) × (j < (events_in format events.now).count) }
-    ensures { result ≡ same_run (events_in format events.now) i j }
+fn same_run(case: Case, i: usize, j: usize) -> bool
+    requires { (i < (events_of case).count) × (j < (events_of case).count) }
+    ensures { result ≡ same_run (events_of case.entry) i j }
 {
-    let event = event_at(format, events, i);
-    let other = event_at(format, events, j);
+    let event = case.event_at(i);
+    let other = case.event_at(j);
     let same_kind = other.kind == event.kind;
     let same_day = other.day == event.day;
     let same_market = other.market == event.market;
@@ -28,59 +27,53 @@ fn same_run(format: Format, events: &[u8], i: usize, j: usize) -> bool
 }
 
 // Where the run of event i ends.
-pub fn run_end(format: Format, events: &[u8], i: usize) -> usize
-    requires in_range { i < (events_in format events.now).count }
-    requires runs_together { RunsTogether (events_in format events.now) }
-    ensures { RunEnd (events_in format events.now) i result }
+pub fn run_end(case: Case, i: usize) -> usize
+    requires in_range { i < (events_of case).count }
+    requires runs_together { RunsTogether (events_of case) }
+    ensures { RunEnd (events_of case.entry) i result }
 {
-    let n = event_count(format, events);
-    let mut end = i + 1;
-    while end < n {
-        if !same_run(format, events, i, end) {
+    let n = case.event_count();
+    for end in i + 1..n {
+        if !same_run(case, i, end) {
             return end;
         }
-        end += 1;
     }
-    end
+    n
 }
 
 // Where the run of event i begins, from where that of the event before it does.
-fn run_start(format: Format, events: &[u8], i: usize, start: usize) -> usize
-    requires in_range { i < (events_in format events.now).count }
-    requires runs_together { RunsTogether (events_in format events.now) }
-    requires run_start { RunStart (events_in format events.now) (i - 1) start }
-    ensures { RunStart (events_in format events.now) i result }
+fn run_start(case: Case, i: usize, start: usize) -> usize
+    requires in_range { i < (events_of case).count }
+    requires runs_together { RunsTogether (events_of case) }
+    requires run_start { RunStart (events_of case) (i - 1) start }
+    ensures { RunStart (events_of case.entry) i result }
 {
-    let goes_on = same_run(format, events, i, place_before(i));
-    choose_usize(goes_on, start, i)
+    let goes_on = same_run(case, i, place_before(i));
+    choose(goes_on, start, i)
 }
 
 // The group of the unit at a place.
-fn group_at(format: Format, units: &[u8], place: usize) -> u16
-    requires { place < (units_in format units.now).count }
-    ensures { result ≡ (units_in format units.now).group place }
+fn group_at(case: Case, place: usize) -> u16
+    requires { place < (units_of case).count }
+    ensures { result ≡ (units_of case.entry).group place }
 {
-    unit_at(format, units, place).group
+    case.unit_at(place).group
 }
 
 fn party_groups(
-    format: Format,
-    units: &[u8],
-    events: &[u8],
+    case: Case,
     places: &[usize; layout::MOST_EVENTS],
     groups: &mut [u16; layout::MOST_EVENTS],
 )
-    requires events_listed { events_listed (units_in format units.now) (events_in format events.now) ≡ true }
-    requires few_events { (events_in format events.now).count ≤ most_events }
-    requires places_found { Holds (events_in format events.now).count places.now (unit_of (case_in format units.now [] [] events.now)) }
-    ensures { Holds (events_in format events.now).count groups.new (group_of (case_in format units.now [] [] events.now)) }
+    requires events_listed { events_listed (units_of case) (events_of case) ≡ true }
+    requires few_events { (events_of case).count ≤ most_events }
+    requires places_found { Holds (events_of case).count places.now (unit_of (case_in case.format case.units.now [] [] case.events.now)) }
+    ensures { Holds (events_of case.entry).count groups.new (group_of (case_in case.entry.format case.entry.units.now [] [] case.entry.events.now)) }
 {
-    let n = event_count(format, events);
+    let n = case.event_count();
     let table: &mut [u16] = groups;
-    let mut i = 0;
-    while i < n {
-        table[i] = group_at(format, units, places[i]);
-        i += 1;
+    for i in 0..n {
+        table[i] = group_at(case, places[i]);
     }
 }
 
@@ -90,29 +83,21 @@ fn leader(groups: &[u16; layout::MOST_EVENTS], start: usize, i: usize) -> usize
     ensures { result ≡ first_from (i - start) start (same_group groups.now i) }
 {
     let group = groups[i];
-    let mut j = start;
-    while j < i {
+    for j in start..i {
         if groups[j] == group {
             return j;
         }
-        j += 1;
     }
-    j
+    i
 }
 
 // The leader of event i, whose run begins at `start`.
-fn event_leader(
-    format: Format,
-    events: &[u8],
-    groups: &[u16; layout::MOST_EVENTS],
-    start: usize,
-    i: usize,
-) -> usize
-    requires in_range { (i < (events_in format events.now).count) × (i < most_events) }
-    requires run_start { RunStart (events_in format events.now) i start }
-    ensures { result ≡ leader_in (events_in format events.now) groups.now i }
+fn event_leader(case: Case, groups: &[u16; layout::MOST_EVENTS], start: usize, i: usize) -> usize
+    requires in_range { (i < (events_of case).count) × (i < most_events) }
+    requires run_start { RunStart (events_of case) i start }
+    ensures { result ≡ leader_in (events_of case.entry) groups.now i }
 {
-    let event = event_at(format, events, i);
+    let event = case.event_at(i);
     let kind = event.kind;
     if kind == 4 {
         return i;
@@ -121,42 +106,37 @@ fn event_leader(
 }
 
 fn party_leaders(
-    format: Format,
-    events: &[u8],
+    case: Case,
     groups: &[u16; layout::MOST_EVENTS],
     leaders: &mut [usize; layout::MOST_EVENTS],
 )
-    requires few_events { (events_in format events.now).count ≤ most_events }
-    requires runs_together { RunsTogether (events_in format events.now) }
-    ensures { Holds (events_in format events.now).count leaders.new (leader_in (events_in format events.now) groups.now) }
+    requires few_events { (events_of case).count ≤ most_events }
+    requires runs_together { RunsTogether (events_of case) }
+    ensures { Holds (events_of case.entry).count leaders.new (leader_in (events_of case.entry) groups.now) }
 {
-    let n = event_count(format, events);
+    let n = case.event_count();
     let table: &mut [usize] = leaders;
     let mut start = 0;
-    let mut i = 0;
-    while i < n {
-        start = run_start(format, events, i, start);
-        table[i] = event_leader(format, events, groups, start, i);
-        i += 1;
+    for i in 0..n {
+        start = run_start(case, i, start);
+        table[i] = event_leader(case, groups, start, i);
     }
 }
 
 // The group of every event, and the leader of its party.
 pub fn find_parties(
-    format: Format,
-    units: &[u8],
-    events: &[u8],
+    case: Case,
     places: &[usize; layout::MOST_EVENTS],
     groups: &mut [u16; layout::MOST_EVENTS],
     leaders: &mut [usize; layout::MOST_EVENTS],
 )
-    requires events_listed { events_listed (units_in format units.now) (events_in format events.now) ≡ true }
-    requires few_events { (events_in format events.now).count ≤ most_events }
-    requires runs_together { RunsTogether (events_in format events.now) }
-    requires places_found { Holds (events_in format events.now).count places.now (unit_of (case_in format units.now [] [] events.now)) }
-    ensures grouped { Holds (events_in format events.now).count groups.new (group_of (case_in format units.now [] [] events.now)) }
-    ensures led { Holds (events_in format events.now).count leaders.new (leader_of (case_in format units.now [] [] events.now)) }
+    requires events_listed { events_listed (units_of case) (events_of case) ≡ true }
+    requires few_events { (events_of case).count ≤ most_events }
+    requires runs_together { RunsTogether (events_of case) }
+    requires places_found { Holds (events_of case).count places.now (unit_of (case_in case.format case.units.now [] [] case.events.now)) }
+    ensures grouped { Holds (events_of case.entry).count groups.new (group_of (case_in case.entry.format case.entry.units.now [] [] case.entry.events.now)) }
+    ensures led { Holds (events_of case.entry).count leaders.new (leader_of (case_in case.entry.format case.entry.units.now [] [] case.entry.events.now)) }
 {
-    party_groups(format, units, events, places, groups);
-    party_leaders(format, events, groups, leaders);
+    party_groups(case, places, groups);
+    party_leaders(case, groups, leaders);
 }

@@ -6,6 +6,7 @@ ghost use Rattle.casefile.specs.Layout.{cell_width, most_hours};
 ghost use Rattle.sanctions.specs.StageGiven.{SmallAmounts};
 ghost use Rattle.penalty_terms.specs.StageTerms.{term_in, loss_in, highest_term, SmallTerms, added_in};
 
+use binary::bounded::{list_to, sum_to};
 use casefile::layout;
 use sanctions::dispatch::hour_revenue;
 use sanctions::fuel::hour_energy;
@@ -31,13 +32,7 @@ pub fn hour_terms(kind: u8, cells: &[u8], mask: u32) -> [u64; layout::HOURS]
     requires small_amounts { (kind ≡ 1 → SmallAmounts cells.now) × (kind ≡ 3 → SmallAmounts cells.now) }
     ensures { (result ≡ list_to most_hours (term_in kind cells.now mask)) × SmallTerms result }
 {
-    let mut terms = [0u64; layout::HOURS];
-    let mut h = 0;
-    while h < layout::HOURS {
-        terms[h] = term_at(kind, cells, mask, h);
-        h += 1;
-    }
-    terms
+    list_to(|h| term_at(kind, cells, mask, h))
 }
 
 // The terms of the hours, added.
@@ -45,13 +40,7 @@ fn added(terms: [u64; layout::HOURS]) -> u64
     requires { SmallTerms terms }
     ensures { result ≡ sum_to most_hours (λ (h : ℕ). get_or terms h 0) }
 {
-    let mut sum: u64 = 0;
-    let mut h = 0;
-    while h < layout::HOURS {
-        sum += terms[h];
-        h += 1;
-    }
-    sum
+    sum_to(layout::HOURS, |h| terms[h])
 }
 
 // The same of an event of kind k, else 0.
@@ -81,11 +70,5 @@ pub fn hour_losses(kind: u8, cells: &[u8], mask: u32) -> [u64; layout::HOURS]
     requires { cell_width * most_hours ≤ length cells.now }
     ensures { result ≡ list_to most_hours (loss_in kind cells.now mask) }
 {
-    let mut losses = [0u64; layout::HOURS];
-    let mut h = 0;
-    while h < layout::HOURS {
-        losses[h] = loss_at(kind, cells, mask, h);
-        h += 1;
-    }
-    losses
+    list_to(|h| loss_at(kind, cells, mask, h))
 }

@@ -2,8 +2,9 @@
 ghost use Rattle.std.specs.Prelude.{◌≡◌, ◌≤◌, ◌<◌};
 ghost use Rattle.binary.specs.Lists.{Holds};
 ghost use Rattle.casefile.specs.Layout.{most_events};
-ghost use Rattle.casefile.specs.Decode.{events_in, decode};
+ghost use Rattle.casefile.specs.Decode.{decode};
 ghost use Rattle.casefile.specs.Lookup.{unit_of, bid_level};
+ghost use Rattle.casefile.specs.Sections.{events_of};
 ghost use Rattle.limits.specs.StageChecked.{AcceptedFile};
 ghost use Rattle.sanctions.specs.StageGiven.{FoundMasks, Sound};
 ghost use Rattle.sanctions.specs.StageTables.{sanction_of};
@@ -11,12 +12,10 @@ ghost use Rattle.penalty_terms.specs.PenaltyWorking.{penalty_working_at, refused
 ghost use Rattle.penalty_terms.specs.StageTerms.{fuel_in};
 
 use crate::hour_terms::{added_of, hour_losses, hour_terms};
-use binary::numbers::{choose_usize, difference};
+use binary::numbers::choose;
 use case_check::check::check_into;
-use casefile::events::{event_at, event_cells, event_count};
-use casefile::header::{format_of, section};
+use casefile::case::Case;
 use casefile::layout;
-use casefile::layout::Format;
 use conduct::flags::find_flags;
 use sanctions::fuel::party_day;
 use sanctions::penalties::sanction_at;
@@ -67,34 +66,27 @@ fn row_sanction(
     requires found_masks { FoundMasks (decode file.now) (decode file.now).events.count groups.now leaders.now masks.now }
     ensures { result ≡ sanction_of (decode file.now) row }
 {
-    let format = format_of(file);
-    let past = section(file, 2);
-    let events = section(file, 3);
+    let case = Case::of(file);
     let mut penalties = [0u64; layout::MOST_EVENTS];
-    let mut i = 0;
-    while i < row {
-        let sanction = sanction_at(format, past, events, groups, leaders, masks, &penalties, i);
+    for i in 0..row {
+        let sanction = sanction_at(case, groups, leaders, masks, &penalties, i);
         penalties[i] = sanction.penalty;
-        i += 1;
     }
-    sanction_at(
-        format, past, events, groups, leaders, masks, &penalties, row,
-    )
+    sanction_at(case, groups, leaders, masks, &penalties, row)
 }
 
 // The terms of the party-day that the row's event leads, under M.
 fn fuel_terms(
-    format: Format,
-    events: &[u8],
+    case: Case,
     leaders: &[usize; layout::MOST_EVENTS],
     masks: &[u32; layout::MOST_EVENTS],
     kind: u8,
     m: u8,
     row: usize,
 ) -> FuelTerms
-    requires in_range { (row < (events_in format events.now).count) × ((events_in format events.now).count ≤ most_events) × Sound format events.now leaders.now }
-    requires of_fuel { kind ≡ 3 → ((events_in format events.now).kind row ≡ 3) × (m ≤ 3) }
-    ensures { result ≡ fuel_in format events.now leaders.now masks.now kind m row }
+    requires in_range { (row < (events_of case).count) × ((events_of case).count ≤ most_events) × Sound case.format case.events.now leaders.now }
+    requires of_fuel { kind ≡ 3 → ((events_of case).kind row ≡ 3) × (m ≤ 3) }
+    ensures { result ≡ fuel_in case.entry.format case.entry.events.now leaders.now masks.now kind m row }
 {
     if kind != 3 {
         return FuelTerms {
@@ -105,14 +97,14 @@ fn fuel_terms(
             below: false,
         };
     }
-    let day = party_day(format, events, leaders, masks[row], row);
+    let day = party_day(case, leaders, masks[row], row);
     let gain = day.gain;
     let loss = day.loss;
-    let t = difference(day.rise, day.fall);
+    let t = day.rise.saturating_sub(day.fall);
     let x = fuel_charge(m, gain, loss, t);
     FuelTerms {
-        e_positive: difference(gain, loss),
-        e_negative: difference(loss, gain),
+        e_positive: gain.saturating_sub(loss),
+        e_negative: loss.saturating_sub(gain),
         t,
         x,
         below: x < LEAST_CHARGE,
@@ -131,15 +123,14 @@ fn working_of(
     requires found_masks { FoundMasks (decode file.now) (decode file.now).events.count groups.now leaders.now masks.now }
     ensures { result ≡ penalty_working_at (decode file.now) i }
 {
-    let format = format_of(file);
-    let events = section(file, 3);
-    let event = event_at(format, events, i);
+    let case = Case::of(file);
+    let event = case.event_at(i);
     let kind = event.kind;
-    let row = choose_usize(kind == 3, leaders[i], i);
+    let row = choose(kind == 3, leaders[i], i);
     let sanction = row_sanction(file, groups, leaders, masks, row);
     let multiplier = sanction.multiplier;
-    let fuel = fuel_terms(format, events, leaders, masks, kind, multiplier, row);
-    let cells = event_cells(format, events, i);
+    let fuel = fuel_terms(case, leaders, masks, kind, multiplier, row);
+    let cells = case.event_cells(i);
     let mask = masks[i];
     let hours = hour_terms(kind, cells, mask);
     PenaltyWorking {
@@ -210,7 +201,7 @@ pub fn penalty_working<'a>(file: &'a [u8], correction: &'a [u8], event: usize) -
     let mut places = [0usize; layout::MOST_EVENTS];
     let mut levels = [0u32; layout::MOST_EVENTS];
     let mut corrects = [0u32; layout::MOST_EVENTS];
-    let number = check_into(
+    let checked = check_into(
         file,
         correction,
         layout::MOST_ROWS,
@@ -218,11 +209,11 @@ pub fn penalty_working<'a>(file: &'a [u8], correction: &'a [u8], event: usize) -
         &mut levels,
         &mut corrects,
     );
-    if number != 0 {
-        return refused_penalty(number);
+    if let Err(refusal) = checked {
+        return refused_penalty(u8::from(refusal));
     }
-    let events = section(file, 3);
-    if event < event_count(format_of(file), events) {
+    let case = Case::of(file);
+    if event < case.event_count() {
         return working_at(file, &places, &levels, event);
     }
     refused_penalty(10)

@@ -3,7 +3,7 @@ use pencil_lines::call_lines;
 use std::io;
 
 pub fn withheld(rt: &impl Print) -> io::Result<()> {
-    call_lines::heading(rt, b"Withheld and dispatch\n")?;
+    println!(rt; "Withheld and dispatch")?;
     call_lines::withheld_fails(rt, 500, 5000, 500, 20000, false)?;
     call_lines::withheld_fails(rt, 501, 5000, 501, 20000, false)?;
     call_lines::withheld_fails(rt, 1000, 50000, 1000, 50000, false)?;
@@ -15,7 +15,7 @@ pub fn withheld(rt: &impl Print) -> io::Result<()> {
 }
 
 pub fn bids(rt: &impl Print) -> io::Result<()> {
-    call_lines::heading(rt, b"Bids\n")?;
+    println!(rt; "Bids")?;
     call_lines::bid(rt, 0, 625, 2500)?;
     call_lines::bid(rt, 0, 624, 2500)?;
     call_lines::bid(rt, 0, 5000, 15000)?;
@@ -39,10 +39,7 @@ fn other_bids(rt: &impl Print) -> io::Result<()> {
 }
 
 pub fn times(rt: &impl Print) -> io::Result<()> {
-    call_lines::heading(
-        rt,
-        b"Time increases together: start-up, minimum run, minimum down\n",
-    )?;
+    println!(rt; "Time increases together: start-up, minimum run, minimum down")?;
     call_lines::times_fail(rt, 120, 120, 120)?;
     call_lines::times_fail(rt, 121, 120, 120)?;
     call_lines::times_fail(rt, 181, 0, 4294967236)?;

@@ -3,7 +3,7 @@ use pencil_lines::call_lines;
 use std::io;
 
 pub fn spans(rt: &impl Print) -> io::Result<()> {
-    call_lines::heading(rt, b"Mitigated hours of component 1 Day-Ahead\n")?;
+    println!(rt; "Mitigated hours of component 1 Day-Ahead")?;
     call_lines::mitigated_span(rt, 1024, 8)?;
     call_lines::mitigated_span(rt, 1056, 8)?;
     call_lines::mitigated_span(rt, 1048576, 24)?;
@@ -12,7 +12,7 @@ pub fn spans(rt: &impl Print) -> io::Result<()> {
 }
 
 pub fn in_force(rt: &impl Print) -> io::Result<()> {
-    call_lines::heading(rt, b"Bids in force and make-up\n")?;
+    println!(rt; "Bids in force and make-up")?;
     call_lines::bid_in_force(rt, 0, 15001, 5000, false)?;
     call_lines::bid_in_force(rt, 0, 15001, 5000, true)?;
     call_lines::bid_in_force(rt, 0, 4294967196, 5000, true)?;

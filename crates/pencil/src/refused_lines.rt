@@ -3,10 +3,7 @@ use pencil_lines::call_lines;
 use std::io;
 
 pub fn reference_refusals(rt: &impl Print) -> io::Result<()> {
-    call_lines::heading(
-        rt,
-        b"Refused: 7, a reference out of its component's range\n",
-    )?;
+    println!(rt; "Refused: 7, a reference out of its component's range")?;
     call_lines::bid(rt, 2, 1000000, 0)?;
     call_lines::bid(rt, 0, 1000001, 0)?;
     call_lines::bid(rt, 1, 1000001, 0)?;
@@ -28,10 +25,7 @@ fn correct_refusals(rt: &impl Print) -> io::Result<()> {
 }
 
 pub fn bid_refusals(rt: &impl Print) -> io::Result<()> {
-    call_lines::heading(
-        rt,
-        b"Refused: 10, a bid, market, price or hours out of range\n",
-    )?;
+    println!(rt; "Refused: 10, a bid, market, price or hours out of range")?;
     call_lines::bid(rt, 0, 0, 4293967296)?;
     call_lines::bid(rt, 0, 0, 4293967295)?;
     call_lines::bid(rt, 1, 0, 1000001)?;
@@ -54,7 +48,7 @@ fn market_refusals(rt: &impl Print) -> io::Result<()> {
 }
 
 pub fn withheld_refusals(rt: &impl Print) -> io::Result<()> {
-    call_lines::heading(rt, b"Refused: 10, withheld and dispatch\n")?;
+    println!(rt; "Refused: 10, withheld and dispatch")?;
     call_lines::withheld_fails(rt, 0, 0, 0, 0, false)?;
     call_lines::withheld_fails(rt, 0, 50001, 0, 0, false)?;
     call_lines::withheld_fails(rt, 5001, 5000, 0, 0, false)?;
@@ -66,7 +60,7 @@ pub fn withheld_refusals(rt: &impl Print) -> io::Result<()> {
 }
 
 pub fn sanction_refusals(rt: &impl Print) -> io::Result<()> {
-    call_lines::heading(rt, b"Refused: 10, sanctions\n")?;
+    println!(rt; "Refused: 10, sanctions")?;
     call_lines::multiplier(rt, 456, 456)?;
     call_lines::multiplier(rt, 457, 1)?;
     call_lines::multiplier(rt, 0, 0)?;
@@ -79,41 +73,27 @@ pub fn sanction_refusals(rt: &impl Print) -> io::Result<()> {
 }
 
 fn megawatts(rt: &impl Print) -> io::Result<()> {
-    let a0 = [1u32];
-    let b0 = [1u32];
-    call_lines::withheld_penalty(rt, 3, &a0, &b0)?;
-    let a1 = [50001u32];
-    let b1 = [0u32];
-    call_lines::withheld_penalty(rt, 2, &a1, &b1)
+    call_lines::withheld_penalty(rt, 3, &[1], &[1])?;
+    call_lines::withheld_penalty(rt, 2, &[50001], &[0])
 }
 
 fn prices(rt: &impl Print) -> io::Result<()> {
-    let a0 = [1u32];
-    let b0 = [1000001u32];
-    call_lines::withheld_penalty(rt, 2, &a0, &b0)?;
-    let a1 = [1u32];
-    let b1 = [4293967295u32];
-    call_lines::withheld_penalty(rt, 2, &a1, &b1)
+    call_lines::withheld_penalty(rt, 2, &[1], &[1000001])?;
+    call_lines::withheld_penalty(rt, 2, &[1], &[4293967295])
 }
 
 fn hours(rt: &impl Print) -> io::Result<()> {
-    let a0 = [1u32, 1];
-    let b0 = [1u32];
-    call_lines::withheld_penalty(rt, 2, &a0, &b0)?;
-    let a1 = [0u32; 25];
-    let b1 = [0u32; 25];
-    call_lines::withheld_penalty(rt, 2, &a1, &b1)
+    call_lines::withheld_penalty(rt, 2, &[1, 1], &[1])?;
+    call_lines::withheld_penalty(rt, 2, &[0; 25], &[0; 25])
 }
 
 fn revenues(rt: &impl Print) -> io::Result<()> {
-    let b0 = [100000001u32];
-    call_lines::dispatch_penalty(rt, &b0)?;
-    let b1 = [0u32; 25];
-    call_lines::dispatch_penalty(rt, &b1)
+    call_lines::dispatch_penalty(rt, &[100000001])?;
+    call_lines::dispatch_penalty(rt, &[0; 25])
 }
 
 pub fn fuel_refusals(rt: &impl Print) -> io::Result<()> {
-    call_lines::heading(rt, b"Refused: 10, fuel and windows\n")?;
+    println!(rt; "Refused: 10, fuel and windows")?;
     call_lines::fuel_penalty(rt, 100000000000000, 64000000000, 3)?;
     call_lines::fuel_penalty(rt, 100000000000001, 0, 2)?;
     call_lines::fuel_penalty(rt, 18446644073709551615, 0, 2)?;
@@ -128,10 +108,7 @@ pub fn fuel_refusals(rt: &impl Print) -> io::Result<()> {
 }
 
 pub fn default_bid_refusals(rt: &impl Print) -> io::Result<()> {
-    call_lines::heading(
-        rt,
-        b"Refused: 10, mitigated hours, bids in force and make-up\n",
-    )?;
+    println!(rt; "Refused: 10, mitigated hours, bids in force and make-up")?;
     call_lines::mitigated_span(rt, 16777216, 0)?;
     call_lines::mitigated_span(rt, 1, 25)?;
     call_lines::bid_in_force(rt, 9, 0, 4000000000, true)?;

@@ -3,7 +3,7 @@ use pencil_lines::call_lines;
 use std::io;
 
 pub fn penalties(rt: &impl Print) -> io::Result<()> {
-    call_lines::heading(rt, b"Multipliers in halves, penalties in cents\n")?;
+    println!(rt; "Multipliers in halves, penalties in cents")?;
     call_lines::multiplier(rt, 4, 3)?;
     call_lines::multiplier(rt, 4, 4)?;
     call_lines::multiplier(rt, 2, 2)?;
@@ -14,28 +14,18 @@ pub fn penalties(rt: &impl Print) -> io::Result<()> {
 }
 
 fn one_hour(rt: &impl Print) -> io::Result<()> {
-    let a0 = [501u32];
-    let b0 = [4005u32];
-    call_lines::withheld_penalty(rt, 2, &a0, &b0)?;
-    let a1 = [501u32];
-    let b1 = [4294967196u32];
-    call_lines::withheld_penalty(rt, 2, &a1, &b1)
+    call_lines::withheld_penalty(rt, 2, &[501], &[4005])?;
+    call_lines::withheld_penalty(rt, 2, &[501], &[4294967196])
 }
 
 fn two_hours(rt: &impl Print) -> io::Result<()> {
-    let a0 = [501u32, 501];
-    let b0 = [4005u32, 4294963291];
-    call_lines::withheld_penalty(rt, 2, &a0, &b0)?;
-    let a1 = [1u32, 1];
-    let b1 = [5u32, 5];
-    call_lines::withheld_penalty(rt, 2, &a1, &b1)
+    call_lines::withheld_penalty(rt, 2, &[501, 501], &[4005, 4294963291])?;
+    call_lines::withheld_penalty(rt, 2, &[1, 1], &[5, 5])
 }
 
 fn revenues(rt: &impl Print) -> io::Result<()> {
-    let b0 = [1u32, 1];
-    call_lines::dispatch_penalty(rt, &b0)?;
-    let b1 = [1u32];
-    call_lines::dispatch_penalty(rt, &b1)
+    call_lines::dispatch_penalty(rt, &[1, 1])?;
+    call_lines::dispatch_penalty(rt, &[1])
 }
 
 fn fuel(rt: &impl Print) -> io::Result<()> {
@@ -48,7 +38,7 @@ fn fuel(rt: &impl Print) -> io::Result<()> {
 }
 
 pub fn windows(rt: &impl Print) -> io::Result<()> {
-    call_lines::heading(rt, b"Windows\n")?;
+    println!(rt; "Windows")?;
     // 1 September 2021, and 1 March and the day before
     call_lines::fuel_day_counts(rt, 7914, 7730)?;
     call_lines::fuel_day_counts(rt, 7914, 7729)?;

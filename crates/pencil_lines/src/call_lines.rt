@@ -1,22 +1,22 @@
 // One line of the table for each small public call: the arguments, and the answer.
-use crate::print;
+use crate::print::{Answer, Counts, Fails, Hours, Numbers, Times, Where};
 use bid_calls::default_bid_calls;
 use penalty_calls::sanction_calls;
 use std::io;
 use test_calls::conduct_calls;
 
-pub fn heading(rt: &impl Print, title: &[u8]) -> io::Result<()> {
-    print::text(rt, title)
+// A bid, from its word of 64 bits.
+fn signed(word: u64) -> i64 {
+    i64::from(((word % 4294967296) as u32).cast_signed())
 }
 
 // Day-Ahead, not tight.
 pub fn bid(rt: &impl Print, component: u8, reference: u32, bid: u32) -> io::Result<()> {
-    print::argument(rt, b"  component ", component as u64)?;
-    print::argument(rt, b", r ", reference as u64)?;
-    print::signed_argument(rt, b", bid ", bid)?;
-    print::fails(
-        rt,
-        conduct_calls::bid_fails(component, reference, bid, 0, false, 0, 0),
+    let fails = conduct_calls::bid_fails(component, reference, bid, 0, false, 0, 0);
+    println!(rt;
+        "  component {component}, r {reference}, bid {}: {}",
+        bid.cast_signed(),
+        Answer(fails.map(Fails))
     )
 }
 
@@ -30,24 +30,20 @@ pub fn bid_in_market(
     average_price: u32,
     constrained_hours: u16,
 ) -> io::Result<()> {
-    print::argument(rt, b"  component ", component as u64)?;
-    print::argument(rt, b", r ", reference as u64)?;
-    print::signed_argument(rt, b", bid ", bid)?;
-    print::argument(rt, b", market ", market as u64)?;
-    print::condition(rt, b", tight", tight)?;
-    print::argument(rt, b", Average Price ", average_price as u64)?;
-    print::argument(rt, b", H ", constrained_hours as u64)?;
-    print::fails(
-        rt,
-        conduct_calls::bid_fails(
-            component,
-            reference,
-            bid,
-            market,
-            tight,
-            average_price,
-            constrained_hours,
-        ),
+    let fails = conduct_calls::bid_fails(
+        component,
+        reference,
+        bid,
+        market,
+        tight,
+        average_price,
+        constrained_hours,
+    );
+    println!(rt;
+        "  component {component}, r {reference}, bid {}, market {market}{}, Average Price {average_price}, H {constrained_hours}: {}",
+        bid.cast_signed(),
+        Where(tight, "tight"),
+        Answer(fails.map(Fails))
     )
 }
 
@@ -57,12 +53,13 @@ pub fn times_fail(
     minimum_run: u32,
     minimum_down: u32,
 ) -> io::Result<()> {
-    print::signed_argument(rt, b"  increases ", start_up)?;
-    print::signed_argument(rt, b", ", minimum_run)?;
-    print::signed_argument(rt, b", ", minimum_down)?;
-    print::times(
-        rt,
-        conduct_calls::times_fail(start_up, minimum_run, minimum_down),
+    let times = conduct_calls::times_fail(start_up, minimum_run, minimum_down);
+    println!(rt;
+        "  increases {}, {}, {}: {}",
+        start_up.cast_signed(),
+        minimum_run.cast_signed(),
+        minimum_down.cast_signed(),
+        Answer(times.map(Times))
     )
 }
 
@@ -74,77 +71,85 @@ pub fn withheld_fails(
     g: u32,
     tight: bool,
 ) -> io::Result<()> {
-    print::argument(rt, b"  withheld ", a as u64)?;
-    print::argument(rt, b" of ", capability as u64)?;
-    print::argument(rt, b", S ", s as u64)?;
-    print::argument(rt, b", G ", g as u64)?;
-    print::condition(rt, b", tight", tight)?;
-    print::fails(
-        rt,
-        conduct_calls::withheld_fails(a, capability, s, g, tight),
+    let fails = conduct_calls::withheld_fails(a, capability, s, g, tight);
+    println!(rt;
+        "  withheld {a} of {capability}, S {s}, G {g}{}: {}",
+        Where(tight, "tight"),
+        Answer(fails.map(Fails))
     )
 }
 
 pub fn dispatch_fails(rt: &impl Print, a: u32, rate: u32, s: u32, tight: bool) -> io::Result<()> {
-    print::argument(rt, b"  undelivered ", a as u64)?;
-    print::argument(rt, b", response rate ", rate as u64)?;
-    print::argument(rt, b", S ", s as u64)?;
-    print::condition(rt, b", tight", tight)?;
-    print::fails(rt, conduct_calls::dispatch_fails(a, rate, s, tight))
+    let fails = conduct_calls::dispatch_fails(a, rate, s, tight);
+    println!(rt;
+        "  undelivered {a}, response rate {rate}, S {s}{}: {}",
+        Where(tight, "tight"),
+        Answer(fails.map(Fails))
+    )
 }
 
 pub fn multiplier(rt: &impl Print, n3: u32, n2: u32) -> io::Result<()> {
-    print::argument(rt, b"  N3 ", n3 as u64)?;
-    print::argument(rt, b", N2 ", n2 as u64)?;
-    print::figure(rt, sanction_calls::multiplier(n3, n2))
+    println!(rt;
+        "  N3 {n3}, N2 {n2}: {}",
+        Answer(sanction_calls::multiplier(n3, n2))
+    )
 }
 
 pub fn withheld_penalty(rt: &impl Print, multiplier: u8, a: &[u32], b: &[u32]) -> io::Result<()> {
-    print::argument(rt, b"  withheld, multiplier ", multiplier as u64)?;
-    print::text(rt, b", a")?;
-    print::list(rt, a)?;
-    print::text(rt, b", b")?;
-    print::list(rt, b)?;
-    print::figure(rt, sanction_calls::withheld_penalty(multiplier, a, b))
+    println!(rt;
+        "  withheld, multiplier {multiplier}, a{}, b{}: {}",
+        Numbers(a),
+        Numbers(b),
+        Answer(sanction_calls::withheld_penalty(multiplier, a, b))
+    )
 }
 
 pub fn dispatch_penalty(rt: &impl Print, b: &[u32]) -> io::Result<()> {
-    print::text(rt, b"  dispatch, b")?;
-    print::list(rt, b)?;
-    print::figure(rt, sanction_calls::dispatch_penalty(b))
+    println!(rt;
+        "  dispatch, b{}: {}",
+        Numbers(b),
+        Answer(sanction_calls::dispatch_penalty(b))
+    )
 }
 
 // e is the signed word of E.
 pub fn fuel_penalty(rt: &impl Print, e: u64, t: u64, m: u8) -> io::Result<()> {
-    print::energy(rt, b"  fuel, E ", e)?;
-    print::argument(rt, b", T ", t)?;
-    print::argument(rt, b", M ", m as u64)?;
-    print::figure(rt, sanction_calls::fuel_penalty(e, t, m))
+    println!(rt;
+        "  fuel, E {}, T {t}, M {m}: {}",
+        e.cast_signed(),
+        Answer(sanction_calls::fuel_penalty(e, t, m))
+    )
 }
 
 pub fn fuel_day_counts(rt: &impl Print, d: u32, e: u32) -> io::Result<()> {
-    print::argument(rt, b"  fuel day ", d as u64)?;
-    print::argument(rt, b", earlier day ", e as u64)?;
-    print::counts(rt, sanction_calls::fuel_day_counts(d, e))
+    let counts = sanction_calls::fuel_day_counts(d, e);
+    println!(rt;
+        "  fuel day {d}, earlier day {e}: {}",
+        Answer(counts.map(Counts))
+    )
 }
 
 pub fn period_of(rt: &impl Print, day: u32) -> io::Result<()> {
-    print::argument(rt, b"  period of day ", day as u64)?;
-    print::figure(rt, sanction_calls::period_of(day))
+    println!(rt;
+        "  period of day {day}: {}",
+        Answer(sanction_calls::period_of(day))
+    )
 }
 
 pub fn period_counts(rt: &impl Print, k: u8, own: u16, period: u16) -> io::Result<()> {
-    print::argument(rt, b"  own period ", own as u64)?;
-    print::argument(rt, b" and ", k as u64)?;
-    print::argument(rt, b" before, period ", period as u64)?;
-    print::counts(rt, sanction_calls::period_counts(k, own, period))
+    let counts = sanction_calls::period_counts(k, own, period);
+    println!(rt;
+        "  own period {own} and {k} before, period {period}: {}",
+        Answer(counts.map(Counts))
+    )
 }
 
 pub fn mitigated_span(rt: &impl Print, hits: u32, run: u32) -> io::Result<()> {
-    print::text(rt, b"  hours")?;
-    print::set_hours(rt, hits)?;
-    print::argument(rt, b", R ", run as u64)?;
-    print::hours(rt, default_bid_calls::mitigated_span(hits, run))
+    print!(rt; "  hours{}, R {run}:", Hours(hits))?;
+    match default_bid_calls::mitigated_span(hits, run) {
+        Ok(mask) => println!(rt; "{}", Hours((mask % 4294967296) as u32)),
+        Err(refusal) => println!(rt; " {refusal}"),
+    }
 }
 
 pub fn bid_in_force(
@@ -154,13 +159,12 @@ pub fn bid_in_force(
     reference: u32,
     mitigated: bool,
 ) -> io::Result<()> {
-    print::argument(rt, b"  component ", component as u64)?;
-    print::signed_argument(rt, b", bid ", bid)?;
-    print::argument(rt, b", r ", reference as u64)?;
-    print::condition(rt, b", mitigated", mitigated)?;
-    print::bid(
-        rt,
-        default_bid_calls::bid_in_force(component, bid, reference, mitigated),
+    let in_force = default_bid_calls::bid_in_force(component, bid, reference, mitigated);
+    println!(rt;
+        "  component {component}, bid {}, r {reference}{}: {}",
+        bid.cast_signed(),
+        Where(mitigated, "mitigated"),
+        Answer(in_force.map(signed))
     )
 }
 
@@ -172,15 +176,13 @@ pub fn corrected_bid(
     reference: u32,
     correct: u32,
 ) -> io::Result<()> {
-    print::argument(rt, b"  component ", component as u64)?;
-    print::signed_argument(rt, b", bid ", bid)?;
-    print::argument(rt, b", r ", reference as u64)?;
-    print::argument(rt, b", c ", correct as u64)?;
-    print::bid(
-        rt,
-        default_bid_calls::corrected_bid_in_force(
-            component, bid, reference, correct, 0, false, 0, 0, true,
-        ),
+    let in_force = default_bid_calls::corrected_bid_in_force(
+        component, bid, reference, correct, 0, false, 0, 0, true,
+    );
+    println!(rt;
+        "  component {component}, bid {}, r {reference}, c {correct}: {}",
+        bid.cast_signed(),
+        Answer(in_force.map(signed))
     )
 }
 
@@ -191,22 +193,20 @@ pub fn corrected_bid_in_market(
     average_price: u32,
     constrained_hours: u16,
 ) -> io::Result<()> {
-    print::argument(rt, b"  corrected, market ", market as u64)?;
-    print::argument(rt, b", Average Price ", average_price as u64)?;
-    print::argument(rt, b", H ", constrained_hours as u64)?;
-    print::bid(
-        rt,
-        default_bid_calls::corrected_bid_in_force(
-            1,
-            0,
-            0,
-            0,
-            market,
-            false,
-            average_price,
-            constrained_hours,
-            true,
-        ),
+    let in_force = default_bid_calls::corrected_bid_in_force(
+        1,
+        0,
+        0,
+        0,
+        market,
+        false,
+        average_price,
+        constrained_hours,
+        true,
+    );
+    println!(rt;
+        "  corrected, market {market}, Average Price {average_price}, H {constrained_hours}: {}",
+        Answer(in_force.map(signed))
     )
 }
 
@@ -218,13 +218,10 @@ pub fn make_up(
     reference: u32,
     correct: u32,
 ) -> io::Result<()> {
-    print::signed_argument(rt, b"  make-up, bid ", bid)?;
-    print::signed_argument(rt, b", price ", price)?;
-    print::argument(rt, b", m ", megawatts as u64)?;
-    print::argument(rt, b", r ", reference as u64)?;
-    print::argument(rt, b", c ", correct as u64)?;
-    print::figure(
-        rt,
-        default_bid_calls::make_up(bid, price, megawatts, reference, correct),
+    println!(rt;
+        "  make-up, bid {}, price {}, m {megawatts}, r {reference}, c {correct}: {}",
+        bid.cast_signed(),
+        price.cast_signed(),
+        Answer(default_bid_calls::make_up(bid, price, megawatts, reference, correct))
     )
 }

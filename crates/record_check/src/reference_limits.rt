@@ -1,10 +1,12 @@
 // References and the correction: limits 7 and 8.
 ghost use Rattle.std.specs.Prelude.{◌≡◌, ◌<◌};
-ghost use Rattle.casefile.specs.Decode.{units_in, references_in};
+ghost use Rattle.casefile.specs.Decode.{references_in};
+ghost use Rattle.casefile.specs.Sections.{units_of};
 ghost use Rattle.limits.specs.StageLookup.{UnitsInOrder, reference_fine_where};
 ghost use Rattle.limits.specs.Refusal.{reference_fields_fine, references_fine, correction_fine};
 
 use crate::number_limits::reference_numbers_fine;
+use casefile::case::Case;
 use casefile::layout;
 use casefile::layout::{Format, widths_of};
 use casefile::records::place_before;
@@ -32,43 +34,41 @@ fn reference_fine(format: Format, references: &[u8], i: usize, listed: bool) -> 
     fields & spare & listed & ((i == 0) | (last < key))
 }
 
-pub fn references_fine(format: Format, units: &[u8], references: &[u8]) -> bool
-    requires { UnitsInOrder format units.now }
-    ensures { result ≡ references_fine format (units_in format units.now) references.now }
+pub fn references_fine(case: Case, references: &[u8]) -> bool
+    requires { UnitsInOrder case.format case.units.now }
+    ensures { result ≡ references_fine case.entry.format (units_of case.entry) references.now }
 {
-    let n = reference_count(format, references);
+    let n = reference_count(case.format, references);
     if n == 0 {
         return true;
     }
-    let first = reference_at(format, references, 0);
+    let first = reference_at(case.format, references, 0);
     let mut last = first.unit;
-    let mut place = unit_place(format, units, last);
+    let mut place = unit_place(case, last);
     let mut fine = true;
-    let mut i = 0;
-    while i < n {
-        let reference = reference_at(format, references, i);
+    for i in 0..n {
+        let reference = reference_at(case.format, references, i);
         let unit = reference.unit;
-        place = next_place(format, units, unit, last, place);
+        place = next_place(case, unit, last, place);
         last = unit;
-        let listed = place.listed;
-        fine = fine & reference_fine(format, references, i, listed);
-        i += 1;
+        let listed = place.is_some();
+        fine = fine & reference_fine(case.format, references, i, listed);
     }
     fine
 }
 
 // An empty correction has nothing to look at. The size comes before the records, since a correction may be of any length.
-pub fn correction_fine(format: Format, units: &[u8], correction: &[u8]) -> bool
-    requires { UnitsInOrder format units.now }
-    ensures { result ≡ correction_fine format (units_in format units.now) correction.now }
+pub fn correction_fine(case: Case, correction: &[u8]) -> bool
+    requires { UnitsInOrder case.format case.units.now }
+    ensures { result ≡ correction_fine case.entry.format (units_of case.entry) correction.now }
 {
     if correction.len() == 0 {
         return true;
     }
-    let w = widths_of(format);
+    let w = widths_of(case.format);
     if size_fine(correction.len(), w.reference_width, layout::MOST_REFERENCES) {
-        let numbers = reference_numbers_fine(format, correction);
-        return numbers & references_fine(format, units, correction);
+        let numbers = reference_numbers_fine(case.format, correction);
+        return numbers & references_fine(case, correction);
     }
     false
 }

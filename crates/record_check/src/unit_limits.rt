@@ -1,11 +1,10 @@
 // Units: limit 6.
 ghost use Rattle.std.specs.Prelude.{◌≡◌, ◌<◌};
-ghost use Rattle.casefile.specs.Decode.{units_in};
+ghost use Rattle.casefile.specs.Sections.{units_of};
 ghost use Rattle.limits.specs.Refusal.{unit_fields_fine, unit_fine, units_fine};
 
-use casefile::layout::Format;
+use casefile::case::Case;
 use casefile::records::place_before;
-use casefile::units::{unit_at, unit_count, unit_number, unit_spare_fine};
 use tariff::ranges;
 
 fn unit_fields_fine(
@@ -25,11 +24,11 @@ fn unit_fields_fine(
         & (constrained_hours <= ranges::MOST_CONSTRAINED_HOURS)
 }
 
-fn unit_fine(format: Format, units: &[u8], i: usize) -> bool
-    requires { i < (units_in format units.now).count }
-    ensures { result ≡ unit_fine format units.now i }
+fn unit_fine(case: Case, i: usize) -> bool
+    requires { i < (units_of case).count }
+    ensures { result ≡ unit_fine case.entry.format case.entry.units.now i }
 {
-    let unit = unit_at(format, units, i);
+    let unit = case.unit_at(i);
     let fields = unit_fields_fine(
         unit.area,
         unit.capability,
@@ -37,20 +36,13 @@ fn unit_fine(format: Format, units: &[u8], i: usize) -> bool
         unit.average_price,
         unit.constrained_hours,
     );
-    let spare = unit_spare_fine(format, units, i);
-    let last = unit_number(format, units, place_before(i));
+    let spare = case.unit_spare_fine(i);
+    let last = case.unit_number(place_before(i));
     fields & spare & ((i == 0) | (last < unit.number))
 }
 
-pub fn units_fine(format: Format, units: &[u8]) -> bool
-    ensures { result ≡ units_fine format units.now }
+pub fn units_fine(case: Case) -> bool
+    ensures { result ≡ units_fine case.entry.format case.entry.units.now }
 {
-    let n = unit_count(format, units);
-    let mut fine = true;
-    let mut i = 0;
-    while i < n {
-        fine = fine & unit_fine(format, units, i);
-        i += 1;
-    }
-    fine
+    (0..case.unit_count()).all(|i| unit_fine(case, i))
 }

@@ -2,9 +2,9 @@
 use Prim.Native.Nat.{ℕ, ◌*◌, ◌≤◌, ◌<◌}
 use mathlib.Core.Bool.{Bool, true, false, cond}
 use mathlib.Core.List.{List, [], ◌++◌}
-use mathlib.Core.Path.{◌≡◌, refl, sym, ◌∙◌}
+use mathlib.Core.Path.{◌≡◌, refl, sym, ap, ◌∙◌}
 use native.Mathlib.Omega.{arith}
-use borrow.Author.Tests.{eqb-true, eq-eqb, lt-ltb, le-ltb}
+use borrow.Author.Tests.{eqb-true, eq-eqb, ne_eqb, lt-ltb, le-ltb}
 use lib.Dec.{ltb, eqb}
 use lib.ListN.{length, take}
 use lib.Seq.{length-take-le}
@@ -14,43 +14,42 @@ use Rattle.casefile.specs.Case.{Events}
 use Rattle.casefile.specs.Decode.{format_in, section_of, decode, case_in, events_in}
 use Rattle.limits.specs.Refusal.{refusal}
 use Rattle.limits.proofs.AcceptedLaws as case
-use Rattle.settlement.specs.declared.settle.Settlement.TheVariants as settlement
-use Rattle.settlement.specs.Settled.{SettlementAnswer, refused_answer, accepted, settlement_of, answer_of, rows_after}
+use Rattle.std.proofs.Common.{Result, Ok, Err}
+use Rattle.calls.specs.Answers.{number_of, refusal_of}
+use Rattle.calls.specs.declared.answers.Refusal.{Refusal}
+use Rattle.settlement.proofs.SettleLaws.{told_answer}
+use Rattle.settlement.specs.declared.settle.Settled as settle
+use Rattle.settlement.specs.Settled.{SettlementAnswer, refused_answer, accepted, settlement_of, answer_of_settlement, answer_of, rows_after}
 use Rattle.report.specs.Line.{lines_to}
 use Rattle.report.specs.Listing.{longest_listing, refusal_text, total_text, text_of, listing_of, listed_length, listed_out, listed_rows}
 use Rattle.report.specs.StagePut.{Put}
 
 -- a refusal has a number that is not 0, and a settlement its values
-refused_text : (a : SettlementAnswer) (k : ℕ) (format : Format) (events : Events) (rows : List ℕ) → settlement.Refused k ≡ settlement_of a
-    → text_of a format events rows ≡ refusal_text k
+refused_text : (a : SettlementAnswer) (refusal : Refusal) (format : Format) (events : Events) (rows : List ℕ) → Err refusal ≡ settlement_of a
+    → text_of a format events rows ≡ refusal_text (number_of refusal)
 unfolding settlement_of text_of
-refused_text a k format events rows e = go (eqb a.number 0) e
+refused_text a refusal format events rows e = go (eqb a.number 0) e
   where
     go : (b : Bool)
-        → settlement.Refused k ≡ cond b (settlement.Settled a.row_count a.penalties a.make_ups) (settlement.Refused a.number)
-        → cond b (lines_to format a.row_count events rows ++ total_text a.penalties a.make_ups) (refusal_text a.number) ≡ refusal_text k
-    go true q = let z : ◌≡◌ {A = ℕ} 0 1 = cc in absurd (omega arith)
-    go false q = let z : a.number ≡ k = cc in rw z refl
+        → ◌≡◌ {A = Result settle.Settled Refusal} (Err refusal) (cond b (Ok (record { rows = a.row_count; penalties = a.penalties; make_ups = a.make_ups })) (Err (refusal_of a.number)))
+        → cond b (lines_to format a.row_count events rows ++ total_text a.penalties a.make_ups) (refusal_text a.number) ≡ refusal_text (number_of refusal)
+    go true q = cc
+    go false q = let z : refusal_of a.number ≡ refusal = cc in ap (λ (r : Refusal). refusal_text (number_of r)) z
 
-pub record Values (a : SettlementAnswer) (n p m : ℕ) : Type 0 where
+pub record Values (a : SettlementAnswer) (s : settle.Settled) : Type 0 where
   pub number : a.number ≡ 0
-  pub rows : a.row_count ≡ n
-  pub penalties : a.penalties ≡ p
-  pub make_ups : a.make_ups ≡ m
+  pub rows : a.row_count ≡ s.rows
+  pub penalties : a.penalties ≡ s.penalties
+  pub make_ups : a.make_ups ≡ s.make_ups
 
-settled_values : (a : SettlementAnswer) (n p m : ℕ) → settlement.Settled n p m ≡ settlement_of a → Values a n p m
-unfolding settlement_of
-settled_values a n p m e = go (eqb a.number 0) refl e
-  where
-    go : (b : Bool) → eqb a.number 0 ≡ b
-        → settlement.Settled n p m ≡ cond b (settlement.Settled a.row_count a.penalties a.make_ups) (settlement.Refused a.number)
-        → Values a n p m
-    go true t q =
-        let r : a.row_count ≡ n = cc in
-        let s : a.penalties ≡ p = cc in
-        let u : a.make_ups ≡ m = cc in
-        record { number = eqb-true a.number 0 t; rows = r; penalties = s; make_ups = u }
-    go false t q = let z : ◌≡◌ {A = ℕ} 0 1 = cc in absurd (omega arith)
+settled_values : (a : SettlementAnswer) (s : settle.Settled) → answer_of_settlement (Ok s) ≡ a → Values a s
+settled_values a s e =
+    record {
+      number = ap (λ (x : SettlementAnswer). x.number) (sym e);
+      rows = ap (λ (x : SettlementAnswer). x.row_count) (sym e);
+      penalties = ap (λ (x : SettlementAnswer). x.penalties) (sym e);
+      make_ups = ap (λ (x : SettlementAnswer). x.make_ups) (sym e);
+    }
 
 answer_number : (f k : List ℕ) (n : ℕ) → (answer_of f k n).number ≡ refusal f k n
 unfolding answer_of accepted
@@ -64,27 +63,27 @@ answer_rows : (f k : List ℕ) (n : ℕ) → refusal f k n ≡ 0 → (answer_of 
 unfolding answer_of accepted
 answer_rows f k n h = rw (eq-eqb _ _ h) refl
 
-module _ (f rows : List ℕ) (n p m : ℕ) (e : settlement.Settled n p m ≡ settlement_of (answer_of f [] (length rows))) where
-  values : Values (answer_of f [] (length rows)) n p m
-  values = settled_values (answer_of f [] (length rows)) n p m e
+module _ (f rows : List ℕ) (s : settle.Settled) (e : Ok s ≡ settlement_of (answer_of f [] (length rows))) where
+  values : Values (answer_of f [] (length rows)) s
+  values = settled_values (answer_of f [] (length rows)) s (ap answer_of_settlement e ∙ told_answer f [] (length rows))
 
   pub fine : refusal f [] (length rows) ≡ 0
   fine = sym (answer_number f [] (length rows)) ∙ values.number
 
-  all_rows : n ≡ (decode f).events.count
+  all_rows : s.rows ≡ (decode f).events.count
   all_rows = sym values.rows ∙ answer_rows f [] (length rows) fine
 
-  pub count : (format : Format) (events : List ℕ) → format ≡ format_in f → events ≡ section_of f 3 → n ≡ (events_in format events).count
+  pub count : (format : Format) (events : List ℕ) → format ≡ format_in f → events ≡ section_of f 3 → s.rows ≡ (events_in format events).count
   unfolding decode case_in
   count format events ef ee = rw (ef, ee) all_rows
 
-  pub few : n ≤ most_events
+  pub few : s.rows ≤ most_events
   few = omega (arith, all_rows, case.events_count f [] (length rows) fine)
 
-  pub rows_long : row_width (format_in f) * n ≤ length rows
+  pub rows_long : row_width (format_in f) * s.rows ≤ length rows
   rows_long = omega (arith, all_rows, case.rows_long f [] (length rows) fine)
 
-  settled_text : listing_of f rows ≡ lines_to (format_in f) n (events_in (format_in f) (section_of f 3)) (rows_after f [] rows) ++ total_text p m
+  settled_text : listing_of f rows ≡ lines_to (format_in f) s.rows (events_in (format_in f) (section_of f 3)) (rows_after f [] rows) ++ total_text s.penalties s.make_ups
   unfolding listing_of text_of decode case_in
   settled_text = rw (values.number, values.rows, values.penalties, values.make_ups) refl
 
@@ -97,17 +96,19 @@ module _ (f rows out : List ℕ) (long : longest_listing ≤ length out) where
       let t : ltb (length out) longest_listing ≡ false = le-ltb (length out) longest_listing long in
       (rw (t, e) (omega (arith, q.place)), rw (t, e) q.content)
 
-  pub listed_refusal : (k r : ℕ) (new : List ℕ) → settlement.Refused k ≡ settlement_of (answer_of f [] (length rows))
+  pub listed_refusal : (refusal : Refusal) (k r : ℕ) (new : List ℕ) → k ≡ number_of refusal → Err refusal ≡ settlement_of (answer_of f [] (length rows))
       → Put out 0 (refusal_text k) new r → (r ≡ listed_length f rows out) × (new ≡ listed_out f rows out)
   unfolding listing_of
-  listed_refusal k r new e q = listed (refusal_text k) new r (refused_text (answer_of f [] (length rows)) k _ _ _ e) q
+  listed_refusal refusal k r new g e q =
+      listed (refusal_text k) new r
+      (refused_text (answer_of f [] (length rows)) refusal _ _ _ e ∙ ap refusal_text (sym g)) q
 
-  pub listed_settlement : (n p m r : ℕ) (format : Format) (events after new : List ℕ) → settlement.Settled n p m ≡ settlement_of (answer_of f [] (length rows))
+  pub listed_settlement : (s : settle.Settled) (r : ℕ) (format : Format) (events after new : List ℕ) → Ok s ≡ settlement_of (answer_of f [] (length rows))
       → format ≡ format_in f → events ≡ section_of f 3 → after ≡ rows_after f [] rows
-      → Put out 0 (lines_to format n (events_in format events) after ++ total_text p m) new r
+      → Put out 0 (lines_to format s.rows (events_in format events) after ++ total_text s.penalties s.make_ups) new r
       → (r ≡ listed_length f rows out) × (new ≡ listed_out f rows out)
-  listed_settlement n p m r format events after new e ef ee t q =
-      listed (lines_to format n (events_in format events) after ++ total_text p m) new r (settled_text f rows n p m e ∙ rw (ef, ee, t) refl) q
+  listed_settlement s r format events after new e ef ee t q =
+      listed (lines_to format s.rows (events_in format events) after ++ total_text s.penalties s.make_ups) new r (settled_text f rows s e ∙ rw (ef, ee, t) refl) q
 
   pub listed_rows_is : (after : List ℕ) → after ≡ rows_after f [] rows → after ≡ listed_rows f rows out
   unfolding listed_rows

@@ -1,16 +1,15 @@
 // The listing of a case, settled with no correction.
 ghost use Rattle.std.specs.Prelude.{◌++◌, ◌≡◌, ◌+◌, ◌*◌, ◌≤◌, length, take};
 ghost use Rattle.casefile.specs.Layout.{most_events, row_width};
-ghost use Rattle.casefile.specs.Decode.{events_in};
+ghost use Rattle.casefile.specs.Sections.{events_of};
 ghost use Rattle.report.specs.StagePut.{Put};
 ghost use Rattle.report.specs.Line.{lines_to};
 ghost use Rattle.report.specs.Listing.{refusal_text, total_text, listed_length, listed_out, listed_rows};
 
 use crate::lines::put_lines;
 use crate::text::{put_bytes, put_field};
-use casefile::header::{format_of, section};
-use casefile::layout::Format;
-use settlement::settle::{Settlement, settle};
+use casefile::case::Case;
+use settlement::settle::settle;
 
 fn put_refusal(number: u8, out: &mut [u8]) -> usize
     requires { 48 ≤ length out.old }
@@ -31,18 +30,17 @@ fn put_totals(out: &mut [u8], at: usize, penalties: u64, make_ups: u64) -> usize
 
 // The lines of the events, then the totals.
 fn put_settlement(
-    format: Format,
-    events: &[u8],
+    case: Case,
     rows: &[u8],
     n: usize,
     penalties: u64,
     make_ups: u64,
     out: &mut [u8],
 ) -> usize
-    requires { (n ≤ (events_in format events.now).count) × (row_width format * n ≤ length rows.now) × (n ≤ most_events) × (42048 ≤ length out.old) }
-    ensures { Put out.old 0 (lines_to format n (events_in format events.now) rows.now ++ total_text penalties make_ups) out.new result × (result ≤ 42048) }
+    requires { (n ≤ (events_of case).count) × (row_width case.format * n ≤ length rows.now) × (n ≤ most_events) × (42048 ≤ length out.old) }
+    ensures { Put out.old 0 (lines_to case.entry.format n (events_of case.entry) rows.now ++ total_text penalties make_ups) out.new result × (result ≤ 42048) }
 {
-    let at = put_lines(format, events, rows, n, out);
+    let at = put_lines(case, rows, n, out);
     put_totals(out, at, penalties, make_ups)
 }
 
@@ -58,18 +56,13 @@ pub fn listing(file: &[u8], rows: &mut [u8], out: &mut [u8]) -> usize
         return 0;
     }
     match settle(file, &file[..0], rows) {
-        Settlement::Refused(number) => put_refusal(number, out),
-        Settlement::Settled {
-            rows: n,
-            penalties,
-            make_ups,
-        } => put_settlement(
-            format_of(file),
-            section(file, 3),
+        Err(refusal) => put_refusal(u8::from(refusal), out),
+        Ok(settled) => put_settlement(
+            Case::of(file),
             rows,
-            n,
-            penalties,
-            make_ups,
+            settled.rows,
+            settled.penalties,
+            settled.make_ups,
             out,
         ),
     }

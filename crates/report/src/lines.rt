@@ -1,15 +1,15 @@
 // The lines of a listing: one for each event, from the event and its row.
 ghost use Rattle.std.specs.Prelude.{◌≡◌, ◌+◌, ◌*◌, ◌≤◌, length};
 ghost use Rattle.casefile.specs.Layout.{row_width, bids_offset, most_hours};
-ghost use Rattle.casefile.specs.Decode.{events_in};
+ghost use Rattle.casefile.specs.Sections.{events_of};
 ghost use Rattle.report.specs.StagePut.{Put, event_text};
 ghost use Rattle.report.specs.Line.{row_fields, lines_to};
 
 use crate::text::put_field;
-use binary::bytes::{load_u8, load_u32, load_u64};
-use casefile::events::{Event, event_at};
+use binary::bytes::load;
+use casefile::case::Case;
+use casefile::events::Event;
 use casefile::layout;
-use casefile::layout::Format;
 use casefile::records::record_at;
 
 // Day, kind, unit, market, component, each with a space after it.
@@ -34,11 +34,11 @@ fn put_row(row: &[u8], out: &mut [u8], at: usize) -> usize
     requires { (length row.now ≡ bids_offset + 4 * most_hours) × (at + 105 ≤ length out.old) }
     ensures { Put out.old at (row_fields row.now) out.new result × (result ≤ at + 105) }
 {
-    let flags = load_u32(row, 0);
-    let mitigated = load_u32(row, 4);
-    let multiplier = load_u8(row, 24);
-    let penalty = load_u64(row, 8);
-    let make_up = load_u64(row, 16);
+    let flags = load::<u32>(row, 0);
+    let mitigated = load::<u32>(row, 4);
+    let multiplier = load::<u8>(row, 24);
+    let penalty = load::<u64>(row, 8);
+    let make_up = load::<u64>(row, 16);
     let at = put_field(out, at, flags as u64, b' ');
     let at = put_field(out, at, mitigated as u64, b' ');
     let at = put_field(out, at, multiplier as u64, b' ');
@@ -47,18 +47,16 @@ fn put_row(row: &[u8], out: &mut [u8], at: usize) -> usize
 }
 
 // The lines of the first n events, from the start of out.
-pub fn put_lines(format: Format, events: &[u8], rows: &[u8], n: usize, out: &mut [u8]) -> usize
-    requires { (n ≤ (events_in format events.now).count) × (row_width format * n ≤ length rows.now) × (210 * n ≤ length out.old) }
-    ensures { Put out.old 0 (lines_to format n (events_in format events.now) rows.now) out.new result × (result ≤ 210 * n) }
+pub fn put_lines(case: Case, rows: &[u8], n: usize, out: &mut [u8]) -> usize
+    requires { (n ≤ (events_of case).count) × (row_width case.format * n ≤ length rows.now) × (210 * n ≤ length out.old) }
+    ensures { Put out.old 0 (lines_to case.entry.format n (events_of case.entry) rows.now) out.new result × (result ≤ 210 * n) }
 {
     let mut at = 0;
-    let mut i = 0;
-    while i < n {
-        let event = event_at(format, events, i);
+    for i in 0..n {
+        let event = case.event_at(i);
         let row = record_at(rows, i, layout::ROW_WIDTH);
         let next = put_event(event, out, at);
         at = put_row(row, out, next);
-        i += 1;
     }
     at
 }

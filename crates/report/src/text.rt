@@ -49,11 +49,7 @@ pub fn put_bytes(out: &mut [u8], at: usize, s: &[u8]) -> usize
     requires { at + length s.now ≤ length out.old }
     ensures { Put out.old at s.now out.new result }
 {
-    let mut i = 0;
-    let mut next = at;
-    while i < s.len() {
-        next = put_byte(out, next, s[i]);
-        i += 1;
-    }
-    next
+    let end = at + s.len();
+    out[at..end].copy_from_slice(s);
+    end
 }

@@ -21,9 +21,15 @@ use Rattle.party_runs.specs.StageParties.{same_run, RunEnd}
 use Rattle.party_runs.proofs.PartyLaws.{run_fields}
 use Rattle.sanctions.specs.Penalties.{fuel_multiplier_after}
 use Rattle.sanctions.specs.StageGiven.{highest_amount, SmallAmounts, Sound}
-use Rattle.sanctions.specs.StageTables.{hour_energy, energy_in, led_by, energy_at, tcc_at, party_share, party_day}
+use Rattle.sanctions.specs.StageTables.{no_sanction, hour_energy, energy_in, led_by, energy_at, tcc_at, party_share, party_day}
 use Rattle.sanctions.specs.declared.fuel.PartyDay.{PartyDay}
+use Rattle.sanctions.specs.declared.sanction.Sanction.{Sanction}
 use Rattle.sanctions.proofs.LeaderLaws.{clash}
+
+-- the derived default is the row of an event that has no sanction
+pub none_given : (s : Sanction) → (s.multiplier ≡ 0) × ((s.n3 ≡ 0) × ((s.n2 ≡ 0) × (s.penalty ≡ 0))) → s ≡ no_sanction
+unfolding no_sanction
+none_given s e = λ x. record { multiplier = e.0 x; n3 = e.1.0 x; n2 = e.1.1.0 x; penalty = e.1.1.1 x }
 
 -- the highest part of a signed word, and with it what an hour and an event add to a party-day
 abbrev pub highest_part : ℕ

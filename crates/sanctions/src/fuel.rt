@@ -4,21 +4,19 @@ ghost use Rattle.binary.specs.Bounded.{any_to};
 ghost use Rattle.binary.specs.Word.{positive_part, negative_part};
 ghost use Rattle.calendar.specs.Periods.{window_start};
 ghost use Rattle.casefile.specs.Layout.{cell_width, most_hours, most_events};
-ghost use Rattle.casefile.specs.Decode.{events_in, past_in};
+ghost use Rattle.casefile.specs.Sections.{past_of, events_of};
 ghost use Rattle.sanctions.specs.Penalties.{fuel_multiplier_after};
 ghost use Rattle.sanctions.specs.StageGiven.{SmallAmounts, Sound};
 ghost use Rattle.sanctions.specs.StageTables.{hour_energy, energy_of, party_share, party_day, fuel_row_counts, fuel_entry_counts, fuel_row};
 
 use crate::sanction::Sanction;
 use binary::masks::bit_of;
-use binary::numbers::{choose_u64, difference, product, wide};
-use binary::words::{negative_part, positive_part};
+use binary::numbers::{choose, product};
+use binary::words::Word;
 use calendar::periods::{in_window, window_start};
+use casefile::case::Case;
 use casefile::cells::cell_at;
-use casefile::events::{event_at, event_cells};
 use casefile::layout;
-use casefile::layout::Format;
-use casefile::past::{entry_at, entry_count};
 use party_runs::parties::run_end;
 use tariff::sanction_rules::fuel_penalty;
 
@@ -47,8 +45,8 @@ pub fn hour_energy(cells: &[u8], mask: u32, h: usize) -> Energy
     let a = cell.a;
     let b = cell.b;
     let flagged = bit_of(mask, h);
-    let gain = choose_u64(flagged, product(a, positive_part(b)), 0);
-    let loss = choose_u64(flagged, product(a, negative_part(b)), 0);
+    let gain = choose(flagged, product(a, b.positive_part()), 0);
+    let loss = choose(flagged, product(a, b.negative_part()), 0);
     Energy { gain, loss }
 }
 
@@ -57,29 +55,26 @@ pub fn event_energy(q: u32, cells: &[u8], mask: u32) -> Energy
     requires { (cell_width * most_hours ≤ length cells.now) × SmallAmounts cells.now }
     ensures { result ≡ energy_of q cells.now mask }
 {
-    let mut gain = 10 * wide(positive_part(q));
-    let mut loss = 10 * wide(negative_part(q));
-    let mut h = 0;
-    while h < layout::HOURS {
+    let mut gain = 10 * u64::from(q.positive_part());
+    let mut loss = 10 * u64::from(q.negative_part());
+    for h in 0..layout::HOURS {
         let hour = hour_energy(cells, mask, h);
         gain += hour.gain;
         loss += hour.loss;
-        h += 1;
     }
     Energy { gain, loss }
 }
 
 // What event j adds to the party-day that event i leads.
 fn party_share(
-    format: Format,
-    events: &[u8],
+    case: Case,
     leaders: &[usize; layout::MOST_EVENTS],
     mask: u32,
     i: usize,
     j: usize,
 ) -> PartyDay
-    requires { (j < (events_in format events.now).count) × (j < most_events) × ((events_in format events.now).kind i ≡ 3) × Sound format events.now leaders.now }
-    ensures { result ≡ party_share format events.now leaders.now mask i j }
+    requires { (j < (events_of case).count) × (j < most_events) × ((events_of case).kind i ≡ 3) × Sound case.format case.events.now leaders.now }
+    ensures { result ≡ party_share case.entry.format case.entry.events.now leaders.now mask i j }
 {
     if leaders[j] != i {
         return PartyDay {
@@ -89,13 +84,13 @@ fn party_share(
             fall: 0,
         };
     }
-    let event = event_at(format, events, j);
+    let event = case.event_at(j);
     let q = event.q;
     let r = event.r;
-    let cells = event_cells(format, events, j);
+    let cells = case.event_cells(j);
     let e = event_energy(q, cells, mask);
-    let rise = wide(positive_part(r));
-    let fall = wide(negative_part(r));
+    let rise = u64::from(r.positive_part());
+    let fall = u64::from(r.negative_part());
     PartyDay {
         gain: e.gain,
         loss: e.loss,
@@ -106,29 +101,26 @@ fn party_share(
 
 // The sums of the party-day that event i leads: no event before it is of that party-day, and none from its run's end on.
 pub fn party_day(
-    format: Format,
-    events: &[u8],
+    case: Case,
     leaders: &[usize; layout::MOST_EVENTS],
     mask: u32,
     i: usize,
 ) -> PartyDay
-    requires { (i < (events_in format events.now).count) × ((events_in format events.now).count ≤ most_events)
-        × ((events_in format events.now).kind i ≡ 3) × Sound format events.now leaders.now }
-    ensures { result ≡ party_day format events.now leaders.now mask i (events_in format events.now).count }
+    requires { (i < (events_of case).count) × ((events_of case).count ≤ most_events)
+        × ((events_of case).kind i ≡ 3) × Sound case.format case.events.now leaders.now }
+    ensures { result ≡ party_day case.entry.format case.entry.events.now leaders.now mask i (events_of case.entry).count }
 {
-    let end = run_end(format, events, i);
+    let end = run_end(case, i);
     let mut gain: u64 = 0;
     let mut loss: u64 = 0;
     let mut rise: u64 = 0;
     let mut fall: u64 = 0;
-    let mut j = i;
-    while j < end {
-        let share = party_share(format, events, leaders, mask, i, j);
+    for j in i..end {
+        let share = party_share(case, leaders, mask, i, j);
         gain += share.gain;
         loss += share.loss;
         rise += share.rise;
         fall += share.fall;
-        j += 1;
     }
     PartyDay {
         gain,
@@ -140,8 +132,7 @@ pub fn party_day(
 
 // Whether row j has a fuel penalty above 0 of a group, in the window of a day, which begins on the first.
 fn is_prior(
-    format: Format,
-    events: &[u8],
+    case: Case,
     groups: &[u16; layout::MOST_EVENTS],
     penalties: &[u64; layout::MOST_EVENTS],
     first: u32,
@@ -149,10 +140,10 @@ fn is_prior(
     group: u16,
     j: usize,
 ) -> bool
-    requires { (j < (events_in format events.now).count) × (j < most_events) × (first ≡ window_start day) }
-    ensures { result ≡ fuel_row_counts format events.now groups.now penalties.now day group j }
+    requires { (j < (events_of case).count) × (j < most_events) × (first ≡ window_start day) }
+    ensures { result ≡ fuel_row_counts case.entry.format case.entry.events.now groups.now penalties.now day group j }
 {
-    let event = event_at(format, events, j);
+    let event = case.event_at(j);
     let kind = event.kind;
     let near = in_window(first, day, event.day);
     (0 < penalties[j]) & (kind == 3) & (groups[j] == group) & near
@@ -160,8 +151,7 @@ fn is_prior(
 
 // Whether one of the first i rows has such a penalty.
 fn prior_here(
-    format: Format,
-    events: &[u8],
+    case: Case,
     groups: &[u16; layout::MOST_EVENTS],
     penalties: &[u64; layout::MOST_EVENTS],
     first: u32,
@@ -169,42 +159,29 @@ fn prior_here(
     group: u16,
     i: usize,
 ) -> bool
-    requires { (i ≤ (events_in format events.now).count) × (i ≤ most_events) × (first ≡ window_start day) }
-    ensures { result ≡ any_to i (fuel_row_counts format events.now groups.now penalties.now day group) }
+    requires { (i ≤ (events_of case).count) × (i ≤ most_events) × (first ≡ window_start day) }
+    ensures { result ≡ any_to i (fuel_row_counts case.entry.format case.entry.events.now groups.now penalties.now day group) }
 {
-    let mut any = false;
-    let mut j = 0;
-    while j < i {
-        any = any | is_prior(format, events, groups, penalties, first, day, group, j);
-        j += 1;
-    }
-    any
+    (0..i).any(|j| is_prior(case, groups, penalties, first, day, group, j))
 }
 
 // Whether past entry j is of kind 3 and of a group, in the window of a day.
-fn is_prior_entry(past: &[u8], first: u32, day: u32, group: u16, j: usize) -> bool
-    requires { (j < (past_in past.now).count) × (first ≡ window_start day) }
-    ensures { result ≡ fuel_entry_counts past.now day group j }
+fn is_prior_entry(case: Case, first: u32, day: u32, group: u16, j: usize) -> bool
+    requires { (j < (past_of case).count) × (first ≡ window_start day) }
+    ensures { result ≡ fuel_entry_counts case.entry.past.now day group j }
 {
-    let entry = entry_at(past, j);
+    let entry = case.entry_at(j);
     let its_group = entry.group;
     let kind = entry.kind;
     let near = in_window(first, day, entry.day);
     (kind == 3) & (its_group == group) & near
 }
 
-fn prior_past(past: &[u8], first: u32, day: u32, group: u16) -> bool
+fn prior_past(case: Case, first: u32, day: u32, group: u16) -> bool
     requires { first ≡ window_start day }
-    ensures { result ≡ any_to (past_in past.now).count (fuel_entry_counts past.now day group) }
+    ensures { result ≡ any_to (past_of case.entry).count (fuel_entry_counts case.entry.past.now day group) }
 {
-    let n = entry_count(past);
-    let mut any = false;
-    let mut j = 0;
-    while j < n {
-        any = any | is_prior_entry(past, first, day, group, j);
-        j += 1;
-    }
-    any
+    (0..case.entry_count()).any(|j| is_prior_entry(case, first, day, group, j))
 }
 
 // M: 3 halves after a penalty or a past entry, else 2.
@@ -216,28 +193,26 @@ fn multiplier_after(prior: bool) -> u8
 
 // M and the penalty of the party-day that event i leads.
 pub fn fuel(
-    format: Format,
-    past: &[u8],
-    events: &[u8],
+    case: Case,
     groups: &[u16; layout::MOST_EVENTS],
     leaders: &[usize; layout::MOST_EVENTS],
     masks: &[u32; layout::MOST_EVENTS],
     penalties: &[u64; layout::MOST_EVENTS],
     i: usize,
 ) -> Sanction
-    requires { (i < (events_in format events.now).count) × ((events_in format events.now).count ≤ most_events)
-        × ((events_in format events.now).kind i ≡ 3) × Sound format events.now leaders.now }
-    ensures { result ≡ fuel_row format past.now events.now groups.now leaders.now masks.now penalties.now i }
+    requires { (i < (events_of case).count) × ((events_of case).count ≤ most_events)
+        × ((events_of case).kind i ≡ 3) × Sound case.format case.events.now leaders.now }
+    ensures { result ≡ fuel_row case.entry.format case.entry.past.now case.entry.events.now groups.now leaders.now masks.now penalties.now i }
 {
-    let event = event_at(format, events, i);
+    let event = case.event_at(i);
     let day = event.day;
     let group = groups[i];
     let first = window_start(day);
-    let here = prior_here(format, events, groups, penalties, first, day, group, i);
-    let outside = prior_past(past, first, day, group);
+    let here = prior_here(case, groups, penalties, first, day, group, i);
+    let outside = prior_past(case, first, day, group);
     let multiplier = multiplier_after(here | outside);
-    let sums = party_day(format, events, leaders, masks[i], i);
-    let tcc = difference(sums.rise, sums.fall);
+    let sums = party_day(case, leaders, masks[i], i);
+    let tcc = sums.rise.saturating_sub(sums.fall);
     let penalty = fuel_penalty(multiplier, sums.gain, sums.loss, tcc);
     Sanction {
         multiplier,

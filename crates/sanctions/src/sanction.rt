@@ -1,7 +1,7 @@
 // What a row says of sanctions.
 
 // The multiplier in halves, N3, N2, and the penalty in cents.
-#[derive(Clone, Copy)]
+#[derive(Clone, Copy, Default)]
 pub struct Sanction {
     pub multiplier: u8,
     pub n3: u16,

@@ -29,7 +29,8 @@ use Rattle.case_rows.specs.StageRow.{word_of, words_of, written_row, row_by}
 use Rattle.case_rows.specs.StageRows.{row_in, rows_in, totals_in}
 use Rattle.settlement.specs.Row.{bid_bytes, row_of, rows_of}
 use Rattle.settlement.specs.Settled.{SettlementAnswer, refused_answer, answer_of_settlement, settlement_of, accepted, answer_of, rows_after}
-use Rattle.settlement.specs.declared.settle.Settlement.TheVariants as settlement
+use Rattle.std.proofs.Common.{Ok, Err}
+use Rattle.calls.specs.Answers.{refusal_of}
 
 -- the number of a refusal that is not 0
 pub refused_answer_is : (f k : List ℕ) (n number : ℕ) → number ≡ refusal f k n → (number ≡ 0 → ⊥) → refused_answer number ≡ answer_of f k n
@@ -37,12 +38,12 @@ unfolding answer_of
 refused_answer_is f k n number e ne = rw (← e, ne_eqb number 0 ne) refl
 
 -- the answer's case is told by its number
-pub refused_told : (n : ℕ) (a : SettlementAnswer) → refused_answer n ≡ a → (n ≡ 0 → ⊥) → settlement.Refused n ≡ settlement_of a
+pub refused_told : (n : ℕ) (a : SettlementAnswer) → refused_answer n ≡ a → (n ≡ 0 → ⊥) → Err (refusal_of n) ≡ settlement_of a
 unfolding settlement_of
 refused_told n a e ne = rw (← e, ne_eqb n 0 ne) refl
 
 pub settled_told : (n p m : ℕ) (a : SettlementAnswer) → record { number = 0; row_count = n; penalties = p; make_ups = m } ≡ a
-    → settlement.Settled n p m ≡ settlement_of a
+    → Ok (record { rows = n; penalties = p; make_ups = m }) ≡ settlement_of a
 unfolding settlement_of
 settled_told n p m a e = rw (← e) refl
 

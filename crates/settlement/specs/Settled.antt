@@ -1,14 +1,15 @@
 -- What settling a case answers and leaves in the rows buffer, also where the case is refused (docs/RULES.md, R
 -- and L).
-use Rattle.std.specs.Prelude.{ℕ, cond, List, eqb, length}
+use Rattle.std.specs.Prelude.{ℕ, cond, List, eqb, length, Result, Ok, Err}
 use Rattle.casefile.specs.Decode.{format_in, decode}
 use Rattle.casefile.specs.Lookup.{correct_in}
 use Rattle.limits.specs.Refusal.{refusal}
 use Rattle.sanctions.specs.Penalties.{total_penalty}
 use Rattle.default_bids.specs.Mitigation.{total_make_up}
 use Rattle.settlement.specs.Row.{rows_of}
-use Rattle.settlement.specs.declared.settle.Settlement.{Settlement}
-use Rattle.settlement.specs.declared.settle.Settlement.TheVariants as settlement
+use Rattle.calls.specs.Answers.{number_of, refusal_of}
+use Rattle.calls.specs.declared.answers.Refusal.{Refusal}
+use Rattle.settlement.specs.declared.settle.Settled as settle
 
 -- the refusal's number, 0 where the case is accepted; the row count; the totals of penalties and of make-ups
 pub record SettlementAnswer : Type 0 where
@@ -21,13 +22,14 @@ abbrev pub refused_answer : (number : ℕ) → SettlementAnswer
 refused_answer n = record { number = n; row_count = 0; penalties = 0; make_ups = 0 }
 
 -- the number and the values of each of the call's answers
-abbrev pub answer_of_settlement : Settlement → SettlementAnswer
-answer_of_settlement (settlement.Refused n) = refused_answer n
-answer_of_settlement (settlement.Settled n p m) = record { number = 0; row_count = n; penalties = p; make_ups = m }
+abbrev pub answer_of_settlement : Result settle.Settled Refusal → SettlementAnswer
+answer_of_settlement (Err r) = refused_answer (number_of r)
+answer_of_settlement (Ok s) = record { number = 0; row_count = s.rows; penalties = s.penalties; make_ups = s.make_ups }
 
 -- the call's answer: a refusal exactly where the number is not 0
-unfoldable pub settlement_of : SettlementAnswer → Settlement
-settlement_of a = cond (eqb a.number 0) (settlement.Settled a.row_count a.penalties a.make_ups) (settlement.Refused a.number)
+unfoldable pub settlement_of : SettlementAnswer → Result settle.Settled Refusal
+settlement_of a =
+    cond (eqb a.number 0) (Ok (record { rows = a.row_count; penalties = a.penalties; make_ups = a.make_ups })) (Err (refusal_of a.number))
 
 unfoldable pub accepted : (file correction : List ℕ) → SettlementAnswer
 accepted f k =

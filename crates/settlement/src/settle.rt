@@ -8,25 +8,20 @@ ghost use Rattle.limits.specs.StageChecked.{AcceptedFile};
 ghost use Rattle.case_rows.specs.StageRows.{rows_in, totals_in};
 ghost use Rattle.settlement.specs.Settled.{settlement_of, answer_of, rows_after};
 
+use calls::answers::Refusal;
 use case_check::check::check_into;
 use case_rows::rows::{Totals, settle_rows};
-use casefile::events::event_count;
-use casefile::header::{format_of, section};
+use casefile::case::Case;
 use casefile::layout;
 use conduct::flags::find_flags;
 
-#[derive(Clone, Copy)]
-pub enum Settlement {
-    Refused(u8),
-    Settled {
-        rows: usize,
-        penalties: u64,
-        make_ups: u64,
-    },
+// Of a case that is settled: its rows, and both totals in cents.
+#[derive(Clone, Copy, Debug, PartialEq, Eq)]
+pub struct Settled {
+    pub rows: usize,
+    pub penalties: u64,
+    pub make_ups: u64,
 }
-
-// The number of a case that meets every limit.
-const ACCEPTED: u8 = 0;
 
 // The rows of an accepted file, from the places, r and c that its check found.
 fn settle_accepted(
@@ -52,14 +47,14 @@ fn settle_accepted(
 }
 
 // A case that meets every limit is settled, a row for each event; any other is refused, and the rows buffer is as it was.
-pub fn settle<'a>(file: &'a [u8], correction: &'a [u8], rows: &mut [u8]) -> Settlement
+pub fn settle<'a>(file: &'a [u8], correction: &'a [u8], rows: &mut [u8]) -> Result<Settled, Refusal>
     ensures value { result ≡ settlement_of (answer_of file.now correction.now (length rows.old)) }
     ensures rows_after { rows.new ≡ rows_after file.now correction.now rows.old }
 {
     let mut places = [0usize; layout::MOST_EVENTS];
     let mut levels = [0u32; layout::MOST_EVENTS];
     let mut corrects = [0u32; layout::MOST_EVENTS];
-    let number = check_into(
+    let checked = check_into(
         file,
         correction,
         rows.len(),
@@ -67,13 +62,15 @@ pub fn settle<'a>(file: &'a [u8], correction: &'a [u8], rows: &mut [u8]) -> Sett
         &mut levels,
         &mut corrects,
     );
-    if number != ACCEPTED {
-        return Settlement::Refused(number);
+    if let Err(refusal) = checked {
+        return Err(Refusal {
+            number: u8::from(refusal),
+        });
     }
     let totals = settle_accepted(file, &places, &levels, &corrects, rows);
-    Settlement::Settled {
-        rows: event_count(format_of(file), section(file, 3)),
+    Ok(Settled {
+        rows: Case::of(file).event_count(),
         penalties: totals.penalties,
         make_ups: totals.make_ups,
-    }
+    })
 }

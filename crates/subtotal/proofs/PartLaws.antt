@@ -3,14 +3,14 @@ use Prim.Native.Nat.{ℕ, ◌<◌}
 use mathlib.Core.Bool.{true, false, ◌&&◌}
 use mathlib.Core.List.{List, []}
 use mathlib.Core.Path.{◌≡◌, refl}
+use Rattle.std.specs.Prelude.{Ok, Err}
 use lib.Dec.{ltb, eqb}
 use lib.IntN.{sub_ℕ}
 use borrow.Author.Tests.{eqb-true, eq-eqb, ne_eqb, ltb-true}
 use Rattle.binary.specs.Integers.{word}
 use Rattle.binary.specs.Word.{positive_part, negative_part}
 use Rattle.binary.proofs.Implies.{and_l, and_r}
-use Rattle.calls.specs.Answers.{figure_of}
-use Rattle.calls.specs.declared.answers.Figure.TheVariants as figure
+use Rattle.calls.specs.Answers.{refusal_of, figure_of}
 use Rattle.casefile.specs.declared.layout.Format.{Format}
 use Rattle.casefile.specs.declared.events.Event.{Event}
 use Rattle.casefile.specs.Case.{Case}
@@ -78,15 +78,15 @@ fuel_event c i t =
 -- ---- the answer
 
 module _ (f : List ℕ) (i : ℕ) where
-  pub refused_is : (number : ℕ) → number ≡ refusal f [] (most_rows f) → (number ≡ 0 → ⊥) → figure.Refused number ≡ figure_of (subtotal_answer f i)
+  pub refused_is : (number : ℕ) → number ≡ refusal f [] (most_rows f) → (number ≡ 0 → ⊥) → Err (refusal_of number) ≡ figure_of (subtotal_answer f i)
   unfolding figure_of subtotal_answer
   refused_is number e n = rw (← e, ne_eqb number 0 n) refl
 
   pub given_is : (x : ℕ) → refusal f [] (most_rows f) ≡ 0 → is_fuel_event (decode f) i ≡ true → x ≡ word 64 (subtotal_of (decode f) i)
-      → figure.Value x ≡ figure_of (subtotal_answer f i)
+      → Ok x ≡ figure_of (subtotal_answer f i)
   unfolding figure_of subtotal_answer
   given_is x fine t e = rw (eq-eqb _ _ fine, t, e)
 
-  pub other_is : refusal f [] (most_rows f) ≡ 0 → is_fuel_event (decode f) i ≡ false → figure.Refused 10 ≡ figure_of (subtotal_answer f i)
+  pub other_is : refusal f [] (most_rows f) ≡ 0 → is_fuel_event (decode f) i ≡ false → Err (refusal_of 10) ≡ figure_of (subtotal_answer f i)
   unfolding figure_of subtotal_answer
   other_is fine t = rw (eq-eqb _ _ fine, t)

@@ -6,20 +6,20 @@ ghost use Rattle.binary.specs.Lists.{Holds};
 ghost use Rattle.binary.specs.Word.{positive_part, negative_part};
 ghost use Rattle.calls.specs.Answers.{figure_of};
 ghost use Rattle.casefile.specs.Layout.{cell_width, most_hours};
-ghost use Rattle.casefile.specs.Decode.{events_in, decode};
+ghost use Rattle.casefile.specs.Decode.{decode};
 ghost use Rattle.casefile.specs.Lookup.{unit_of, bid_level};
+ghost use Rattle.casefile.specs.Sections.{events_of};
 ghost use Rattle.limits.specs.StageChecked.{AcceptedFile};
 ghost use Rattle.sanctions.specs.StageGiven.{SmallAmounts};
 ghost use Rattle.sanctions.specs.StageTables.{energy_in};
 ghost use Rattle.subtotal.specs.Subtotal.{subtotal_of, subtotal_answer};
 
 use binary::words::word_of;
-use calls::answers::Figure;
+use calls::answers::Refusal;
 use case_check::check::check_into;
-use casefile::events::{Event, event_at, event_cells, event_count};
-use casefile::header::{format_of, section};
+use casefile::case::Case;
+use casefile::events::Event;
 use casefile::layout;
-use casefile::layout::Format;
 use conduct::flags::find_flags;
 use sanctions::fuel::event_energy;
 
@@ -48,19 +48,18 @@ fn part_at(
     let mut leaders = [0usize; layout::MOST_EVENTS];
     let mut masks = [0u32; layout::MOST_EVENTS];
     find_flags(file, places, levels, &mut groups, &mut leaders, &mut masks);
-    let format = format_of(file);
-    let events = section(file, 3);
-    let event = event_at(format, events, i);
-    let cells = event_cells(format, events, i);
+    let case = Case::of(file);
+    let event = case.event_at(i);
+    let cells = case.event_cells(i);
     part_over(event, cells, masks[i])
 }
 
 // Whether there is such an event, and it is a fuel event.
-fn is_fuel(format: Format, events: &[u8], i: usize) -> bool
-    ensures { result ≡ (ltb i (events_in format events.now).count && eqb ((events_in format events.now).kind i) 3) }
+fn is_fuel(case: Case, i: usize) -> bool
+    ensures { result ≡ (ltb i (events_of case.entry).count && eqb ((events_of case.entry).kind i) 3) }
 {
-    if i < event_count(format, events) {
-        let event = event_at(format, events, i);
+    if i < case.event_count() {
+        let event = case.event_at(i);
         let kind = event.kind;
         return kind == 3;
     }
@@ -69,13 +68,13 @@ fn is_fuel(format: Format, events: &[u8], i: usize) -> bool
 
 // The part of E of an event's plant, as a signed word in tenths of a cent, of the case alone; a refused case has its number, and 10
 // where the event is no fuel event.
-pub fn subtotal(file: &[u8], event: usize) -> Figure
+pub fn subtotal(file: &[u8], event: usize) -> Result<u64, Refusal>
     ensures { result ≡ figure_of (subtotal_answer file.now event) }
 {
     let mut places = [0usize; layout::MOST_EVENTS];
     let mut levels = [0u32; layout::MOST_EVENTS];
     let mut corrects = [0u32; layout::MOST_EVENTS];
-    let number = check_into(
+    let checked = check_into(
         file,
         &file[..0],
         layout::MOST_ROWS,
@@ -83,11 +82,12 @@ pub fn subtotal(file: &[u8], event: usize) -> Figure
         &mut levels,
         &mut corrects,
     );
-    if number != 0 {
-        return Figure::Refused(number);
+    if let Err(refusal) = checked {
+        let number = u8::from(refusal);
+        return Err(Refusal { number });
     }
-    if is_fuel(format_of(file), section(file, 3), event) {
-        return Figure::Value(part_at(file, &places, &levels, event));
+    if is_fuel(Case::of(file), event) {
+        return Ok(part_at(file, &places, &levels, event));
     }
-    Figure::Refused(10)
+    Err(Refusal::ARGUMENT)
 }

@@ -10,10 +10,10 @@ use crate::conduct_tests::{
     group_limit, increase, unit_limit,
 };
 use crate::threshold::Threshold;
-use binary::numbers::{product, smaller};
-use binary::words::positive_part;
+use binary::numbers::product;
+use binary::words::Word;
 
-// A comparison; it counts where it is taken.
+// A comparison; it counts where it is taken. Not an Option of its sides, since comparisons_of gives those of one not taken too.
 #[derive(Clone, Copy)]
 pub struct Comparison {
     pub taken: bool,
@@ -21,7 +21,8 @@ pub struct Comparison {
     pub right: u64,
 }
 
-// The comparisons of a test: which are taken, as bits, and the number of the first that fails, 0 where none does.
+// The comparisons of a test: which are taken, as bits, and the number of the first that fails, 0 where none does: bytes of the C
+// interface, as comparisons_of has them.
 #[derive(Drop)]
 pub struct Comparisons {
     pub taken: u8,
@@ -57,7 +58,7 @@ fn no_comparison() -> Comparison
     }
 }
 
-// The bit of a comparison that is taken.
+// The bit of a comparison that is taken. Not choose, since the bound keeps the sum of four within a byte.
 fn bit_where(taken: bool, bit: u8) -> u8
     ensures { (result ≡ cond taken bit 0) × (result ≤ bit) }
 {
@@ -126,9 +127,9 @@ fn lower_comparison(t: Threshold, reference: u32, bid: u32) -> Comparison
 {
     let step = t.step;
     let floor = t.floor;
-    let a = positive_part(bid);
+    let a = bid.positive_part();
     let d = increase(reference, bid);
-    let right = smaller(percent_of(t, reference), step as u64);
+    let right = percent_of(t, reference).min(step as u64);
     Comparison {
         taken: floor <= a,
         left: d as u64,
@@ -159,7 +160,7 @@ fn maximum_comparison(reference: u32, bid: u32) -> Comparison
 {
     let t = Threshold::MAXIMUM_PARAMETER;
     let percent = t.percent;
-    let a = positive_part(bid);
+    let a = bid.positive_part();
     compared(reference as u64, WHOLE * (a as u64) / (percent as u64))
 }
 
@@ -168,7 +169,7 @@ fn first_bid_comparison(component: u8, reference: u32, bid: u32) -> Comparison
 {
     let t = Threshold::of(component);
     let step = t.step;
-    let a = positive_part(bid);
+    let a = bid.positive_part();
     let d = increase(reference, bid);
     let percent = percent_of(t, reference);
     if component <= 2 {

@@ -5,8 +5,8 @@ ghost use Rattle.tariff.specs.Threshold.{threshold_of};
 ghost use Rattle.tariff.specs.ConductTests.{increase, lower_test, constrained_test, percent_test, time_test, maximum_test, bid_test, unit_limit, group_limit, withheld_test, dispatch_test};
 
 use crate::threshold::Threshold;
-use binary::numbers::{choose_u32, choose_u64, product, smaller};
-use binary::words::positive_part;
+use binary::numbers::{choose, product};
+use binary::words::Word;
 
 // The numbers of the tests, as specs/ConductTests has them.
 pub const WHOLE: u64 = 100;
@@ -27,8 +27,7 @@ pub const RESPONSE_MINUTES: u64 = 15;
 pub fn increase(reference: u32, bid: u32) -> u32
     ensures { result ≡ increase reference bid }
 {
-    let a = positive_part(bid);
-    if reference < a { a - reference } else { 0 }
+    bid.positive_part().saturating_sub(reference)
 }
 
 // Components 0 to 2.
@@ -38,9 +37,9 @@ fn lower_test(t: Threshold, reference: u32, bid: u32) -> bool
     let percent = t.percent;
     let step = t.step;
     let floor = t.floor;
-    let a = positive_part(bid);
+    let a = bid.positive_part();
     let d = increase(reference, bid);
-    let lower = smaller(product(percent, reference), WHOLE * (step as u64));
+    let lower = product(percent, reference).min(WHOLE * (step as u64));
     (floor <= a) & (lower < WHOLE * (d as u64))
 }
 
@@ -81,11 +80,12 @@ fn maximum_test(reference: u32, bid: u32) -> bool
 {
     let t = Threshold::MAXIMUM_PARAMETER;
     let percent = t.percent;
-    let a = positive_part(bid);
+    let a = bid.positive_part();
     WHOLE * (a as u64) < product(percent, reference)
 }
 
-// Whether a bid fails the test of its component; total is the sum of the positive time increases.
+// Whether a bid fails the test of its component; total is the sum of the positive time increases. The component and the market are
+// numbers, since bid_test of specs/ConductTests answers on each.
 pub fn bid_test(
     component: u8,
     reference: u32,
@@ -116,13 +116,13 @@ pub fn bid_test(
 pub fn unit_limit(tight: bool) -> u32
     ensures { result ≡ unit_limit tight }
 {
-    choose_u32(tight, 500, 1000)
+    choose(tight, 500, 1000)
 }
 
 pub fn group_limit(tight: bool) -> u64
     ensures { result ≡ group_limit tight }
 {
-    choose_u64(tight, 1000, 2000)
+    choose(tight, 1000, 2000)
 }
 
 // Whether withheld megawatts fail; s is the group's sum and g its listed capability.

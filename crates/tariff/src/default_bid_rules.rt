@@ -4,20 +4,19 @@ ghost use Rattle.binary.specs.Bounded.{bit_of, first_to, last_to, mask_to};
 ghost use Rattle.tariff.specs.DefaultBidRules.{between, span_mask, at_most, lesser, greater, default_bid, in_force, restores, corrected_bid, excess, hour_make_up, make_up};
 
 use crate::sanction_rules::cents;
+use binary::bounded::mask_to;
 use binary::masks::bit_of;
-use binary::numbers::{choose_u32, choose_u64, choose_usize, difference, larger, product};
-use binary::words::{negative_part, positive_part};
+use binary::numbers::{choose, product};
+use binary::words::Word;
 
 // The first of n hours that is hit, or n.
 fn first_hour(hits: u32, n: usize) -> usize
     ensures { result ≡ first_to n (bit_of hits) }
 {
     let mut first = 0;
-    let mut h = 0;
-    while h < n {
+    for h in 0..n {
         let hit = bit_of(hits, h);
-        first = choose_usize((first < h) | hit, first, h + 1);
-        h += 1;
+        first = choose((first < h) | hit, first, h + 1);
     }
     first
 }
@@ -27,10 +26,8 @@ fn last_hour(hits: u32, n: usize) -> usize
     ensures { result ≡ last_to n (bit_of hits) }
 {
     let mut last = 0;
-    let mut h = 0;
-    while h < n {
-        last = choose_usize(bit_of(hits, h), h, last);
-        h += 1;
+    for h in 0..n {
+        last = choose(bit_of(hits, h), h, last);
     }
     last
 }
@@ -40,8 +37,7 @@ fn run_end(first: usize, run: u32) -> usize
     requires { first ≤ 31 }
     ensures { result ≡ first + run - 1 }
 {
-    let end = first + (run as usize);
-    if 0 < end { end - 1 } else { 0 }
+    (first + (run as usize)).saturating_sub(1)
 }
 
 // The hours from first to end, of a day of n hours.
@@ -49,15 +45,7 @@ fn hours_between(first: usize, end: usize, n: usize) -> u32
     requires { n ≤ 31 }
     ensures { result ≡ mask_to n (between first end) }
 {
-    let mut mask: u32 = 0;
-    let mut weight: u32 = 1;
-    let mut h = 0;
-    while h < n {
-        mask += choose_u32((first <= h) & (h <= end), weight, 0);
-        weight *= 2;
-        h += 1;
-    }
-    mask
+    mask_to(n, |h| (first <= h) & (h <= end))
 }
 
 // The mitigated hours of component 1 Day-Ahead, of a day of n hours.
@@ -67,7 +55,7 @@ pub fn span_mask(hits: u32, run: u32, n: usize) -> u32
 {
     let first = first_hour(hits, n);
     let last = last_hour(hits, n);
-    let end = larger(last, run_end(first, run));
+    let end = last.max(run_end(first, run));
     hours_between(first, end, n)
 }
 
@@ -75,19 +63,19 @@ pub fn span_mask(hits: u32, run: u32, n: usize) -> u32
 fn at_most(bid: u32, reference: u32) -> bool
     ensures { result ≡ at_most bid reference }
 {
-    positive_part(bid) <= reference
+    bid.positive_part() <= reference
 }
 
 fn lesser(bid: u32, reference: u32) -> u32
     ensures { result ≡ lesser bid reference }
 {
-    choose_u32(at_most(bid, reference), bid, reference)
+    choose(at_most(bid, reference), bid, reference)
 }
 
 fn greater(bid: u32, reference: u32) -> u32
     ensures { result ≡ greater bid reference }
 {
-    choose_u32(at_most(bid, reference), reference, bid)
+    choose(at_most(bid, reference), reference, bid)
 }
 
 fn default_bid(component: u8, bid: u32, reference: u32) -> u32
@@ -95,13 +83,13 @@ fn default_bid(component: u8, bid: u32, reference: u32) -> u32
 {
     let high = greater(bid, reference);
     let low = lesser(bid, reference);
-    choose_u32(component == 8, high, low)
+    choose(component == 8, high, low)
 }
 
 pub fn in_force(component: u8, bid: u32, reference: u32, mitigated: bool) -> u32
     ensures { result ≡ in_force component bid reference mitigated }
 {
-    choose_u32(mitigated, default_bid(component, bid, reference), bid)
+    choose(mitigated, default_bid(component, bid, reference), bid)
 }
 
 // Whether the correct reference may restore a bid.
@@ -116,18 +104,18 @@ pub fn corrected_bid(component: u8, bid: u32, reference: u32, correct: u32, fail
     ensures { result ≡ corrected_bid component bid reference correct fails }
 {
     let low = lesser(bid, correct);
-    let restored = choose_u32(fails, low, bid);
+    let restored = choose(fails, low, bid);
     let kept = default_bid(component, bid, reference);
-    choose_u32(restores(component, reference, correct), restored, kept)
+    choose(restores(component, reference, correct), restored, kept)
 }
 
 // x - y of two signed words, or 0 if negative.
 fn excess(x: u32, y: u32) -> u32
     ensures { result ≡ excess x y }
 {
-    let up = (positive_part(x) as u64) + (negative_part(y) as u64);
-    let down = (positive_part(y) as u64) + (negative_part(x) as u64);
-    difference(up, down) as u32
+    let up = (x.positive_part() as u64) + (y.negative_part() as u64);
+    let down = (y.positive_part() as u64) + (x.negative_part() as u64);
+    up.saturating_sub(down) as u32
 }
 
 // One mitigated hour's make-up in tenths of a cent.
@@ -143,5 +131,5 @@ pub fn make_up(reference: u32, correct: u32, tenths: u64) -> u64
     requires { tenths ≤ 18446744065119617025 }
     ensures { result ≡ make_up reference correct tenths }
 {
-    choose_u64(correct == reference, 0, cents(10, tenths))
+    choose(correct == reference, 0, cents(10, tenths))
 }

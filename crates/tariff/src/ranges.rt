@@ -2,8 +2,8 @@
 ghost use Rattle.std.specs.Prelude.{◌≡◌};
 ghost use Rattle.tariff.specs.Ranges.{reference_in_range, bid_in_range};
 
-use binary::numbers::{choose_bool, choose_u32};
-use binary::words::is_within;
+use binary::numbers::choose;
+use binary::words::Word;
 
 pub const HIGHEST_AREA: u8 = 1;
 
@@ -80,7 +80,7 @@ pub fn reference_in_range(component: u8, reference: u32) -> bool
     ensures { result ≡ reference_in_range component reference }
 {
     reference
-        <= choose_u32(
+        <= choose(
             component <= 2,
             HIGHEST_PRICE_REFERENCE,
             HIGHEST_OTHER_REFERENCE,
@@ -90,7 +90,7 @@ pub fn reference_in_range(component: u8, reference: u32) -> bool
 pub fn bid_in_range(component: u8, bid: u32) -> bool
     ensures { result ≡ bid_in_range component bid }
 {
-    let signed = is_within(HIGHEST_PRICE_BID, bid);
-    let unsigned = bid <= choose_u32(component == 2, HIGHEST_PRICE_BID, HIGHEST_OTHER_BID);
-    choose_bool(component <= 1, signed, unsigned)
+    let signed = bid.is_within(HIGHEST_PRICE_BID);
+    let unsigned = bid <= choose(component == 2, HIGHEST_PRICE_BID, HIGHEST_OTHER_BID);
+    choose(component <= 1, signed, unsigned)
 }

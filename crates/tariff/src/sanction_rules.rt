@@ -3,7 +3,6 @@ ghost use Rattle.std.specs.Prelude.{◌≡◌, ◌+◌, ◌≤◌, ◌<◌};
 ghost use Rattle.calendar.specs.Months.{calendar_days};
 ghost use Rattle.tariff.specs.SanctionRules.{cents, period_counts, ladder, withheld_penalty, dispatch_penalty, fuel_day_counts, fuel_charge, fuel_penalty};
 
-use binary::numbers::difference;
 use calendar::periods::{in_window, window_start};
 
 // $5,000 in twentieths of a cent.
@@ -72,7 +71,7 @@ pub fn fuel_charge(m: u8, gain: u64, loss: u64, t: u64) -> u64
     requires { (m ≤ 3) × (gain ≤ 1000000000000000000) × (loss ≤ 1000000000000000000) × (t ≤ 100000000000000000) }
     ensures { (result ≡ fuel_charge m gain loss t) × (result ≤ 5000000000000000000) }
 {
-    difference((m as u64) * gain + 20 * t, (m as u64) * loss)
+    ((m as u64) * gain + 20 * t).saturating_sub((m as u64) * loss)
 }
 
 // The penalty for inaccurate fuel data: none where X is below $5,000.

@@ -16,11 +16,7 @@ impl Threshold {
         floor: 2_500,
     };
 
-    pub const MINIMUM_GENERATION: Threshold = Threshold {
-        percent: 300,
-        step: 10_000,
-        floor: 2_500,
-    };
+    pub const MINIMUM_GENERATION: Threshold = Threshold::ENERGY;
 
     pub const RESERVE: Threshold = Threshold {
         percent: 300,
@@ -40,17 +36,9 @@ impl Threshold {
         floor: 0,
     };
 
-    pub const MINIMUM_RUN_TIME: Threshold = Threshold {
-        percent: 0,
-        step: 180,
-        floor: 0,
-    };
+    pub const MINIMUM_RUN_TIME: Threshold = Threshold::START_UP_TIME;
 
-    pub const MINIMUM_DOWN_TIME: Threshold = Threshold {
-        percent: 0,
-        step: 180,
-        floor: 0,
-    };
+    pub const MINIMUM_DOWN_TIME: Threshold = Threshold::START_UP_TIME;
 
     pub const MINIMUM_PARAMETER: Threshold = Threshold {
         percent: 100,
@@ -64,7 +52,7 @@ impl Threshold {
         floor: 0,
     };
 
-    // The threshold of a component's number; no test reads it past 8.
+    // The threshold of a component's number; no test reads it past 8. A number, since threshold_of speaks of those past 8 too.
     pub fn of(component: u8) -> Threshold
         ensures { result ≡ threshold_of component }
     {

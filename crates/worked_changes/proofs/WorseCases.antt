@@ -31,7 +31,9 @@ use Rattle.sanctions.specs.Penalties.{party_day_sum, party_day_e, flagged_with_i
 use Rattle.default_bids.specs.Mitigation.{hit, mitigated, mitigated_mask, correct_of, bid_in_force, make_up_tenths, make_up_of, total_make_up}
 use Rattle.settlement.specs.Row.{bid_bytes, row_of, rows_of}
 use Rattle.settlement.specs.Settled.{Settled, accepted, answer_of, settlement_of, answer_of_settlement, rows_after, settled}
-use Rattle.settlement.specs.declared.settle.Settlement.{Settlement}
+use Rattle.std.proofs.Common.{Result}
+use Rattle.calls.specs.declared.answers.Refusal.{Refusal}
+use Rattle.settlement.specs.declared.settle.Settled as settle
 use Rattle.worked_files.specs.Files.{file_of, unit_bytes, reference_bytes, entry_bytes, units}
 use Rattle.worked_files.specs.Cases.{minus, at, cell_bytes, event_of, empty, row_bytes, no_bids}
 use Rattle.worse_conduct.specs.Changes.{Change, cell, entry, TakesAll, cell_place, cell_written, entry_place, entry_put, longer_past, later_events, header_moved, apply, apply_all, more_withheld, lower_bid, moved_bid, worse_bid, worse_amount}
@@ -144,7 +146,7 @@ unfoldable pub loss_making : List ℕ
 loss_making = file_of (unit_bytes 12 1 0 5000) [] [] (event_of 695 3 0 12 0 0 0 (minus 1000000) 2000000 empty)
 
 -- a past entry turns M from 2 to 3, and the penalty falls from 1,000,000 to 500,000
-pub premise_needed : ((file worse rows worse_rows : List ℕ) (answer worse_answer : Settlement) (after worse_after : List ℕ)
+pub premise_needed : ((file worse rows worse_rows : List ℕ) (answer worse_answer : Result settle.Settled Refusal) (after worse_after : List ℕ)
     → Run file [] rows answer after
     → Run worse [] worse_rows worse_answer worse_after
     → NeverCheaper file worse [] rows worse_rows answer worse_answer after worse_after (λ c. Unit {0}))

@@ -11,14 +11,12 @@ ghost use Rattle.working.specs.Working.{sums_of, figures_with, comparisons_for, 
 
 use crate::figures::{Counts, Figures, Sums, Working};
 use binary::masks::bit_of;
-use binary::numbers::{choose_u32, choose_u64, difference};
-use binary::words::{negative_part, positive_part};
+use binary::numbers::choose;
+use binary::words::Word;
 use case_check::check::check_into;
+use casefile::case::Case;
 use casefile::cells::cell_at;
-use casefile::events::{event_at, event_cells, event_count};
-use casefile::header::{format_of, section};
 use casefile::layout;
-use casefile::units::unit_at;
 use conduct::flags::find_flags;
 use conduct::sums::{listed_capability, party_sums};
 use conduct::time::time_totals;
@@ -44,19 +42,17 @@ fn party_figures(
     ensures value { result ≡ sums_of (decode file.now) i h }
     ensures sum_in_range { result.s ≤ highest_sum }
 {
-    let format = format_of(file);
-    let units = section(file, 0);
-    let events = section(file, 3);
-    let event = event_at(format, events, i);
+    let case = Case::of(file);
+    let event = case.event_at(i);
     let kind = event.kind;
     let leader = leaders[i];
-    let end = run_end(format, events, leader);
-    let sums = party_sums(format, events, leaders, leader, end);
+    let end = run_end(case, leader);
+    let sums = party_sums(case, leaders, leader, end);
     let sum = sums[h];
     Sums {
-        s: choose_u64((kind == 1) | (kind == 2), sum, 0),
-        g: listed_capability(format, units, events, places[i], i),
-        fuel_events: choose_u64(kind == 3, sum, 0),
+        s: choose((kind == 1) | (kind == 2), sum, 0),
+        g: listed_capability(case, places[i], i),
+        fuel_events: choose(kind == 3, sum, 0),
     }
 }
 
@@ -74,15 +70,13 @@ fn figures_at(
     requires place_found { place ≡ unit_of (decode file.now) i }
     ensures { result ≡ figures_with (decode file.now) i h reference sums total }
 {
-    let format = format_of(file);
-    let units = section(file, 0);
-    let events = section(file, 3);
-    let event = event_at(format, events, i);
+    let case = Case::of(file);
+    let event = case.event_at(i);
     let p = event.p;
-    let unit = unit_at(format, units, place);
+    let unit = case.unit_at(place);
     let area = unit.area;
     let set = bit_of(p, h);
-    let cell = cell_at(event_cells(format, events, i), h);
+    let cell = cell_at(case.event_cells(i), h);
     Figures {
         kind: event.kind,
         component: event.component,
@@ -135,9 +129,9 @@ fn comparisons_for(f: Figures) -> Comparisons
 fn decrease(reference: u32, bid: u32) -> u64
     ensures { result ≡ decrease reference bid }
 {
-    let below = negative_part(bid);
-    let a = positive_part(bid);
-    difference((reference as u64) + (below as u64), a as u64)
+    let below = bid.negative_part();
+    let a = bid.positive_part();
+    ((reference as u64) + (below as u64)).saturating_sub(a as u64)
 }
 
 fn working_from(f: Figures, flagged: bool, counts: Counts) -> Working
@@ -158,8 +152,8 @@ fn working_from(f: Figures, flagged: bool, counts: Counts) -> Working
         taken: comparisons.taken,
         a: f.a,
         reference: f.reference,
-        increase: choose_u32(bid, up, 0),
-        decrease: choose_u64(bid, down, 0),
+        increase: choose(bid, up, 0),
+        decrease: choose(bid, down, 0),
         s: f.s,
         g: f.g,
         total: f.total,
@@ -210,12 +204,11 @@ fn working_at(
     let mut leaders = [0usize; layout::MOST_EVENTS];
     let mut masks = [0u32; layout::MOST_EVENTS];
     find_flags(file, places, levels, &mut groups, &mut leaders, &mut masks);
-    let format = format_of(file);
-    let events = section(file, 3);
+    let case = Case::of(file);
     let flagged = bit_of(masks[i], h);
-    let instances = instances_at(format, section(file, 2), events, &groups, &masks, i);
+    let instances = instances_at(case, &groups, &masks, i);
     let sums = party_figures(file, places, &leaders, i, h);
-    let totals = time_totals(format, events, levels, i);
+    let totals = time_totals(case, levels, i);
     let figures = figures_at(file, places[i], levels[i], sums, totals[h], i, h);
     let counts = Counts {
         n3: instances.n3,
@@ -231,7 +224,7 @@ pub fn working<'a>(file: &'a [u8], correction: &'a [u8], event: usize, hour: usi
     let mut places = [0usize; layout::MOST_EVENTS];
     let mut levels = [0u32; layout::MOST_EVENTS];
     let mut corrects = [0u32; layout::MOST_EVENTS];
-    let number = check_into(
+    let checked = check_into(
         file,
         correction,
         layout::MOST_ROWS,
@@ -239,11 +232,11 @@ pub fn working<'a>(file: &'a [u8], correction: &'a [u8], event: usize, hour: usi
         &mut levels,
         &mut corrects,
     );
-    if number != 0 {
-        return refused_working(number);
+    if let Err(refusal) = checked {
+        return refused_working(u8::from(refusal));
     }
-    let events = section(file, 3);
-    if (event < event_count(format_of(file), events)) & (hour < layout::HOURS) {
+    let case = Case::of(file);
+    if (event < case.event_count()) & (hour < layout::HOURS) {
         return working_at(file, &places, &levels, event, hour);
     }
     refused_working(10)

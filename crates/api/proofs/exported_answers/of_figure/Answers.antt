@@ -3,10 +3,10 @@ use Rattle.calls.specs.Answers.{figure_answer}
 use Rattle.api.specs.Exported.{exported}
 use Rattle.api.proofs.exported_answers.of_figure.Goals as goal
 
-pub returns-in-Refused : goal.returns-in-Refused
+pub returns-in-Err : goal.returns-in-Err
 unfolding figure_answer
-returns-in-Refused c = ap (λ x. exported (figure_answer x)) (sym c.in-Refused.is)
+returns-in-Err c = rw (c.in-Err.is, c.from-number.ensures)
 
-pub returns-in-Value : goal.returns-in-Value
+pub returns-in-Ok : goal.returns-in-Ok
 unfolding figure_answer
-returns-in-Value c = ap (λ x. exported (figure_answer x)) (sym c.in-Value.is)
+returns-in-Ok c = ap (λ x. exported (figure_answer x)) (sym c.in-Ok.is)

@@ -3,10 +3,10 @@ use Rattle.calls.specs.Answers.{time_answer}
 use Rattle.api.specs.Exported.{exported_times}
 use Rattle.api.proofs.exported_answers.of_times.Goals as goal
 
-pub returns-in-Refused : goal.returns-in-Refused
+pub returns-in-Err : goal.returns-in-Err
 unfolding time_answer
-returns-in-Refused c = ap (λ x. exported_times (time_answer x)) (sym c.in-Refused.is)
+returns-in-Err c = rw (c.in-Err.is, c.from.ensures)
 
-pub returns-in-Fails : goal.returns-in-Fails
+pub returns-in-Ok : goal.returns-in-Ok
 unfolding time_answer
-returns-in-Fails c = ap (λ x. exported_times (time_answer x)) (sym c.in-Fails.is)
+returns-in-Ok c = ap (λ x. exported_times (time_answer x)) (sym c.in-Ok.is)

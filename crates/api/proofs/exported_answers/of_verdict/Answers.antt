@@ -1,16 +1,18 @@
-use mathlib.Core.Path.{ap, sym}
-use Rattle.calls.specs.Answers.{verdict_answer}
-use Rattle.api.specs.Exported.{exported}
+use mathlib.Core.Bool.{Bool, true, false}
+use mathlib.Core.Path.{◌≡◌, refl}
+use mir.Val.{bool_byte}
+use Rattle.calls.specs.Answers.{bit, verdict_answer}
 use Rattle.api.proofs.exported_answers.of_verdict.Goals as goal
 
-pub returns-in-Refused : goal.returns-in-Refused
+pub returns-in-Err : goal.returns-in-Err
 unfolding verdict_answer
-returns-in-Refused c = ap (λ x. exported (verdict_answer x)) (sym c.in-Refused.is)
+returns-in-Err c = rw (c.in-Err.is, c.from.ensures)
 
-pub returns-in-No : goal.returns-in-No
-unfolding verdict_answer
-returns-in-No c = ap (λ x. exported (verdict_answer x)) (sym c.in-No.is)
+byte_is : (b : Bool) → bool_byte b ≡ bit b
+unfolding bit
+byte_is true = refl
+byte_is false = refl
 
-pub returns-in-Yes : goal.returns-in-Yes
+pub returns-in-Ok : goal.returns-in-Ok
 unfolding verdict_answer
-returns-in-Yes c = ap (λ x. exported (verdict_answer x)) (sym c.in-Yes.is)
+returns-in-Ok c = rw (c.in-Ok.is, c.from-in-Ok.ensures, byte_is _)

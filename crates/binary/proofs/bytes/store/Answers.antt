@@ -1,7 +1,6 @@
 use Prim.Native.Nat.{ℕ, suc, ◌+◌, ◌-◌, ◌/◌, ◌%◌, ◌<◌}
 use mathlib.Core.Path.{◌≡◌, refl}
 use mathlib.Core.List.{List}
-use borrow.Author.Rules.{rules}
 use native.Mathlib.Nat.{add-zero, sub-zero}
 use native.Mathlib.Omega.{arith}
 use lib.ListN.{set, length-set}
@@ -18,16 +17,13 @@ turn s goal at count k rest l inv =
     rw next (rw more at inv)
 
 pub loop-k-preserved : goal.loop-k-preserved
-loop-k-preserved c =
+loop-k-preserved g c =
     let inv = c.loop-k.invariant in
-    (omega arith, simp length-set (omega arith), turn _ _ _ _ _ _ c.loop-k-test.true inv.2)
+    (simp length-set (omega arith), turn _ _ _ _ _ _ (rw c.WIDTH-k-end.ensures at c.loop-k-test.true) inv.1)
 
 pub returns : goal.returns
 unfolding bytes_of
-returns c =
+returns g c =
     let l = c.loop-k in
-    let none : c.args.count - l.k ≡ 0 = omega arith in
-    rw none at l.invariant.2
-
-pub loop-k-init : goal.loop-k-init
-loop-k-init c = (search rules, refl, rw (add-zero, sub-zero))
+    let none : g.N.LittleEndian.WIDTH - l.k ≡ 0 = omega arith in
+    rw (none, c.wide-rest.ensures) at l.invariant.1

@@ -9,4 +9,4 @@ returns-then-y-x c = rw (le-ltb _ _ c.if-y-x.true)
 
 pub returns-else-y-x : goal.returns-else-y-x
 unfolding word
-returns-else-y-x c = rw (lt-ltb _ _ c.if-y-x.false) (omega arith)
+returns-else-y-x c = rw (c.minus.ensures, lt-ltb _ _ c.if-y-x.false) (omega arith)

@@ -1,60 +1,71 @@
-use Prim.Native.Nat.{ℕ, suc, ◌+◌, ◌-◌, ◌/◌, ◌<◌}
-use mathlib.Core.Bool.{Bool, true, false, cond}
-use mathlib.Core.Path.{◌≡◌, sym, ap, subst}
+use Prim.Native.Nat.{ℕ, suc, ◌-◌, ◌≤◌, ◌<◌}
+use mathlib.Core.Bool.{true, false}
+use mathlib.Core.List.{List}
+use mathlib.Core.Path.{◌≡◌, sym, ◌∙◌, subst}
+use native.Mathlib.Nat.{le_refl}
 use native.Mathlib.Omega.{arith}
 use lib.Dec.{leb}
-use borrow.Author.Tests.{leb-true, leb-false}
-use Rattle.calendar.specs.Months.{month_start}
-use Rattle.calendar.proofs.MonthLaws.{InMonth, start_first, calendar_ends, month_is}
-use Rattle.calendar.proofs.months.month_of.Invariants.{Between}
+use lib.ListN.{length}
+use borrow.Author.Tests.{leb-true, leb-false, le-leb}
+use Rattle.std.proofs.Common.{rules, of_calls, get_or}
+use Rattle.std.proofs.lemmas.Fn.{always_returns_same}
+use Rattle.std.proofs.lemmas.List.{get_or_default}
+use Rattle.calendar.specs.Months.{most_months, calendar_days, month_start}
+use Rattle.calendar.specs.StageTable.{HasStarts}
+use Rattle.calendar.proofs.MonthLaws.{InMonth, start_first, start_mono, calendar_ends, split, month_is}
 use Rattle.calendar.proofs.months.month_of.Goals as goal
 
-halve : (day lo hi middle : ℕ) → Between day lo hi → lo < middle → middle < hi → (begun : Bool) → leb (month_start middle) day ≡ begun
-    → Between day (cond begun middle lo) (cond begun hi middle)
-halve day lo hi middle b l m true e =
-    record { order = m; end = b.end; begun = leb-true (month_start middle) day e; later = b.later }
-halve day lo hi middle b l m false e =
-    record { order = l; end = omega (arith, b.end); begun = b.begun; later = leb-false (month_start middle) day e }
+-- a month that begins by the day, after one that does
+start_at : (xs : List ℕ) → HasStarts xs → length xs ≡ most_months → (k d : ℕ) → k < most_months → get_or xs k d ≡ month_start k
+start_at xs h n k d l = get_or_default xs k d 0 (omega arith) ∙ h k l
 
-halve_less : (lo hi middle : ℕ) → lo < middle → middle < hi → (begun : Bool) → cond begun hi middle - cond begun middle lo < hi - lo
-halve_less lo hi middle l m true = omega arith
-halve_less lo hi middle l m false = omega arith
+-- the months that begin by the day stand before the others
+abbrev Parted : (xs : List ℕ) (day r : ℕ) → Type 0
+Parted xs day r =
+    ((k : ℕ) (d : ℕ) → 0 ≤ k → k < r → leb (get_or xs k d) day ≡ true)
+    × ((k : ℕ) (d : ℕ) → r ≤ k → k < length xs → leb (get_or xs k d) day ≡ false)
 
-pub loop-lo-init : goal.loop-lo-init
-loop-lo-init c = record { order = omega arith; end = omega arith; begun = omega (arith, start_first); later = omega (arith, calendar_ends) }
+rise : (xs : List ℕ) (day : ℕ) → HasStarts xs → length xs ≡ most_months → (i j d : ℕ) → i ≤ j → j < length xs
+    → leb (get_or xs j d) day ≡ true → leb (get_or xs i d) day ≡ true
+rise xs day h n i j d l m e =
+    le-leb _ _
+    (omega (arith, start_at xs h n i d (omega arith), start_at xs h n j d (omega arith), start_mono i j l, leb-true _ _ e))
 
-pub overflow_add-lo : goal.overflow_add-lo
-overflow_add-lo c = omega (arith, c.loop-lo.invariant.order, c.loop-lo.invariant.end)
+-- the first month begins by each day, and the month after the table's last by none of the calendar
+found : (xs : List ℕ) (day r : ℕ) → HasStarts xs → length xs ≡ most_months → day < calendar_days → r ≤ length xs → Parted xs day r
+    → (0 < r) × InMonth day (r - 1)
+found xs day r h n l m p = (some, record { begun = begun; ends = subst (λ (k : ℕ). day < month_start k) next later })
+  where
+    some : 0 < r
+    some =
+        split r 0 (λ z. absurd (omega (arith, leb-false _ _ (p.1 0 0 z (omega arith)), start_at xs h n 0 0 (omega arith), start_first)))
+        (λ s. s)
 
-pub overflow_sub-middle : goal.overflow_sub-middle
-overflow_sub-middle c = omega (arith, c.loop-lo.invariant.order)
+    next : r ≡ suc (r - 1)
+    next = omega (arith, some)
 
-pub overflow_add-middle : goal.overflow_add-middle
-overflow_add-middle c = omega (arith, c.loop-lo.invariant.order, c.loop-lo.invariant.end)
+    begun : month_start (r - 1) ≤ day
+    begun = omega (arith, leb-true _ _ (p.0 (r - 1) 0 (omega arith) (omega (arith, some))), start_at xs h n (r - 1) 0 (omega (arith, some)))
 
-pub month_start-requires : goal.month_start-requires
-month_start-requires c = (omega (arith, c.loop-lo.invariant.order, c.loop-lo.invariant.end), c.requires.1)
+    last : most_months ≤ r → day < month_start r
+    last e = let full : most_months ≡ r = omega arith in subst (λ (k : ℕ). day < month_start k) full (omega (arith, calendar_ends))
 
-pub loop-lo-smaller : goal.loop-lo-smaller
-loop-lo-smaller c =
-    let k = c.before.before in
-    let l = k.loop-lo in
-    rw (c.choose_usize-hi.ensures, c.choose_usize-lo.ensures)
-    (halve_less l.lo l.hi (l.lo + (l.hi - l.lo) / 2) (omega arith) (omega arith) (leb k.month_start.result k.args.day))
+    later : day < month_start r
+    later =
+        split most_months r last
+        (λ s. omega (arith, leb-false _ _ (p.1 r 0 (le_refl r) (omega arith)), start_at xs h n r 0 s))
 
-pub loop-lo-preserved : goal.loop-lo-preserved
-loop-lo-preserved c =
-    let k = c.before.before in
-    let l = k.loop-lo in
-    let day = k.args.day in
-    rw (c.choose_usize-hi.ensures, c.choose_usize-lo.ensures)
-    (halve day l.lo l.hi (l.lo + (l.hi - l.lo) / 2) l.invariant (omega arith) (omega arith) _
-    (ap (λ (x : ℕ). leb x day) (sym k.month_start.ensures)))
+parted : (c : goal.After-partition_point-begun) → Parted c.args.starts.now c.args.day c.partition_point-begun.result
+parted c =
+    c.partition_point-begun.ensures.partitioned (λ s. leb s c.args.day) (always_returns_same _ _ _ (λ a r f k. search (rules, of_calls)))
+    (rise _ c.args.day c.requires.1 c.told-starts)
+
+in_month : (c : goal.After-partition_point-begun) → (0 < c.partition_point-begun.result) × InMonth c.args.day (c.partition_point-begun.result - 1)
+in_month c = found _ _ _ c.requires.1 c.told-starts c.requires.0 c.partition_point-begun.ensures.bound (parted c)
+
+pub overflow_sub-result : goal.overflow_sub-result
+overflow_sub-result c = omega (arith, (in_month c).0)
 
 pub returns : goal.returns
 returns c =
-    let l = c.loop-lo in
-    let e : l.hi ≡ suc l.lo = omega (arith, l.invariant.order) in
-    let d = c.args.day in
-    let in_month : InMonth d l.lo = record { begun = l.invariant.begun; ends = subst (λ (x : ℕ). d < month_start x) e l.invariant.later } in
-    (sym (month_is d l.lo in_month), omega (arith, l.invariant.order, l.invariant.end))
+    (sym (month_is c.args.day _ (in_month c).1), omega (arith, (in_month c).0, c.partition_point-begun.ensures.bound, c.told-starts))

@@ -4,35 +4,17 @@ use Rattle.calendar.specs.Periods.{day_within}
 use Rattle.calendar.proofs.PeriodLaws.{min_choice, choice_below, next_start, month_last}
 use Rattle.calendar.proofs.periods.day_within.Goals as goal
 
-pub overflow_add-result : goal.overflow_add-result
-overflow_add-result c =
-    let s = c.before.before.before in
-    omega (
-      arith,
-      next_start s.args.k s.requires.0,
-      c.month_start-first.ensures,
-      c.month_start.ensures,
-      c.choose_u32.ensures,
-      choice_below s.args.x (c.month_start.result - c.month_start-first.result - 1),
-    )
-
 pub returns : goal.returns
 unfolding day_within
 returns c =
     let s = c.before.before.before in
     rw (
-      c.choose_u32.ensures,
+      c.choose.ensures,
       ← min_choice s.args.x (c.month_start.result - c.month_start-first.result - 1),
       c.month_start-first.ensures,
       c.month_start.ensures,
       month_last s.args.k,
     )
-
-pub month_start-first-requires : goal.month_start-first-requires
-month_start-first-requires c = (omega (arith, c.requires.0), c.requires.1)
-
-pub month_start-requires : goal.month_start-requires
-month_start-requires c = c.requires
 
 pub overflow_sub-last : goal.overflow_sub-last
 overflow_sub-last c = omega (arith, next_start c.args.k c.requires.0, c.month_start-first.ensures, c.month_start.ensures)

@@ -1,21 +1,17 @@
-use mathlib.Core.Path.{◌≡◌}
 use native.Mathlib.Omega.{arith}
-use Rattle.binary.proofs.BoundedLaws.{all_none, all_more}
+use mathlib.Core.Path.{refl}
+use borrow.Author.Rules.{rules}
+use borrow.Author.Tests.{tests}
+use Rattle.std.proofs.lemmas.Iterator.{YieldsList-from_range}
+use Rattle.calendar.specs.Periods.{in_calendar}
 use Rattle.casefile.specs.Decode.{events_in}
-use Rattle.casefile.specs.StageRead.{event_at}
+use Rattle.casefile.specs.StageRead.{entry_at, event_at}
+use Rattle.binary.proofs.ChainLaws.{all_in_range}
 use Rattle.calendar_check.proofs.calendar_limits.event_days_fine.Goals as goal
 
-pub loop-i-init : goal.loop-i-init
-unfolding event_at
-loop-i-init c = (omega arith, all_none _)
-
-pub loop-i-preserved : goal.loop-i-preserved
-unfolding event_at
-loop-i-preserved c = (omega arith, rw (c.loop-i.invariant.1, c.event_at-event.ensures, all_more))
-
 pub returns : goal.returns
-unfolding event_at
+unfolding entry_at event_at
 returns c =
     let s = c.args in
-    let e : c.loop-i.i ≡ (events_in s.format s.events.now).count = omega arith in
-    rw (c.loop-i.invariant.1, e)
+    rw (← c.event_count.ensures)
+    (all_in_range (λ i. in_calendar ((events_in s.case.format s.case.events.now).day i)) c.event_count.result _ _ _ _ (YieldsList-from_range 0 _ _ refl (omega arith)) c.all.ensures.ran (λ x b q k. search (rules, tests)))

@@ -1,23 +1,17 @@
-use mathlib.Core.Path.{◌≡◌}
 use native.Mathlib.Omega.{arith}
-use Rattle.binary.proofs.BoundedLaws.{all_none, all_more}
+use mathlib.Core.Path.{refl}
+use borrow.Author.Rules.{rules}
+use borrow.Author.Tests.{tests}
+use Rattle.std.proofs.lemmas.Iterator.{YieldsList-from_range}
+use Rattle.calendar.specs.Periods.{has_period}
 use Rattle.casefile.specs.Decode.{past_in}
-use Rattle.casefile.specs.StageRead.{entry_at}
+use Rattle.casefile.specs.StageRead.{entry_at, event_at}
+use Rattle.binary.proofs.ChainLaws.{all_in_range}
 use Rattle.calendar_check.proofs.calendar_limits.past_in_calendar.Goals as goal
 
-pub loop-i-init : goal.loop-i-init
-unfolding entry_at
-loop-i-init c = (omega arith, all_none _)
-
-pub loop-i-preserved : goal.loop-i-preserved
-unfolding entry_at
-loop-i-preserved c =
-    let l = c.loop-i in
-    (omega arith, rw (l.invariant.1, c.has_period-fine.ensures, c.entry_at-entry.ensures, all_more))
-
 pub returns : goal.returns
-unfolding entry_at
+unfolding entry_at event_at
 returns c =
     let s = c.args in
-    let e : c.loop-i.i ≡ (past_in s.past.now).count = omega arith in
-    rw (c.loop-i.invariant.1, e)
+    rw (← c.entry_count.ensures)
+    (all_in_range (λ i. has_period ((past_in s.case.past.now).entry i).day ((past_in s.case.past.now).entry i).period) c.entry_count.result _ _ _ _ (YieldsList-from_range 0 _ _ refl (omega arith)) c.all.ensures.ran (λ x b q k. search (rules, tests)))

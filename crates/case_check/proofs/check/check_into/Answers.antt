@@ -1,118 +1,60 @@
-use mathlib.Core.Path.{◌≡◌, sym, ◌∙◌}
+use mathlib.Core.Path.{sym, ◌∙◌}
 use native.Mathlib.Omega.{arith}
-use Rattle.casefile.specs.Decode.{format_in, section_of}
-use Rattle.limits.specs.StageRefusal.{header_refusal, records_refusal, fields_refusal}
+use Rattle.std.proofs.lemmas.Result.{on_ok_weaker}
 use Rattle.limits.proofs.RangeLaws.{event_numbers, numbers_in_order, references_in_order, correct_in_order}
-use Rattle.limits.proofs.RefusalLaws.{HeaderFine, RecordsFine, header_fine, records_fine, header_long, has_section, refusal_header, refusal_records, refusal_fields, refusal_found}
+use Rattle.limits.proofs.RefusalLaws.{header_fine, records_fine, has_section, refusal_header, refusal_records, refusal_fields, refusal_found, err_number, refusal_not_0}
 use Rattle.limits.proofs.SectionLaws.{events_fit}
 use Rattle.event_check.proofs.CheckedLaws.{handed_on}
 use Rattle.case_check.proofs.check.check_into.Goals as goal
 
--- the header breaks no limit
-header : (c : goal.Else-header-ne0) → header_refusal c.args.file.now 0 ≡ 0
-header c = sym c.header_refusal-header.ensures ∙ c.if-header-ne0.false
+pub returns-in_err-header_refusal-clause-value : goal.returns-in_err-header_refusal-clause-value
+returns-in_err-header_refusal-clause-value c =
+    err_number _ _ c.from_residual.ensures.1 ∙ refusal_header _ _ _ _ c.in_err-header_refusal.ensures (refusal_not_0 _)
 
-fine : (c : goal.Else-header-ne0) → HeaderFine c.args.file.now
-fine c = (header_fine _ 0 (header c)).0
+pub of-case-requires : goal.of-case-requires
+of-case-requires c =
+    let a = (header_fine _ 0 (sym c.in_ok-header_refusal.ensures)).0 in
+    record { units = has_section _ a 0 (omega arith); references = has_section _ a 1 (omega arith); past = has_section _ a 2 (omega arith); events = has_section _ a 3 (omega arith) }
 
-pub returns-then-header-ne0 : goal.returns-then-header-ne0
-returns-then-header-ne0 c = record { value = refusal_header _ _ _ _ c.header_refusal-header.ensures c.if-header-ne0.true; handed_on = λ z. absurd (c.if-header-ne0.true z) }
+pub returns-in_err-records_refusal-clause-value : goal.returns-in_err-records_refusal-clause-value
+returns-in_err-records_refusal-clause-value c =
+    let broken = rw (c.of-case.ensures.events, c.of-case.ensures.past, c.of-case.ensures.references, c.of-case.ensures.units, c.of-case.ensures.format) at c.in_err-records_refusal.ensures in
+    err_number _ _ c.from_residual-in_err-records_refusal.ensures.1
+    ∙ refusal_records _ _ _ _ (sym c.in_ok-header_refusal.ensures) broken (refusal_not_0 _)
 
-pub format_of-format-requires : goal.format_of-format-requires
-format_of-format-requires c = header_long _ (fine c)
+pub fields_refusal-requires : goal.fields_refusal-requires
+fields_refusal-requires c = event_numbers _ _ _ _ (records_fine _ _ _ _ _ _ 0 (sym c.in_ok-records_refusal.ensures)).0.numbers_fine_holds
 
-pub section-units-requires : goal.section-units-requires
-section-units-requires c =
-    let header : header_refusal c.args.file.now 0 ≡ 0 = sym c.header_refusal-header.ensures ∙ c.if-header-ne0.false in
-    let fine : HeaderFine c.args.file.now = (header_fine _ 0 header).0 in
-    has_section _ fine 0 (omega arith)
-
-pub section-references-requires : goal.section-references-requires
-section-references-requires c =
-    let header : header_refusal c.args.file.now 0 ≡ 0 = sym c.header_refusal-header.ensures ∙ c.if-header-ne0.false in
-    let fine : HeaderFine c.args.file.now = (header_fine _ 0 header).0 in
-    has_section _ fine 1 (omega arith)
-
-pub section-past-requires : goal.section-past-requires
-section-past-requires c =
-    let header : header_refusal c.args.file.now 0 ≡ 0 = sym c.header_refusal-header.ensures ∙ c.if-header-ne0.false in
-    let fine : HeaderFine c.args.file.now = (header_fine _ 0 header).0 in
-    has_section _ fine 2 (omega arith)
-
-pub section-events-requires : goal.section-events-requires
-section-events-requires c =
-    let header : header_refusal c.args.file.now 0 ≡ 0 = sym c.header_refusal-header.ensures ∙ c.if-header-ne0.false in
-    let fine : HeaderFine c.args.file.now = (header_fine _ 0 header).0 in
-    has_section _ fine 3 (omega arith)
-
-pub returns-then-records-ne0 : goal.returns-then-records-ne0
-returns-then-records-ne0 c =
-    let header : header_refusal c.args.file.now 0 ≡ 0 = sym c.header_refusal-header.ensures ∙ c.if-header-ne0.false in
-    let records : let s = c.args in
-    c.records_refusal-records.result
-    ≡ records_refusal (format_in s.file.now) (section_of s.file.now 0) (section_of s.file.now 1) s.correction.now (section_of s.file.now 2) (section_of s.file.now 3) 0 = rw (c.records_refusal-records.ensures, c.section-events.ensures, c.section-past.ensures, c.section-references.ensures, c.section-units.ensures, c.format_of-format.ensures) in
-    record { value = refusal_records _ _ _ _ header records c.if-records-ne0.true; handed_on = λ z. absurd (c.if-records-ne0.true z) }
-
-pub fields_refusal-fields-requires : goal.fields_refusal-fields-requires
-fields_refusal-fields-requires c =
-    let records : let s = c.args in
-    c.records_refusal-records.result
-    ≡ records_refusal (format_in s.file.now) (section_of s.file.now 0) (section_of s.file.now 1) s.correction.now (section_of s.file.now 2) (section_of s.file.now 3) 0 = rw (c.records_refusal-records.ensures, c.section-events.ensures, c.section-past.ensures, c.section-references.ensures, c.section-units.ensures, c.format_of-format.ensures) in
-    let fine_records : c.records_refusal-records.result ≡ 0 → let s = c.args in
-    RecordsFine (format_in s.file.now) (section_of s.file.now 0) (section_of s.file.now 1) s.correction.now (section_of s.file.now 2) (section_of s.file.now 3) = λ e. (records_fine _ _ _ _ _ _ 0 (sym records ∙ e)).0 in
-    rw (c.format_of-format.ensures, c.section-events.ensures) (event_numbers _ _ _ _ (fine_records c.if-records-ne0.false).numbers_fine_holds)
-
-pub returns-then-fields-ne0 : goal.returns-then-fields-ne0
-returns-then-fields-ne0 c =
-    let header : header_refusal c.args.file.now 0 ≡ 0 = sym c.header_refusal-header.ensures ∙ c.if-header-ne0.false in
-    let records : let s = c.args in
-    c.records_refusal-records.result
-    ≡ records_refusal (format_in s.file.now) (section_of s.file.now 0) (section_of s.file.now 1) s.correction.now (section_of s.file.now 2) (section_of s.file.now 3) 0 = rw (c.records_refusal-records.ensures, c.section-events.ensures, c.section-past.ensures, c.section-references.ensures, c.section-units.ensures, c.format_of-format.ensures) in
-    let first_stages : let s = c.args in
-    (header_refusal s.file.now 0 ≡ 0)
-    × (records_refusal (format_in s.file.now) (section_of s.file.now 0) (section_of s.file.now 1) s.correction.now (section_of s.file.now 2) (section_of s.file.now 3) 0 ≡ 0) = (header, sym records ∙ c.if-records-ne0.false) in
-    let fields : let s = c.args in
-    c.fields_refusal-fields.result ≡ fields_refusal (format_in s.file.now) (section_of s.file.now 2) (section_of s.file.now 3) 0 = rw (c.fields_refusal-fields.ensures, c.section-events.ensures, c.section-past.ensures, c.format_of-format.ensures) in
-    record { value = refusal_fields _ _ _ first_stages.0 first_stages.1 _ fields c.if-fields-ne0.true; handed_on = λ z. absurd (c.if-fields-ne0.true z) }
+pub returns-in_err-fields_refusal-clause-value : goal.returns-in_err-fields_refusal-clause-value
+returns-in_err-fields_refusal-clause-value c =
+    let records = rw (c.of-case.ensures.events, c.of-case.ensures.past, c.of-case.ensures.references, c.of-case.ensures.units, c.of-case.ensures.format) at (sym c.in_ok-records_refusal.ensures) in
+    let broken = rw (c.of-case.ensures.events, c.of-case.ensures.past, c.of-case.ensures.format) at c.in_err-fields_refusal.ensures in
+    err_number _ _ c.from_residual-in_err-fields_refusal.ensures.1
+    ∙ refusal_fields _ _ _ (sym c.in_ok-header_refusal.ensures) records _ broken (refusal_not_0 _)
 
 pub found_refusal-requires : goal.found_refusal-requires
 found_refusal-requires c =
-    let records : let s = c.args in
-    c.records_refusal-records.result
-    ≡ records_refusal (format_in s.file.now) (section_of s.file.now 0) (section_of s.file.now 1) s.correction.now (section_of s.file.now 2) (section_of s.file.now 3) 0 = rw (c.records_refusal-records.ensures, c.section-events.ensures, c.section-past.ensures, c.section-references.ensures, c.section-units.ensures, c.format_of-format.ensures) in
-    let fine_records : c.records_refusal-records.result ≡ 0 → let s = c.args in
-    RecordsFine (format_in s.file.now) (section_of s.file.now 0) (section_of s.file.now 1) s.correction.now (section_of s.file.now 2) (section_of s.file.now 3) = λ e. (records_fine _ _ _ _ _ _ 0 (sym records ∙ e)).0 in
-    let header : header_refusal c.args.file.now 0 ≡ 0 = sym c.header_refusal-header.ensures ∙ c.if-header-ne0.false in
-    let fine : HeaderFine c.args.file.now = (header_fine _ 0 header).0 in
-    let f = fine_records c.if-records-ne0.false in
-    let t = c.format_of-format.ensures in (
-      rw (t, c.section-units.ensures) (numbers_in_order _ _ f.units_fine_holds),
-      rw (t, c.section-references.ensures) (references_in_order _ _ _ f.references_fine_holds),
-      rw (t, c.section-references.ensures) (correct_in_order _ _ _ _ f.references_fine_holds f.correction_fine_holds),
-      rw (t, c.section-events.ensures) (events_fit _ fine),
+    let f = (records_fine _ _ _ _ _ _ 0 (sym c.in_ok-records_refusal.ensures)).0 in
+    let t = c.of-case.ensures.format in (
+      numbers_in_order _ _ f.units_fine_holds,
+      references_in_order _ _ _ f.references_fine_holds,
+      correct_in_order _ _ _ _ f.references_fine_holds f.correction_fine_holds,
+      rw (t, c.of-case.ensures.events) (events_fit _ (header_fine _ 0 (sym c.in_ok-header_refusal.ensures)).0),
     )
 
-pub returns : goal.returns
-returns c =
-    let header : header_refusal c.args.file.now 0 ≡ 0 = sym c.header_refusal-header.ensures ∙ c.if-header-ne0.false in
-    let records : let s = c.args in
-    c.records_refusal-records.result
-    ≡ records_refusal (format_in s.file.now) (section_of s.file.now 0) (section_of s.file.now 1) s.correction.now (section_of s.file.now 2) (section_of s.file.now 3) 0 = rw (c.records_refusal-records.ensures, c.section-events.ensures, c.section-past.ensures, c.section-references.ensures, c.section-units.ensures, c.format_of-format.ensures) in
-    let first_stages : let s = c.args in
-    (header_refusal s.file.now 0 ≡ 0)
-    × (records_refusal (format_in s.file.now) (section_of s.file.now 0) (section_of s.file.now 1) s.correction.now (section_of s.file.now 2) (section_of s.file.now 3) 0 ≡ 0) = (header, sym records ∙ c.if-records-ne0.false) in
-    let fields : let s = c.args in
-    c.fields_refusal-fields.result ≡ fields_refusal (format_in s.file.now) (section_of s.file.now 2) (section_of s.file.now 3) 0 = rw (c.fields_refusal-fields.ensures, c.section-events.ensures, c.section-past.ensures, c.format_of-format.ensures) in
-    record {
-      value = rw (
-        ← refusal_found _ _ _ first_stages.0 first_stages.1 (sym fields ∙ c.if-fields-ne0.false),
-        c.found_refusal.ensures.value,
-        c.section-events.ensures,
-        c.section-references.ensures,
-        c.section-units.ensures,
-        c.format_of-format.ensures,
-      );
-      handed_on = λ z. handed_on _ _ _ _ _
-          (rw (c.section-events.ensures, c.section-references.ensures, c.section-units.ensures, c.format_of-format.ensures) at
-          (c.found_refusal.ensures.found z));
-    }
+pub returns-clause-value : goal.returns-clause-value
+returns-clause-value c =
+    let records = rw (c.of-case.ensures.events, c.of-case.ensures.past, c.of-case.ensures.references, c.of-case.ensures.units, c.of-case.ensures.format) at (sym c.in_ok-records_refusal.ensures) in
+    let fields = rw (c.of-case.ensures.events, c.of-case.ensures.past, c.of-case.ensures.format) at (sym c.in_ok-fields_refusal.ensures) in
+    rw (
+      ← refusal_found _ _ _ (sym c.in_ok-header_refusal.ensures) records fields,
+      c.found_refusal.ensures.value,
+      c.of-case.ensures.events,
+      c.of-case.ensures.references,
+      c.of-case.ensures.units,
+      c.of-case.ensures.format,
+    )
+
+pub returns-clause-handed_on : goal.returns-clause-handed_on
+returns-clause-handed_on c =
+    on_ok_weaker _ (λ f. handed_on _ _ _ _ _ (rw (c.of-case.ensures.events, c.of-case.ensures.references, c.of-case.ensures.units, c.of-case.ensures.format) at f)) c.found_refusal.ensures.found

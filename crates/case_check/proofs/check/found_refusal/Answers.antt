@@ -1,55 +1,46 @@
-use mathlib.Core.Bool.{true}
-use mathlib.Core.Path.{◌≡◌, sym, ◌∙◌}
+use mathlib.Core.Path.{sym, ◌∙◌}
+use borrow.Author.Tests.{le-leb, lt-leb}
 use Rattle.casefile.specs.Decode.{units_in, events_in}
-use Rattle.casefile.specs.Lookup.{correct_references}
 use Rattle.limits.specs.Refusal.{events_listed, amounts_fine, rows_fine}
 use Rattle.limits.specs.StageRefusal.{found_refusal}
-use Rattle.limits.proofs.RefusalLaws.{passed, either_broken, found_fine}
+use Rattle.limits.proofs.RefusalLaws.{passed, either_broken, err_number, refusal_not_0}
 use Rattle.case_check.proofs.check.found_refusal.Goals as goal
 
-answer : (c : goal.After-unless) → let s = c.args in
-    c.unless.result ≡ found_refusal s.format s.units.now s.references.now (correct_references s.correction.now s.references.now) s.events.now s.rows_length
-unfolding found_refusal rows_fine
-answer c =
-    let listed : let s = c.args in
-    (events_listed (units_in s.format s.units.now) (events_in s.format s.events.now) ≡ true)
-    × (amounts_fine s.format (units_in s.format s.units.now) s.events.now ≡ true) = let s = c.args in
-    let p = passed (events_listed (units_in s.format s.units.now) (events_in s.format s.events.now)) 11 _ (sym c.unit_refusal-unit.ensures.value ∙ c.if-unit-ne0.false) in
-    (p.0, (passed (amounts_fine s.format (units_in s.format s.units.now) s.events.now) 12 0 p.1).0) in
-    rw (
-      listed.0,
-      listed.1,
-      c.unless.ensures,
-      c.unless-from_15.ensures,
-      c.event_count-rows.ensures,
-      c.references_found-references_good.ensures.value,
-    )
+pub unit_refusal-requires : goal.unit_refusal-requires
+unit_refusal-requires c = (c.requires.0, c.requires.3)
 
-pub unit_refusal-unit-requires : goal.unit_refusal-unit-requires
+pub returns-in_err-unit_refusal-clause-value : goal.returns-in_err-unit_refusal-clause-value
 unfolding found_refusal
-unit_refusal-unit-requires c = (c.requires.0, c.requires.3)
-
-pub returns-then-unit-ne0 : goal.returns-then-unit-ne0
-unfolding found_refusal
-returns-then-unit-ne0 c =
+returns-in_err-unit_refusal-clause-value c =
     let s = c.args in
-    let r = c.unit_refusal-unit.ensures.value in
-    let broken =
-    either_broken 12 13 (events_listed (units_in s.format s.units.now) (events_in s.format s.events.now))
-    (amounts_fine s.format (units_in s.format s.units.now) s.events.now) _ (λ e. c.if-unit-ne0.true (r ∙ e)) in
-    record { value = r ∙ broken; found = λ z. absurd (c.if-unit-ne0.true z) }
+    let broken = c.in_err-unit_refusal.ensures.value in
+    err_number _ _ c.from_residual.ensures.1
+    ∙ broken
+    ∙ either_broken 12 13 (events_listed (units_in s.case.format s.case.units.now) (events_in s.case.format s.case.events.now)) (amounts_fine s.case.format (units_in s.case.format s.case.units.now) s.case.events.now) _
+    (λ e. refusal_not_0 _ (broken ∙ e))
 
-pub references_found-references_good-requires : goal.references_found-references_good-requires
+pub returns-then-not-references_good-clause-value : goal.returns-then-not-references_good-clause-value
 unfolding found_refusal
-references_found-references_good-requires c = (c.requires.1, c.requires.2, c.requires.3)
+returns-then-not-references_good-clause-value c =
+    let s = c.args in
+    let p = passed (events_listed (units_in s.case.format s.case.units.now) (events_in s.case.format s.case.events.now)) 11 _ (sym c.in_ok-unit_refusal.ensures.value) in
+    let q = passed (amounts_fine s.case.format (units_in s.case.format s.case.units.now) s.case.events.now) 12 _ p.1 in
+    rw (p.0, q.0, ← c.references_found-references_good.ensures.value, c.if-not-references_good.true)
 
-pub returns : goal.returns
-unfolding found_refusal
-returns c =
-    let f = c.references_found-references_good.ensures in
-    record {
-      value = answer c;
-      found = λ z.
-          let good = f.value ∙ (found_fine _ _ _ _ _ _ (sym (answer c) ∙ z)).references_found_holds in
-          record { placed = c.unit_refusal-unit.ensures.places_found c.if-unit-ne0.false; levelled = f.levels_found good; corrected = f.corrects_found good };
-    }
+pub returns-then-rows_length-rows-clause-value : goal.returns-then-rows_length-rows-clause-value
+unfolding found_refusal rows_fine
+returns-then-rows_length-rows-clause-value c =
+    let s = c.args in
+    let p = passed (events_listed (units_in s.case.format s.case.units.now) (events_in s.case.format s.case.events.now)) 11 _ (sym c.in_ok-unit_refusal.ensures.value) in
+    let q = passed (amounts_fine s.case.format (units_in s.case.format s.case.units.now) s.case.events.now) 12 _ p.1 in
+    let short = rw c.event_count-rows.ensures at (lt-leb _ _ c.if-rows_length-rows.true) in
+    rw (p.0, q.0, ← c.references_found-references_good.ensures.value, c.if-not-references_good.false, short)
+
+pub returns-clause-value : goal.returns-clause-value
+unfolding found_refusal rows_fine
+returns-clause-value c =
+    let s = c.args in
+    let p = passed (events_listed (units_in s.case.format s.case.units.now) (events_in s.case.format s.case.events.now)) 11 _ (sym c.in_ok-unit_refusal.ensures.value) in
+    let q = passed (amounts_fine s.case.format (units_in s.case.format s.case.units.now) s.case.events.now) 12 _ p.1 in
+    let room = rw c.event_count-rows.ensures at (le-leb _ _ c.if-rows_length-rows.false) in
+    rw (p.0, q.0, ← c.references_found-references_good.ensures.value, c.if-not-references_good.false, room)

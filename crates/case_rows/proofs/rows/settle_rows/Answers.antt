@@ -17,48 +17,41 @@ use Rattle.case_rows.proofs.RowsLaws.{few, fine, sound, turn, row_is, penalty_by
 use Rattle.case_rows.proofs.WriteLaws.{row_bytes_length}
 use Rattle.case_rows.proofs.rows.settle_rows.Goals as goal
 
-pub format_of-format-requires : goal.format_of-format-requires
-format_of-format-requires c = (has_section _ c.requires.accepted_file.0 0 (omega arith)).header
-
-pub section-units-requires : goal.section-units-requires
-section-units-requires c = has_section _ c.requires.accepted_file.0 0 (omega arith)
-
-pub section-past-requires : goal.section-past-requires
-section-past-requires c = has_section _ c.requires.accepted_file.0 2 (omega arith)
-
-pub section-events-requires : goal.section-events-requires
-section-events-requires c = has_section _ c.requires.accepted_file.0 3 (omega arith)
+pub of-case-requires : goal.of-case-requires
+of-case-requires c =
+    let a = c.requires.accepted_file.0 in
+    record { units = has_section _ a 0 (omega arith); references = has_section _ a 1 (omega arith); past = has_section _ a 2 (omega arith); events = has_section _ a 3 (omega arith) }
 
 pub loop-i-init : goal.loop-i-init
-loop-i-init c = (omega arith, refl, join_none _ (bids_offset + 4 * most_hours) _, refl, (λ j q. absurd (let z : ⊥ = omega arith in z)), sum_none _, sum_none _, omega arith)
+loop-i-init c = (refl, join_none _ (bids_offset + 4 * most_hours) _, refl, (λ j q. absurd (let z : ⊥ = omega arith in z)), sum_none _, sum_none _, omega arith)
 
 pub sanction_at-sanction-requires : goal.sanction_at-sanction-requires
 sanction_at-sanction-requires c =
-    let formatted : c.format_of-format.result ≡ format_in c.args.file.now = c.format_of-format.ensures in
-    let events_of : c.section-events.result.now ≡ section_of c.args.file.now 3 = c.section-events.ensures in
+    let formatted : c.of-case.result.format ≡ format_in c.args.file.now = c.of-case.ensures.format in
+    let events_of : c.of-case.result.events.now ≡ section_of c.args.file.now 3 = c.of-case.ensures.events in
     let count : c.event_count-n.result ≡ (decode c.args.file.now).events.count = c.event_count-n.ensures ∙ count_is _ c.args.file.now _ formatted events_of in
-    let past_of : c.section-past.result.now ≡ section_of c.args.file.now 2 = c.section-past.ensures in
-    let units_of : c.section-units.result.now ≡ section_of c.args.file.now 0 = c.section-units.ensures in
+    let past_of : c.of-case.result.past.now ≡ section_of c.args.file.now 2 = c.of-case.ensures.past in
+    let units_of : c.of-case.result.units.now ≡ section_of c.args.file.now 0 = c.of-case.ensures.units in
     let f = c.args.file.now in
     let a = c.requires.accepted_file.0 in
     record { in_range = (omega arith, omega (arith, few f a), past_few f a _ past_of); sound = sound f a _ _ _ _ formatted units_of past_of events_of _ _ _ _ c.requires.accepted_file.1 (λ b. (c.shared_slice_known-1.given b).fits) }
 
 pub row_of-row-requires : goal.row_of-row-requires
 row_of-row-requires c =
-    let formatted : c.format_of-format.result ≡ format_in c.args.file.now = c.format_of-format.ensures in
-    let events_of : c.section-events.result.now ≡ section_of c.args.file.now 3 = c.section-events.ensures in
+    let formatted : c.of-case.result.format ≡ format_in c.args.file.now = c.of-case.ensures.format in
+    let events_of : c.of-case.result.events.now ≡ section_of c.args.file.now 3 = c.of-case.ensures.events in
     let count : c.event_count-n.result ≡ (decode c.args.file.now).events.count = c.event_count-n.ensures ∙ count_is _ c.args.file.now _ formatted events_of in
     let below : c.loop-i.i < (decode c.args.file.now).events.count = omega (arith, c.loop-i-test.true) in
     let inside : c.loop-i.i < 200 = let k = few c.args.file.now c.requires.accepted_file.0 in omega arith in
-    let units_of : c.section-units.result.now ≡ section_of c.args.file.now 0 = c.section-units.ensures in
-    let past_of : c.section-past.result.now ≡ section_of c.args.file.now 2 = c.section-past.ensures in
+    let units_of : c.of-case.result.units.now ≡ section_of c.args.file.now 0 = c.of-case.ensures.units in
+    let past_of : c.of-case.result.past.now ≡ section_of c.args.file.now 2 = c.of-case.ensures.past in
     let f = c.args.file.now in
     let a = c.requires.accepted_file.0 in record { in_range = (omega arith, inside, fine f a _ _ _ _ formatted units_of past_of events_of); place_in_range = file_place f a _ _ _ formatted units_of events_of _ _ (c.requires.accepted_file.1.placed _ below) below }
 
 pub offset_bounds-penalties-i : goal.offset_bounds-penalties-i
 offset_bounds-penalties-i c =
-    let formatted : c.format_of-format.result ≡ format_in c.args.file.now = c.format_of-format.ensures in
-    let events_of : c.section-events.result.now ≡ section_of c.args.file.now 3 = c.section-events.ensures in
+    let formatted : c.of-case.result.format ≡ format_in c.args.file.now = c.of-case.ensures.format in
+    let events_of : c.of-case.result.events.now ≡ section_of c.args.file.now 3 = c.of-case.ensures.events in
     let count : c.event_count-n.result ≡ (decode c.args.file.now).events.count = c.event_count-n.ensures ∙ count_is _ c.args.file.now _ formatted events_of in
     let below : c.loop-i.i < (decode c.args.file.now).events.count = omega (arith, c.loop-i-test.true) in
     let inside : c.loop-i.i < 200 = let k = few c.args.file.now c.requires.accepted_file.0 in omega arith in
@@ -66,8 +59,8 @@ offset_bounds-penalties-i c =
 
 pub bounds-penalties-i : goal.bounds-penalties-i
 bounds-penalties-i c =
-    let formatted : c.format_of-format.result ≡ format_in c.args.file.now = c.format_of-format.ensures in
-    let events_of : c.section-events.result.now ≡ section_of c.args.file.now 3 = c.section-events.ensures in
+    let formatted : c.of-case.result.format ≡ format_in c.args.file.now = c.of-case.ensures.format in
+    let events_of : c.of-case.result.events.now ≡ section_of c.args.file.now 3 = c.of-case.ensures.events in
     let count : c.event_count-n.result ≡ (decode c.args.file.now).events.count = c.event_count-n.ensures ∙ count_is _ c.args.file.now _ formatted events_of in
     let below : c.loop-i.i < (decode c.args.file.now).events.count = omega (arith, c.loop-i-test.true) in
     let inside : c.loop-i.i < 200 = let k = few c.args.file.now c.requires.accepted_file.0 in omega arith in
@@ -76,30 +69,30 @@ bounds-penalties-i c =
 pub overflow_add-total : goal.overflow_add-total
 overflow_add-total c =
     let paid : c.row_of-row.result.penalty ≡ c.sanction_at-sanction.result.penalty = penalty_by _ _ _ _ _ _ _ _ _ _ c.row_of-row.ensures.value in
-    let formatted : c.format_of-format.result ≡ format_in c.args.file.now = c.format_of-format.ensures in
-    let units_of : c.section-units.result.now ≡ section_of c.args.file.now 0 = c.section-units.ensures in
-    let past_of : c.section-past.result.now ≡ section_of c.args.file.now 2 = c.section-past.ensures in
-    let events_of : c.section-events.result.now ≡ section_of c.args.file.now 3 = c.section-events.ensures in
+    let formatted : c.of-case.result.format ≡ format_in c.args.file.now = c.of-case.ensures.format in
+    let units_of : c.of-case.result.units.now ≡ section_of c.args.file.now 0 = c.of-case.ensures.units in
+    let past_of : c.of-case.result.past.now ≡ section_of c.args.file.now 2 = c.of-case.ensures.past in
+    let events_of : c.of-case.result.events.now ≡ section_of c.args.file.now 3 = c.of-case.ensures.events in
     let count : c.event_count-n.result ≡ (decode c.args.file.now).events.count = c.event_count-n.ensures ∙ count_is _ c.args.file.now _ formatted events_of in
     let below : c.loop-i.i < (decode c.args.file.now).events.count = omega (arith, c.loop-i-test.true) in
     let inside : c.loop-i.i < 200 = let k = few c.args.file.now c.requires.accepted_file.0 in omega arith in
     let turned : SanctionTurn (decode c.args.file.now) c.loop-i.i c.loop-i.total c.sanction_at-sanction.result c.loop-i.penalties = turn c.args.file.now c.requires.accepted_file.0 _ _ _ _ formatted units_of past_of events_of _ _ _ _ c.requires.accepted_file.1
-    c.loop-i.i below _ _ _ c.sanction_at-sanction.ensures (omega (arith, c.loop-i.invariant.3)) c.loop-i.invariant.4 c.loop-i.invariant.5 in
+    c.loop-i.i below _ _ _ c.sanction_at-sanction.ensures (omega (arith, c.loop-i.invariant.2)) c.loop-i.invariant.3 c.loop-i.invariant.4 in
     omega (arith, paid, turned.fits)
 
 pub overflow_add-due : goal.overflow_add-due
 overflow_add-due c =
-    let formatted : c.format_of-format.result ≡ format_in c.args.file.now = c.format_of-format.ensures in
-    let events_of : c.section-events.result.now ≡ section_of c.args.file.now 3 = c.section-events.ensures in
+    let formatted : c.of-case.result.format ≡ format_in c.args.file.now = c.of-case.ensures.format in
+    let events_of : c.of-case.result.events.now ≡ section_of c.args.file.now 3 = c.of-case.ensures.events in
     let count : c.event_count-n.result ≡ (decode c.args.file.now).events.count = c.event_count-n.ensures ∙ count_is _ c.args.file.now _ formatted events_of in
     let below : c.loop-i.i < (decode c.args.file.now).events.count = omega (arith, c.loop-i-test.true) in
     let inside : c.loop-i.i < 200 = let k = few c.args.file.now c.requires.accepted_file.0 in omega arith in
-    omega (arith, c.row_of-row.ensures.make_up_in_range, c.loop-i.invariant.7)
+    omega (arith, c.row_of-row.ensures.make_up_in_range, c.loop-i.invariant.6)
 
 pub overflow_mul-at : goal.overflow_mul-at
 overflow_mul-at c =
-    let formatted : c.format_of-format.result ≡ format_in c.args.file.now = c.format_of-format.ensures in
-    let events_of : c.section-events.result.now ≡ section_of c.args.file.now 3 = c.section-events.ensures in
+    let formatted : c.of-case.result.format ≡ format_in c.args.file.now = c.of-case.ensures.format in
+    let events_of : c.of-case.result.events.now ≡ section_of c.args.file.now 3 = c.of-case.ensures.events in
     let count : c.event_count-n.result ≡ (decode c.args.file.now).events.count = c.event_count-n.ensures ∙ count_is _ c.args.file.now _ formatted events_of in
     let below : c.loop-i.i < (decode c.args.file.now).events.count = omega (arith, c.loop-i-test.true) in
     let inside : c.loop-i.i < 200 = let k = few c.args.file.now c.requires.accepted_file.0 in omega arith in
@@ -107,8 +100,8 @@ overflow_mul-at c =
 
 pub overflow_add-end : goal.overflow_add-end
 overflow_add-end c =
-    let formatted : c.format_of-format.result ≡ format_in c.args.file.now = c.format_of-format.ensures in
-    let events_of : c.section-events.result.now ≡ section_of c.args.file.now 3 = c.section-events.ensures in
+    let formatted : c.of-case.result.format ≡ format_in c.args.file.now = c.of-case.ensures.format in
+    let events_of : c.of-case.result.events.now ≡ section_of c.args.file.now 3 = c.of-case.ensures.events in
     let count : c.event_count-n.result ≡ (decode c.args.file.now).events.count = c.event_count-n.ensures ∙ count_is _ c.args.file.now _ formatted events_of in
     let below : c.loop-i.i < (decode c.args.file.now).events.count = omega (arith, c.loop-i-test.true) in
     let inside : c.loop-i.i < 200 = let k = few c.args.file.now c.requires.accepted_file.0 in omega arith in
@@ -116,73 +109,55 @@ overflow_add-end c =
 
 pub slice_bounds-write_row-end : goal.slice_bounds-write_row-end
 slice_bounds-write_row-end c =
-    let formatted : c.format_of-format.result ≡ format_in c.args.file.now = c.format_of-format.ensures in
-    let events_of : c.section-events.result.now ≡ section_of c.args.file.now 3 = c.section-events.ensures in
+    let formatted : c.of-case.result.format ≡ format_in c.args.file.now = c.of-case.ensures.format in
+    let events_of : c.of-case.result.events.now ≡ section_of c.args.file.now 3 = c.of-case.ensures.events in
     let count : c.event_count-n.result ≡ (decode c.args.file.now).events.count = c.event_count-n.ensures ∙ count_is _ c.args.file.now _ formatted events_of in
     let below : c.loop-i.i < (decode c.args.file.now).events.count = omega (arith, c.loop-i-test.true) in
-    omega (arith, below, c.requires.has_room, c.loop-i.invariant.1)
+    omega (arith, below, c.requires.has_room, c.loop-i.invariant.0)
 
 pub write_row-requires : goal.write_row-requires
 write_row-requires c =
-    let formatted : c.format_of-format.result ≡ format_in c.args.file.now = c.format_of-format.ensures in
-    let events_of : c.section-events.result.now ≡ section_of c.args.file.now 3 = c.section-events.ensures in
+    let formatted : c.of-case.result.format ≡ format_in c.args.file.now = c.of-case.ensures.format in
+    let events_of : c.of-case.result.events.now ≡ section_of c.args.file.now 3 = c.of-case.ensures.events in
     let count : c.event_count-n.result ≡ (decode c.args.file.now).events.count = c.event_count-n.ensures ∙ count_is _ c.args.file.now _ formatted events_of in
     let below : c.loop-i.i < (decode c.args.file.now).events.count = omega (arith, c.loop-i-test.true) in
-    simp (add-sub_cancel_left, length-take, length-drop) (omega (arith, below, c.requires.has_room, c.loop-i.invariant.1))
-
-pub overflow_add-i : goal.overflow_add-i
-overflow_add-i c =
-    let formatted : c.format_of-format.result ≡ format_in c.args.file.now = c.format_of-format.ensures in
-    let events_of : c.section-events.result.now ≡ section_of c.args.file.now 3 = c.section-events.ensures in
-    let count : c.event_count-n.result ≡ (decode c.args.file.now).events.count = c.event_count-n.ensures ∙ count_is _ c.args.file.now _ formatted events_of in
-    let below : c.loop-i.i < (decode c.args.file.now).events.count = omega (arith, c.loop-i-test.true) in
-    let inside : c.loop-i.i < 200 = let k = few c.args.file.now c.requires.accepted_file.0 in omega arith in
-    omega arith
-
-pub loop-i-smaller : goal.loop-i-smaller
-loop-i-smaller c =
-    let formatted : c.format_of-format.result ≡ format_in c.args.file.now = c.format_of-format.ensures in
-    let events_of : c.section-events.result.now ≡ section_of c.args.file.now 3 = c.section-events.ensures in
-    let count : c.event_count-n.result ≡ (decode c.args.file.now).events.count = c.event_count-n.ensures ∙ count_is _ c.args.file.now _ formatted events_of in
-    let below : c.loop-i.i < (decode c.args.file.now).events.count = omega (arith, c.loop-i-test.true) in
-    omega arith
+    simp (add-sub_cancel_left, length-take, length-drop) (omega (arith, below, c.requires.has_room, c.loop-i.invariant.0))
 
 pub loop-i-preserved : goal.loop-i-preserved
 loop-i-preserved c =
-    let formatted : c.format_of-format.result ≡ format_in c.args.file.now = c.format_of-format.ensures in
-    let events_of : c.section-events.result.now ≡ section_of c.args.file.now 3 = c.section-events.ensures in
+    let formatted : c.of-case.result.format ≡ format_in c.args.file.now = c.of-case.ensures.format in
+    let events_of : c.of-case.result.events.now ≡ section_of c.args.file.now 3 = c.of-case.ensures.events in
     let count : c.event_count-n.result ≡ (decode c.args.file.now).events.count = c.event_count-n.ensures ∙ count_is _ c.args.file.now _ formatted events_of in
     let below : c.loop-i.i < (decode c.args.file.now).events.count = omega (arith, c.loop-i-test.true) in
-    let units_of : c.section-units.result.now ≡ section_of c.args.file.now 0 = c.section-units.ensures in
-    let past_of : c.section-past.result.now ≡ section_of c.args.file.now 2 = c.section-past.ensures in
+    let units_of : c.of-case.result.units.now ≡ section_of c.args.file.now 0 = c.of-case.ensures.units in
+    let past_of : c.of-case.result.past.now ≡ section_of c.args.file.now 2 = c.of-case.ensures.past in
     let inside : c.loop-i.i < 200 = let k = few c.args.file.now c.requires.accepted_file.0 in omega arith in
     let turned : SanctionTurn (decode c.args.file.now) c.loop-i.i c.loop-i.total c.sanction_at-sanction.result c.loop-i.penalties = turn c.args.file.now c.requires.accepted_file.0 _ _ _ _ formatted units_of past_of events_of _ _ _ _ c.requires.accepted_file.1
-    c.loop-i.i below _ _ _ c.sanction_at-sanction.ensures (omega (arith, c.loop-i.invariant.3)) c.loop-i.invariant.4 c.loop-i.invariant.5 in
+    c.loop-i.i below _ _ _ c.sanction_at-sanction.ensures (omega (arith, c.loop-i.invariant.2)) c.loop-i.invariant.3 c.loop-i.invariant.4 in
     let made : let a = c.args in
     c.row_of-row.result ≡ row_in a.file.now a.levels.now a.corrects.now c.loop-i.i = row_is c.args.file.now c.requires.accepted_file.0 _ _ _ _ formatted units_of past_of events_of _ _ _ _ c.requires.accepted_file.1
     c.loop-i.i below _ _ _ _ _ _ turned c.row_of-row.ensures.value in
     let paid : c.row_of-row.result.penalty ≡ c.sanction_at-sanction.result.penalty = penalty_by _ _ _ _ _ _ _ _ _ _ c.row_of-row.ensures.value in
     let a = c.args in (
-      (omega arith),
       search rules,
-      join_part (bids_offset + 4 * most_hours) _ (λ j. row_bytes_length (row_in a.file.now a.levels.now a.corrects.now j)) a.rows.now c.loop-i.rows c.write_row.new.row c.loop-i.i c.loop-i.invariant.2
+      join_part (bids_offset + 4 * most_hours) _ (λ j. row_bytes_length (row_in a.file.now a.levels.now a.corrects.now j)) a.rows.now c.loop-i.rows c.write_row.new.row c.loop-i.i c.loop-i.invariant.1
           (c.write_row.ensures ∙ ap written_row made),
-      length-set c.loop-i.penalties c.loop-i.i c.row_of-row.result.penalty ∙ c.loop-i.invariant.3,
+      length-set c.loop-i.penalties c.loop-i.i c.row_of-row.result.penalty ∙ c.loop-i.invariant.2,
       rw paid turned.held,
       rw paid turned.summed,
-      due_more a.file.now a.levels.now a.corrects.now _ _ _ c.loop-i.invariant.6 made,
-      omega (arith, c.row_of-row.ensures.make_up_in_range, c.loop-i.invariant.7),
+      due_more a.file.now a.levels.now a.corrects.now _ _ _ c.loop-i.invariant.5 made,
+      omega (arith, c.row_of-row.ensures.make_up_in_range, c.loop-i.invariant.6),
     )
 
 pub shape_of-rows : goal.shape_of-rows
-shape_of-rows c = c.loop-i.invariant.1
+shape_of-rows c = c.loop-i.invariant.0
 
 pub returns : goal.returns
 returns c =
-    let formatted : c.format_of-format.result ≡ format_in c.args.file.now = c.format_of-format.ensures in
-    let events_of : c.section-events.result.now ≡ section_of c.args.file.now 3 = c.section-events.ensures in
+    let formatted : c.of-case.result.format ≡ format_in c.args.file.now = c.of-case.ensures.format in
+    let events_of : c.of-case.result.events.now ≡ section_of c.args.file.now 3 = c.of-case.ensures.events in
     let count : c.event_count-n.result ≡ (decode c.args.file.now).events.count = c.event_count-n.ensures ∙ count_is _ c.args.file.now _ formatted events_of in
-    let e : c.loop-i.i ≡ (decode c.args.file.now).events.count = omega (arith, c.loop-i.invariant.0, c.loop-i-test.false) in
+    let e : c.loop-i.i ≡ (decode c.args.file.now).events.count = omega (arith, c.loop-i-test.false) in
     let a = c.args in
-    let all = rows_all a.file.now a.levels.now a.corrects.now a.rows.now _ _ _ _ e c.loop-i.invariant.5 c.loop-i.invariant.6 c.loop-i.invariant.2 in
+    let all = rows_all a.file.now a.levels.now a.corrects.now a.rows.now _ _ _ _ e c.loop-i.invariant.4 c.loop-i.invariant.5 c.loop-i.invariant.1 in
     record { value = all.0; rows_after = all.1 }

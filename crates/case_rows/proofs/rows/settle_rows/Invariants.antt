@@ -14,11 +14,4 @@ use Rattle.case_rows.proofs.rows.settle_rows.Given as goal
 
 abbrev pub invariant-loop-i : goal.invariant-loop-i
 invariant-loop-i l =
-    (l.i ≤ (decode l.file).events.count) × (length l.rows ≡ length l.initial.rows)
-    × (l.rows ≡ join_to l.i (λ (j : ℕ). written_row (row_in l.file l.levels l.corrects j)) ++ drop (row_width (format_in l.file) * l.i) l.initial.rows)
-    × (length l.penalties ≡ most_events) × Holds l.i l.penalties (penalty (decode l.file)) × (l.total ≡ sum_to l.i (penalty (decode l.file)))
-    × (l.due ≡ sum_to l.i (λ (j : ℕ). (row_in l.file l.levels l.corrects j).make_up)) × (l.due ≤ highest_make_up * l.i)
-
-abbrev pub decreases-loop-i : goal.decreases-loop-i
-decreases-loop-i l =
-    (decode l.file).events.count - l.i
+    (length l.rows ≡ length l.initial.rows) × (l.rows ≡ join_to l.i (λ (j : ℕ). written_row (row_in l.file l.levels l.corrects j)) ++ drop (row_width (format_in l.file) * l.i) l.initial.rows) × (length l.penalties ≡ most_events) × Holds l.i l.penalties (penalty (decode l.file)) × (l.total ≡ sum_to l.i (penalty (decode l.file))) × (l.due ≡ sum_to l.i (λ (j : ℕ). (row_in l.file l.levels l.corrects j).make_up)) × (l.due ≤ highest_make_up * l.i)

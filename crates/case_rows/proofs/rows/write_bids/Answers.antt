@@ -9,22 +9,22 @@ use Rattle.case_rows.proofs.rows.write_bids.Goals as goal
 
 pub loop-h-init : goal.loop-h-init
 unfolding join_to
-loop-h-init c = (omega arith, refl)
+loop-h-init c = refl
 
 pub loop-h-preserved : goal.loop-h-preserved
 unfolding word_of
 loop-h-preserved c =
-    (omega arith, c.store_u32.ensures ∙ rw c.loop-h.invariant.1 (words_more c.args.row.now c.args.bids c.loop-h.h))
+    c.store.ensures ∙ rw c.loop-h.invariant (words_more c.args.row.now c.args.bids c.loop-h.h)
 
 pub returns : goal.returns
 unfolding words_of
 returns c =
     let l = c.loop-h in
     let e : l.h ≡ most_hours = omega arith in
-    rw (← e) l.invariant.1
+    rw (← e) l.invariant
 
-pub store_u32-requires : goal.store_u32-requires
-store_u32-requires c = rw (c.loop-h.invariant.1, length-sets) (omega arith)
+pub store-requires : goal.store-requires
+store-requires c = rw (c.loop-h.invariant, length-sets) (omega arith)
 
 pub shape_of-row : goal.shape_of-row
-shape_of-row c = rw (c.loop-h.invariant.1, length-sets)
+shape_of-row c = rw (c.loop-h.invariant, length-sets)

@@ -7,7 +7,5 @@ use Rattle.case_rows.specs.StageRow.{word_of}
 use Rattle.case_rows.proofs.rows.write_bids.Given as goal
 
 abbrev pub invariant-loop-h : goal.invariant-loop-h
-invariant-loop-h l = (l.h ≤ most_hours) × (l.row ≡ sets l.initial.row bids_offset (join_to l.h (word_of l.bids)))
-
-abbrev pub decreases-loop-h : goal.decreases-loop-h
-decreases-loop-h l = most_hours - l.h
+invariant-loop-h l =
+    l.row ≡ sets l.initial.row bids_offset (join_to l.h (word_of l.bids))

@@ -5,14 +5,14 @@ use Rattle.case_rows.proofs.rows.write_row.Goals as goal
 
 pub write_bids-requires : goal.write_bids-requires
 write_bids-requires c =
-    c.store_u16-3.auto.s ∙ c.store_u16-2.auto.s ∙ c.store_u16.auto.s ∙ c.store_u8-2.auto.s ∙ c.store_u8.auto.s
-    ∙ c.store_u64-2.auto.s ∙ c.store_u64.auto.s ∙ c.store_u32-2.auto.s ∙ c.store_u32.auto.s ∙ c.requires
+    c.store-9.auto.s ∙ c.store-8.auto.s ∙ c.store-7.auto.s ∙ c.store-6.auto.s ∙ c.store-5.auto.s
+    ∙ c.store-4.auto.s ∙ c.store-3.auto.s ∙ c.store-2.auto.s ∙ c.store.auto.s ∙ c.requires
 
 pub returns : goal.returns
 returns c =
-    row_stored c.args.r _ _ _ _ _ _ _ _ _ _ _ c.requires c.store_u32.ensures c.store_u32-2.ensures
-    c.store_u64.ensures c.store_u64-2.ensures c.store_u8.ensures c.store_u8-2.ensures c.store_u16.ensures
-    c.store_u16-2.ensures c.store_u16-3.ensures c.write_bids.ensures
+    row_stored c.args.r _ _ _ _ _ _ _ _ _ _ _ c.requires c.store.ensures c.store-2.ensures
+    c.store-3.ensures c.store-4.ensures c.store-5.ensures c.store-6.ensures c.store-7.ensures
+    c.store-8.ensures c.store-9.ensures c.write_bids.ensures
 
 pub shape_of-row : goal.shape_of-row
 shape_of-row c =

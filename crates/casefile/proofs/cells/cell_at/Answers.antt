@@ -14,7 +14,7 @@ returns c =
       value_take 4 (cell_width * most_hours) s.cells.now at (omega arith),
       value_take 4 (cell_width * most_hours) s.cells.now (at + 4) (omega arith),
       value_take 4 (cell_width * most_hours) s.cells.now (at + 8) (omega arith),
-      c.load_u32-3.ensures,
-      c.load_u32-2.ensures,
-      c.load_u32.ensures,
+      c.load-3.ensures,
+      c.load-2.ensures,
+      c.load.ensures,
     )

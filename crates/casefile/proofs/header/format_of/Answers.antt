@@ -3,4 +3,4 @@ use Rattle.casefile.proofs.header.format_of.Goals as goal
 
 pub returns : goal.returns
 unfolding format_in
-returns c = rw c.load_u16.ensures
+returns c = rw c.load.ensures

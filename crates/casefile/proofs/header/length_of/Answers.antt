@@ -3,4 +3,4 @@ use Rattle.casefile.proofs.header.length_of.Goals as goal
 
 pub returns : goal.returns
 unfolding length_of
-returns c = rw c.load_u32.ensures
+returns c = rw c.load.ensures

@@ -12,8 +12,8 @@ pub returns : goal.returns
 unfolding references_in reference_at
 returns c =
     rw (
-      c.load_u32.ensures,
-      c.load_u8.ensures,
+      c.load-2.ensures,
+      c.load.ensures,
       c.number_at.ensures,
       c.reference_record-reference.ensures.0,
       c.widths_of-w.ensures.0,

@@ -1,4 +1,3 @@
-use Prim.Native.Nat.{◌≤◌, ◌-◌}
 use mathlib.Core.List.{[]}
 use Rattle.casefile.specs.Decode.{events_in, case_in}
 use Rattle.conduct.specs.StageTime.{total_before}
@@ -7,8 +6,4 @@ use Rattle.conduct.proofs.flags.flag_masks.Given as goal
 
 abbrev pub invariant-loop-i : goal.invariant-loop-i
 invariant-loop-i l =
-    (l.i ≤ (events_in l.format l.events).count) × HasRow (total_before (case_in l.format [] [] [] l.events) l.levels l.i) l.totals × EndCarried (events_in l.format l.events) l.i l.end
-    × Flagged l.format l.units l.events l.leaders l.levels l.i l.masks
-
-abbrev pub decreases-loop-i : goal.decreases-loop-i
-decreases-loop-i l = (events_in l.format l.events).count - l.i
+    HasRow (total_before (case_in l.case.format [] [] [] l.case.events.now) l.levels l.i) l.totals × EndCarried (events_in l.case.format l.case.events.now) l.i l.end × Flagged l.case.format l.case.units.now l.case.events.now l.leaders l.levels l.i l.masks

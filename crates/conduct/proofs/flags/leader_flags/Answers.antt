@@ -1,28 +1,11 @@
-use borrow.Author.Rules.{rules}
 use native.Mathlib.Omega.{arith}
 use Rattle.casefile.specs.StageRead.{event_at}
 use Rattle.conduct.proofs.FlagLaws.{leads_none, leads_bid, leads_party}
 use Rattle.conduct.proofs.flags.leader_flags.Goals as goal
 
-pub offset_bounds-leaders-i : goal.offset_bounds-leaders-i
-unfolding event_at
-offset_bounds-leaders-i c = let f = c.requires.led.few in omega arith
-
-pub bounds-leaders-i : goal.bounds-leaders-i
-unfolding event_at
-bounds-leaders-i c = let f = c.requires.led.few in omega arith
-
 pub returns-then-leaders-i : goal.returns-then-leaders-i
 unfolding event_at
 returns-then-leaders-i c = leads_none _ _ _ _ _ _ c.requires.led _ c.requires.in_range _ c.if-leaders-i.true
-
-pub offset_bounds-table-i : goal.offset_bounds-table-i
-unfolding event_at
-offset_bounds-table-i c = let few = c.requires.led.few in omega arith
-
-pub bounds-table-i : goal.bounds-table-i
-unfolding event_at
-bounds-table-i c = let few = c.requires.led.few in search rules
 
 pub returns-then-kind-eq4 : goal.returns-then-kind-eq4
 unfolding event_at

@@ -1,4 +1,3 @@
-use Prim.Native.Nat.{◌≤◌, ◌<◌, ◌-◌}
 use mathlib.Core.Path.{◌≡◌}
 use lib.ListN.{length}
 use Rattle.casefile.specs.Layout.{most_events}
@@ -7,7 +6,4 @@ use Rattle.conduct.proofs.flags.party_flags.Given as goal
 
 abbrev pub invariant-loop-j : goal.invariant-loop-j
 invariant-loop-j l =
-    (l.i < l.j) × (l.j ≤ l.end) × (length l.table ≡ most_events) × PartyFlagged l.format l.units l.events l.leaders l.i l.j l.initial.table l.table
-
-abbrev pub decreases-loop-j : goal.decreases-loop-j
-decreases-loop-j l = l.end - l.j
+    (length l.table ≡ most_events) × PartyFlagged l.case.format l.case.units.now l.case.events.now l.leaders l.i l.j l.initial.table l.table

@@ -1,35 +1,22 @@
 use mathlib.Core.Path.{◌≡◌, ◌∙◌}
-use borrow.Author.Rules.{rules}
 use native.Mathlib.Omega.{arith}
 use lib.ListN.{length-set}
 use Rattle.casefile.specs.Layout.{most_hours}
 use Rattle.casefile.specs.StageRead.{event_at}
-use Rattle.conduct.proofs.SumLaws.{added_none, row_kept, row_more, uncounted, figure_counts, figures_added}
+use Rattle.conduct.proofs.SumLaws.{row_more, uncounted, figure_counts, figures_added}
 use Rattle.conduct.proofs.sums.add_event.Goals as goal
 
 pub returns-then-not-counts : goal.returns-then-not-counts
 unfolding event_at
 returns-then-not-counts c = uncounted _ _ _ c.if-not-counts.true
 
-pub loop-h-init : goal.loop-h-init
-unfolding event_at
-loop-h-init c = (omega arith, search rules, added_none _ _)
-
-pub overflow_add-row : goal.overflow_add-row
-unfolding event_at
-overflow_add-row c =
-    let l = c.loop-h in
-    let kept = row_kept _ _ _ _ l.invariant.2 in
-    omega (arith, c.requires.small l.h, kept, c.wide-figure.ensures.1)
-
 pub loop-h-preserved : goal.loop-h-preserved
 unfolding event_at
 loop-h-preserved c =
     let l = c.loop-h in
-    let figure = c.wide-figure.ensures.0 ∙ c.party_figure.ensures in (
-      omega arith,
-      simp length-set l.invariant.1,
-      row_more _ _ _ _ _ (omega arith) (figure_counts _ _ _ _ c.if-not-counts.false figure) l.invariant.2,
+    let figure = c.from-figure.ensures ∙ c.party_figure.ensures in (
+      simp length-set l.invariant.0,
+      row_more _ _ _ _ _ (omega arith) (figure_counts _ _ _ _ c.if-not-counts.false figure) l.invariant.1,
     )
 
 pub returns : goal.returns
@@ -40,4 +27,4 @@ returns c =
     let v = c.event_at-event.ensures in
     let s = c.args in
     let e : l.h ≡ most_hours = omega arith in
-    figures_added s.format s.events.now s.j _ _ _ (rw (k, v, e) at l.invariant.2)
+    figures_added s.case.format s.case.events.now s.j _ _ _ (rw (k, v, e) at l.invariant.1)

@@ -1,4 +1,4 @@
-use Prim.Native.Nat.{ℕ, ◌≤◌, ◌-◌}
+use Prim.Native.Nat.{ℕ}
 use mathlib.Core.Bool.{cond}
 use mathlib.Core.Path.{◌≡◌}
 use lib.Dec.{eqb}
@@ -11,7 +11,4 @@ use Rattle.conduct.proofs.sums.add_event.Given as goal
 
 abbrev pub invariant-loop-h : goal.invariant-loop-h
 invariant-loop-h l =
-    (l.h ≤ most_hours) × (length l.row ≡ most_hours) × Added l.h l.initial.row l.row (counted l.counts (λ (x : ℕ). cond (eqb l.kind 3) (cond (bit_of l.p x) 1 0) (cell_of l.cells x).a))
-
-abbrev pub decreases-loop-h : goal.decreases-loop-h
-decreases-loop-h l = most_hours - l.h
+    (length l.row ≡ most_hours) × Added l.h l.initial.row l.row (counted l.counts (λ (x : ℕ). cond (eqb l.kind 3) (cond (bit_of l.p x) 1 0) (cell_of l.cells x).a))

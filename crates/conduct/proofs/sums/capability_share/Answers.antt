@@ -4,4 +4,4 @@ use Rattle.conduct.proofs.sums.capability_share.Goals as goal
 
 pub returns : goal.returns
 unfolding unit_at capability_share
-returns c = rw (c.choose_u32.ensures, c.unit_at-unit.ensures)
+returns c = rw (c.choose.ensures, c.unit_at-unit.ensures)

@@ -8,29 +8,24 @@ use Rattle.conduct.proofs.sums.party_sums.Goals as goal
 
 pub loop-j-init : goal.loop-j-init
 loop-j-init c =
-    (omega arith, omega arith, (λ k. omega (arith, zeros_at most_hours k)), led_first _ _ _ _ _ c.requires.party_within (omega arith))
-
-pub add_event-requires : goal.add_event-requires
-add_event-requires c = let l = c.loop-j in record { in_range = omega arith; small = (λ k. omega (arith, l.invariant.2 k)) }
+    ((λ k. omega (arith, zeros_at most_hours k)), led_first _ _ _ _ _ c.requires.party_within (omega arith))
 
 pub loop-j-preserved : goal.loop-j-preserved
 loop-j-preserved c =
     let l = c.loop-j in
     let a = c.args in
     let more = c.add_event.ensures in (
-      omega arith,
-      omega arith,
       (λ k.
           omega (
             arith,
-            added_bound most_hours (4294967295 * l.j) 4294967295 _ _ _ more l.invariant.2
-                (counted_figure_le _ 4294967295 most_hours _ (λ h b. figure_le a.format [] [] [] a.events.now l.j h (λ b. (c.shared_slice_known-1.given b).fits))) k,
+            added_bound most_hours (4294967295 * l.j) 4294967295 _ _ _ more l.invariant.0
+                (counted_figure_le _ 4294967295 most_hours _ (λ h b. figure_le a.case.format [] [] [] a.case.events.now l.j h a.case.bytes)) k,
           )),
-      led_more _ _ _ _ _ _ l.invariant.3 more,
+      led_more _ _ _ _ _ _ l.invariant.1 more,
     )
 
 pub returns : goal.returns
 returns c =
     let l = c.loop-j in
     let e : l.j ≡ c.args.end = omega arith in
-    record { has_row = led_last _ _ _ _ _ c.requires.party_within _ (omega arith) (rw e at l.invariant.3); small_row = (λ h b. omega (arith, l.invariant.2 h)) }
+    record { has_row = led_last _ _ _ _ _ c.requires.party_within _ (omega arith) (rw e at l.invariant.1); small_row = (λ h b. omega (arith, l.invariant.0 h)) }

@@ -1,4 +1,4 @@
-use Prim.Native.Nat.{ℕ, ◌≤◌, ◌-◌, ◌*◌}
+use Prim.Native.Nat.{ℕ, ◌≤◌, ◌*◌}
 use mathlib.Core.List.{[]}
 use lib.ListN.{get_or}
 use Rattle.casefile.specs.Decode.{case_in}
@@ -7,7 +7,4 @@ use Rattle.conduct.proofs.sums.party_sums.Given as goal
 
 abbrev pub invariant-loop-j : goal.invariant-loop-j
 invariant-loop-j l =
-    (l.i ≤ l.j) × (l.j ≤ l.end) × ((k : ℕ) → get_or l.sums k 0 ≤ 4294967295 * l.j) × HasRow (led_sum (case_in l.format [] [] [] l.events) l.leaders l.j l.i) l.sums
-
-abbrev pub decreases-loop-j : goal.decreases-loop-j
-decreases-loop-j l = l.end - l.j
+    ((k : ℕ) → get_or l.sums k 0 ≤ 4294967295 * l.j) × HasRow (led_sum (case_in l.case.format [] [] [] l.case.events.now) l.leaders l.j l.i) l.sums

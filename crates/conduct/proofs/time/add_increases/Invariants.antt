@@ -1,7 +1,6 @@
-use Prim.Native.Nat.{ℕ, ◌≤◌, ◌-◌}
+use Prim.Native.Nat.{ℕ}
 use mathlib.Core.Path.{◌≡◌}
 use lib.ListN.{length}
-use Rattle.casefile.specs.Layout.{most_hours}
 use Rattle.casefile.specs.StageRead.{cell_of}
 use Rattle.conduct.specs.StageFlags.{Added}
 use Rattle.conduct.specs.StageTime.{counted_increase}
@@ -9,7 +8,4 @@ use Rattle.conduct.proofs.time.add_increases.Given as goal
 
 abbrev pub invariant-loop-h : goal.invariant-loop-h
 invariant-loop-h l =
-    (l.h ≤ most_hours) × (length l.row ≡ length l.initial.row) × Added l.h l.initial.row l.row (counted_increase (λ (_ x : ℕ). (cell_of l.cells x).a) l.level l.j l.counts)
-
-abbrev pub decreases-loop-h : goal.decreases-loop-h
-decreases-loop-h l = most_hours - l.h
+    (length l.row ≡ length l.initial.row) × Added l.h l.initial.row l.row (counted_increase (λ (_ x : ℕ). (cell_of l.cells x).a) l.level l.j l.counts)

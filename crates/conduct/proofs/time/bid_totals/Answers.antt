@@ -4,10 +4,3 @@ use Rattle.conduct.proofs.time.bid_totals.Goals as goal
 
 pub returns-then-same_totals : goal.returns-then-same_totals
 returns-then-same_totals c = totals_kept _ _ _ _ (sym c.same_totals.ensures ∙ c.if-same_totals.true) c.requires.has_row
-
-pub time_totals-requires : goal.time_totals-requires
-time_totals-requires c =
-    record { in_range = c.requires.in_range; bids_in_order = c.requires.bids_in_order }
-
-pub returns : goal.returns
-returns c = c.time_totals.ensures

@@ -1,4 +1,4 @@
-use mathlib.Core.Path.{refl, sym}
+use mathlib.Core.Path.{refl}
 use borrow.Author.Rules.{rules}
 use native.Mathlib.Omega.{arith}
 use Rattle.casefile.specs.Layout.{most_hours}
@@ -10,40 +10,26 @@ loop-j-init c =
     let end = c.third_after-end.ensures in
     let first = c.place_before.ensures in
     let second = c.place_before-j.ensures in (
-      omega arith,
       refl,
-      increases_none c.args.format c.args.events.now c.args.levels.now c.args.i c.args.component _ most_hours
+      increases_none c.args.case.format c.args.case.events.now c.args.levels.now c.args.i c.args.component _ most_hours
           (λ j l.
-          far c.args.format c.args.events.now c.args.i c.args.component c.requires.bids_in_order.0 c.requires.in_range.0 c.requires.bids_in_order.1 j (omega arith)
+          far c.args.case.format c.args.case.events.now c.args.i c.args.component c.requires.bids_in_order.0 c.requires.in_range.0 c.requires.bids_in_order.1 j (omega arith)
           (λ q. let z : ⊥ = omega arith in z)),
     )
-
-pub component_bid-counts-requires : goal.component_bid-counts-requires
-component_bid-counts-requires c = let end = c.third_after-end.ensures in (search rules, omega arith)
-
-pub slice_bounds-add_increases-end : goal.slice_bounds-add_increases-end
-slice_bounds-add_increases-end c = sym c.loop-j.invariant.1
-
-pub offset_bounds-levels-j : goal.offset_bounds-levels-j
-offset_bounds-levels-j c = let end = c.third_after-end.ensures in omega arith
-
-pub bounds-levels-j : goal.bounds-levels-j
-bounds-levels-j c = let end = c.third_after-end.ensures in omega arith
 
 pub add_increases-requires : goal.add_increases-requires
 add_increases-requires c =
     let l = c.loop-j in
     let end = c.third_after-end.ensures in
     let a = c.args in
-    record { whole_row = (l.invariant.1, omega arith); small_row = small_increases a.format a.events.now a.levels.now a.i a.component l.row l.j (omega arith) l.invariant.2 }
+    record { whole_row = (l.invariant.0, omega arith); small_row = small_increases a.case.format a.case.events.now a.levels.now a.i a.component l.row l.j (omega arith) l.invariant.1 }
 
 pub loop-j-preserved : goal.loop-j-preserved
 loop-j-preserved c =
     let l = c.loop-j in
     let a = c.args in (
-      omega arith,
       search rules,
-      increases_more a.format a.events.now a.levels.now a.i a.component l.row c.add_increases.new.row l.j _ l.invariant.2
+      increases_more a.case.format a.case.events.now a.levels.now a.i a.component l.row c.add_increases.new.row l.j _ l.invariant.1
           c.component_bid-counts.ensures c.add_increases.ensures,
     )
 
@@ -51,8 +37,8 @@ pub returns : goal.returns
 returns c =
     let l = c.loop-j in
     let end = c.third_after-end.ensures in
-    increases_all c.args.format c.args.events.now c.args.levels.now c.args.i c.args.component l.row l.j _ (omega arith)
+    increases_all c.args.case.format c.args.case.events.now c.args.levels.now c.args.i c.args.component l.row l.j _ (omega arith)
     (λ j a b.
-    far c.args.format c.args.events.now c.args.i c.args.component c.requires.bids_in_order.0 c.requires.in_range.0 c.requires.bids_in_order.1 j b
+    far c.args.case.format c.args.case.events.now c.args.i c.args.component c.requires.bids_in_order.0 c.requires.in_range.0 c.requires.bids_in_order.1 j b
     (λ q. let z : ⊥ = omega arith in z))
-    l.invariant.2
+    l.invariant.1

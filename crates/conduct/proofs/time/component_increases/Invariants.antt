@@ -1,4 +1,3 @@
-use Prim.Native.Nat.{◌≤◌, ◌-◌}
 use mathlib.Core.Path.{◌≡◌}
 use lib.ListN.{length}
 use Rattle.binary.specs.Lists.{Holds}
@@ -8,7 +7,4 @@ use Rattle.conduct.proofs.time.component_increases.Given as goal
 
 abbrev pub invariant-loop-j : goal.invariant-loop-j
 invariant-loop-j l =
-    (l.j ≤ l.end) × (length l.row ≡ most_hours) × Holds most_hours l.row (component_increase l.format l.events l.levels l.i l.component l.j)
-
-abbrev pub decreases-loop-j : goal.decreases-loop-j
-decreases-loop-j l = l.end - l.j
+    (length l.row ≡ most_hours) × Holds most_hours l.row (component_increase l.case.format l.case.events.now l.levels l.i l.component l.j)

@@ -2,10 +2,6 @@ use mathlib.Core.Path.{sym, ◌∙◌}
 use Rattle.conduct.proofs.TimeLaws.{small_table, totals_of, totals_none}
 use Rattle.conduct.proofs.time.time_totals.Goals as goal
 
-pub time_increases-requires : goal.time_increases-requires
-time_increases-requires c =
-    record { in_range = c.requires.in_range; bids_in_order = (c.requires.bids_in_order, sym c.time_bid.ensures ∙ c.if-time_bid.true) }
-
 pub hour_totals-requires : goal.hour_totals-requires
 hour_totals-requires c =
     small_table _ _ _ _ _ _ c.requires.in_range.1 c.time_increases.ensures

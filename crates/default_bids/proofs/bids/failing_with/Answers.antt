@@ -5,4 +5,4 @@ pub returns : goal.returns
 returns c =
     let a = c.args in
     rw (c.failing_hours.ensures, c.event_cells.ensures.0, c.tight_hours-tight.ensures, c.bid_of-bid.ensures)
-    (tested_with a.format a.units.now a.events.now a.place a.correct a.i)
+    (tested_with a.case.format a.case.units.now a.case.events.now a.place a.correct a.i)

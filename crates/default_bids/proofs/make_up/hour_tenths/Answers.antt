@@ -3,13 +3,13 @@ use Rattle.default_bids.specs.StageFigures.{tenths_at}
 use Rattle.default_bids.proofs.MakeUpBounds.{tenths_bound}
 use Rattle.default_bids.proofs.make_up.hour_tenths.Goals as goal
 
-found : (c : goal.After-choose_u64) →
+found : (c : goal.After-choose) →
     let a = c.args in
-    c.choose_u64.result ≡ tenths_at a.cells.now a.correct a.mitigated a.h
+    c.choose.result ≡ tenths_at a.cells.now a.correct a.mitigated a.h
 unfolding tenths_at
 found c =
     rw (
-      c.choose_u64.ensures,
+      c.choose.ensures,
       c.bit_of.ensures,
       c.hour_make_up-tenths.ensures.0,
       c.cell_at-cell.ensures,

@@ -27,7 +27,7 @@ span_mask-requires c = room c
 pub returns-then-component-market : goal.returns-then-component-market
 unfolding mitigated_by event_at
 returns-then-component-market c =
-    let bid : let a = c.args in eqb ((events_in a.format a.events.now).kind a.i) 4 ≡ true = rw c.event_at-event.ensures at (eq-eqb _ _ c.if-kind-ne4.false) in
+    let bid : let a = c.args in eqb ((events_in a.case.format a.case.events.now).kind a.i) 4 ≡ true = rw c.event_at-event.ensures at (eq-eqb _ _ c.if-kind-ne4.false) in
     let e = c.event_at-event.ensures in
     let event = c.event_at-event.result in
     let t = rw e at (and_l (eqb event.component 1 && eqb event.market 0) _ c.if-component-market.true) in
@@ -36,9 +36,9 @@ returns-then-component-market c =
 pub returns : goal.returns
 unfolding mitigated_by event_at
 returns c =
-    let bid : let a = c.args in eqb ((events_in a.format a.events.now).kind a.i) 4 ≡ true = rw c.event_at-event.ensures at (eq-eqb _ _ c.if-kind-ne4.false) in
+    let bid : let a = c.args in eqb ((events_in a.case.format a.case.events.now).kind a.i) 4 ≡ true = rw c.event_at-event.ensures at (eq-eqb _ _ c.if-kind-ne4.false) in
     let e = c.event_at-event.ensures in
     let a = c.args in
-    let events = events_in a.format a.events.now in
+    let events = events_in a.case.format a.case.events.now in
     rw (e, bid)
     (sym (span_hits (events.hours a.i) (eqb (events.component a.i) 1 && eqb (events.market a.i) 0) _ _ (rw e at c.if-component-market.false)))

@@ -16,7 +16,7 @@ returns c =
     let k = rw c.event_at-event.ensures at (le-ltb _ _ c.if-event-gt2.false) in
     rw (
       k,
-      ← amounts_hours c.args.format (units_in c.args.format c.args.units.now) c.args.events.now c.args.i,
+      ← amounts_hours c.args.case.format (units_in c.args.case.format c.args.case.units.now) c.args.case.events.now c.args.i,
       c.amounts_within.ensures,
       c.event_cells.ensures.0,
       c.unit_at-unit.ensures,

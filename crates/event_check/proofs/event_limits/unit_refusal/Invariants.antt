@@ -1,4 +1,3 @@
-use Prim.Native.Nat.{◌-◌, ◌≤◌}
 use mathlib.Core.Bool.{true}
 use mathlib.Core.Path.{◌≡◌}
 use lib.ListN.{length}
@@ -13,9 +12,6 @@ use Rattle.event_check.proofs.event_limits.unit_refusal.Given as goal
 
 abbrev pub invariant-loop-i : goal.invariant-loop-i
 invariant-loop-i l =
-    (l.i ≤ (events_in l.format l.events).count) × (length l.table ≡ most_events) × (all_to l.i (event_listed (units_in l.format l.units) (events_in l.format l.events)) ≡ true)
-    × (l.fine ≡ all_to l.i (amount_fine (units_in l.format l.units) (events_in l.format l.events) (amounts_in l.format l.events)))
-    × Holds l.i l.table (event_place (units_in l.format l.units) (events_in l.format l.events)) × IsPlace (units_in l.format l.units) l.last l.place
-
-abbrev pub decreases-loop-i : goal.decreases-loop-i
-decreases-loop-i l = (events_in l.format l.events).count - l.i
+    (length l.table ≡ most_events) × (all_to l.i (event_listed (units_in l.case.format l.case.units.now) (events_in l.case.format l.case.events.now)) ≡ true)
+    × (l.fine ≡ all_to l.i (amount_fine (units_in l.case.format l.case.units.now) (events_in l.case.format l.case.events.now) (amounts_in l.case.format l.case.events.now)))
+    × Holds l.i l.table (event_place (units_in l.case.format l.case.units.now) (events_in l.case.format l.case.events.now)) × IsPlace (units_in l.case.format l.case.units.now) l.last l.place

@@ -23,7 +23,7 @@ unfolding event_at instances_at instances_here instances_past
 overflow_add-result-2 c =
     let here : let i = c.args.i in
     (c.instances_here-here.result.n3 ≤ i) × (c.instances_here-here.result.n2 ≤ i) = rw c.instances_here-here.ensures (count_bound _ _, count_bound _ _) in
-    let outside : let n = (past_in c.args.past.now).count in
+    let outside : let n = (past_in c.args.case.past.now).count in
     (c.instances_past-before.result.n3 ≤ n) × (c.instances_past-before.result.n2 ≤ n) = rw c.instances_past-before.ensures (count_bound _ _, count_bound _ _) in
     omega arith
 
@@ -39,7 +39,7 @@ unfolding event_at instances_at instances_here instances_past
 overflow_add-result-4 c =
     let here : let i = c.args.i in
     (c.instances_here-here.result.n3 ≤ i) × (c.instances_here-here.result.n2 ≤ i) = rw c.instances_here-here.ensures (count_bound _ _, count_bound _ _) in
-    let outside : let n = (past_in c.args.past.now).count in
+    let outside : let n = (past_in c.args.case.past.now).count in
     (c.instances_past-before.result.n3 ≤ n) × (c.instances_past-before.result.n2 ≤ n) = rw c.instances_past-before.ensures (count_bound _ _, count_bound _ _) in
     omega arith
 

@@ -1,6 +1,6 @@
 use Prim.Native.Nat.{ℕ}
 use mathlib.Core.List.{List}
-use mathlib.Core.Path.{◌≡◌, sym, ap}
+use mathlib.Core.Path.{◌≡◌, ap}
 use Rattle.binary.proofs.BoundedLaws.{count_same}
 use Rattle.casefile.specs.declared.layout.Format.{Format}
 use Rattle.casefile.specs.Case.{Events}
@@ -8,10 +8,6 @@ use Rattle.casefile.specs.Decode.{events_in}
 use Rattle.casefile.proofs.RecordLaws.{first_widths_is, events_by_widths}
 use Rattle.instance_counts.specs.StageInstances.{with_impact, instance_at, instance_of, row_counts, instances_here}
 use Rattle.instance_counts.proofs.instances.instances_here.Goals as goal
-
--- a format is its version
-abbrev of-version : ℕ → Format
-of-version v = record { version = v }
 
 -- the events are those of the widths, and so are their instances
 module _ (a b : Format) (events groups masks : List ℕ) (group market period : ℕ) (e : events_in a events ≡ events_in b events) where
@@ -33,19 +29,12 @@ module _ (a b : Format) (events groups masks : List ℕ) (group market period : 
         n2 = count_same i _ _ (λ j l. row_same 1 j) x;
       }
 
-pub counted_here-requires : goal.counted_here-requires
-counted_here-requires c =
-    rw (ap of-version (sym c.if-format-eq-SECOND_VERSION.true)) c.requires
-
-pub returns-then-format-eq-SECOND_VERSION : goal.returns-then-format-eq-SECOND_VERSION
-returns-then-format-eq-SECOND_VERSION c = rw (c.counted_here.ensures, ap of-version (sym c.if-format-eq-SECOND_VERSION.true))
-
 pub counted_here-requires-2 : goal.counted_here-requires-2
 counted_here-requires-2 c =
-    rw (events_by_widths _ _ c.args.events.now (first_widths_is c.args.format c.if-format-eq-SECOND_VERSION.false)) c.requires
+    rw (events_by_widths _ _ c.args.case.events.now (first_widths_is c.args.case.format c.if-case-eq-SECOND_VERSION.false)) c.requires
 
 pub returns : goal.returns
 returns c =
     let s = c.args in
-    let e = events_by_widths _ _ s.events.now (first_widths_is s.format c.if-format-eq-SECOND_VERSION.false) in
-    rw (c.counted_here-2.ensures, here-same _ _ s.events.now s.groups.now s.masks.now s.group s.market s.period e s.i)
+    let e = events_by_widths _ _ s.case.events.now (first_widths_is s.case.format c.if-case-eq-SECOND_VERSION.false) in
+    rw (c.counted_here-2.ensures, here-same _ _ s.case.events.now s.groups.now s.masks.now s.group s.market s.period e s.i)

@@ -1,14 +1,9 @@
-use Prim.Native.Nat.{◌≤◌, ◌-◌}
+use Prim.Native.Nat.{◌≤◌}
 use mathlib.Core.Path.{◌≡◌}
 use Rattle.binary.specs.Bounded.{count_to}
-use Rattle.casefile.specs.Decode.{past_in}
 use Rattle.instance_counts.specs.StageInstances.{entry_counts}
 use Rattle.instance_counts.proofs.instances.instances_past.Given as goal
 
 abbrev pub invariant-loop-j : goal.invariant-loop-j
 invariant-loop-j l =
-    (l.j ≤ (past_in l.past).count) × (l.three ≤ l.j) × (l.two ≤ l.j) × (l.three ≡ count_to l.j (entry_counts l.past l.group l.market l.period 2))
-    × (l.two ≡ count_to l.j (entry_counts l.past l.group l.market l.period 1))
-
-abbrev pub decreases-loop-j : goal.decreases-loop-j
-decreases-loop-j l = (past_in l.past).count - l.j
+    (l.three ≤ l.j) × (l.two ≤ l.j) × (l.three ≡ count_to l.j (entry_counts l.case.past.now l.group l.market l.period 2)) × (l.two ≡ count_to l.j (entry_counts l.case.past.now l.group l.market l.period 1))

@@ -20,14 +20,14 @@ loop-lo-init c =
 pub loop-lo-smaller : goal.loop-lo-smaller
 loop-lo-smaller c =
     let l = c.loop-lo in
-    rw (c.choose_usize-hi.ensures, c.choose_usize-lo.ensures)
+    rw (c.choose-hi.ensures, c.choose-lo.ensures)
     (halve_less (reference_key (references_in c.args.format c.args.references.now)) (references_in c.args.format c.args.references.now).count c.args.key l.lo l.hi
     (l.lo + (l.hi - l.lo) / 2) c.requires l.invariant (omega arith) (omega arith) (ltb c.reference_key.result c.args.key))
 
 pub loop-lo-preserved : goal.loop-lo-preserved
 loop-lo-preserved c =
     let l = c.loop-lo in
-    rw (c.choose_usize-hi.ensures, c.choose_usize-lo.ensures)
+    rw (c.choose-hi.ensures, c.choose-lo.ensures)
     (halve (reference_key (references_in c.args.format c.args.references.now)) (references_in c.args.format c.args.references.now).count c.args.key l.lo l.hi
     (l.lo + (l.hi - l.lo) / 2) c.requires l.invariant (omega arith) (omega arith) _
     (ap (λ (x : ℕ). ltb x c.args.key) (sym c.reference_key.ensures)))

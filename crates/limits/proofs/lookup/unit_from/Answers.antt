@@ -9,31 +9,29 @@ use Rattle.limits.proofs.SearchLaws.{count_turn}
 use Rattle.limits.proofs.lookup.unit_from.Goals as goal
 
 -- one more counted
-turn : (c : goal.After-choose_usize-at) →
+turn : (c : goal.After-choose-at) →
     let l = c.loop-k in
     let s = c.args in
-    Between (units_in s.format s.units.now).number (l.k + 1) s.number (l.at + c.choose_usize-at.result) (l.at + c.choose_usize-at.result)
+    Between (units_in s.case.format s.case.units.now).number (l.k + 1) s.number (l.at + c.choose-at.result) (l.at + c.choose-at.result)
 turn c =
     let l = c.loop-k in
-    rw c.choose_usize-at.ensures
-    (count_turn (units_in c.args.format c.args.units.now).number (units_in c.args.format c.args.units.now).count c.args.number l.k l.at c.requires
-    (omega arith) l.invariant.1 _ (ap (λ (x : ℕ). ltb x c.args.number) (sym c.unit_number.ensures)))
+    rw c.choose-at.ensures
+    (count_turn (units_in c.args.case.format c.args.case.units.now).number (units_in c.args.case.format c.args.case.units.now).count c.args.number l.k l.at c.requires
+    (omega arith) l.invariant _ (ap (λ (x : ℕ). ltb x c.args.number) (sym c.unit_number.ensures)))
 
 pub loop-k-init : goal.loop-k-init
-loop-k-init c = (
-  omega arith,
-  record { order = le_refl _; end = le_refl _; before = λ j l. absurd (not-suc-le-zero l); after = λ j g l. absurd (not-suc-le-zero l) },
-)
+loop-k-init c =
+    record { order = le_refl _; end = le_refl _; before = λ j l. absurd (not-suc-le-zero l); after = λ j g l. absurd (not-suc-le-zero l) }
 
 pub overflow_add-at : goal.overflow_add-at
 overflow_add-at c = omega (arith, (turn c).end)
 
 pub loop-k-preserved : goal.loop-k-preserved
-loop-k-preserved c = (omega arith, turn c)
+loop-k-preserved c = turn c
 
 pub returns : goal.returns
 returns c =
     let l = c.loop-k in
     let s = c.args in
-    let e : l.k ≡ (units_in s.format s.units.now).count = omega arith in
-    rw e at l.invariant.1
+    let e : l.k ≡ (units_in s.case.format s.case.units.now).count = omega arith in
+    rw e at l.invariant

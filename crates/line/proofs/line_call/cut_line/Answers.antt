@@ -3,4 +3,4 @@ use Rattle.line.proofs.line_call.cut_line.Goals as goal
 
 pub returns : goal.returns
 unfolding line_of
-returns c = rw (c.smaller.ensures, c.choose_u32-highest.ensures, c.open_line-open.ensures)
+returns c = rw (c.min.ensures, c.choose-highest.ensures, c.open_line-open.ensures)

@@ -11,7 +11,7 @@ pub returns-then-clause_asked : goal.returns-then-clause_asked
 unfolding energy_line
 returns-then-clause_asked c =
     let e = sym c.clause_asked.ensures ∙ c.if-clause_asked.true in
-    rw (c.smaller.ensures, c.constrained_line.ensures, c.lower_line-lower.ensures, e)
+    rw (c.min.ensures, c.constrained_line.ensures, c.lower_line-lower.ensures, e)
 
 pub returns : goal.returns
 unfolding energy_line

@@ -4,8 +4,8 @@ use Rattle.line.proofs.open_line.lower_line.Goals as goal
 
 pub returns-then-below-above : goal.returns-then-below-above
 unfolding lower_line
-returns-then-below-above c = omega (arith, c.product.ensures.0, c.smaller-lower.ensures, c.difference-below.ensures)
+returns-then-below-above c = omega (arith, c.product.ensures.0, c.min-lower.ensures, c.saturating_sub-below.ensures)
 
 pub returns-else-below-above : goal.returns-else-below-above
 unfolding lower_line
-returns-else-below-above c = omega (arith, c.product.ensures.0, c.smaller-lower.ensures, c.difference-below.ensures)
+returns-else-below-above c = omega (arith, c.product.ensures.0, c.min-lower.ensures, c.saturating_sub-below.ensures)

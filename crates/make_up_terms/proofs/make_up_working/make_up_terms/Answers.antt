@@ -11,7 +11,7 @@ use Rattle.make_up_terms.proofs.make_up_working.make_up_terms.Goals as goal
 
 -- it is none
 other : (c : goal.Else-kind-component) → let a = c.args in
-    (eqb ((events_in a.format a.events.now).kind a.i) 4 && eqb ((events_in a.format a.events.now).component a.i) 0) ≡ false
+    (eqb ((events_in a.case.format a.case.events.now).kind a.i) 4 && eqb ((events_in a.case.format a.case.events.now).component a.i) 0) ≡ false
 unfolding event_at
 other c = rw c.event_at-event.ensures at c.if-kind-component.false
 
@@ -19,10 +19,10 @@ small : (c : goal.After-event_cells-cells) → MegawattsFine c.event_cells-cells
 unfolding event_at
 small c h l =
     let energy : let a = c.args in
-    (eqb ((events_in a.format a.events.now).kind a.i) 4 && eqb ((events_in a.format a.events.now).component a.i) 0) ≡ true = rw c.event_at-event.ensures at c.if-kind-component.true in
+    (eqb ((events_in a.case.format a.case.events.now).kind a.i) 4 && eqb ((events_in a.case.format a.case.events.now).component a.i) 0) ≡ true = rw c.event_at-event.ensures at c.if-kind-component.true in
     rw c.event_cells-cells.ensures.0
-    (megawatts_fine c.args.format c.args.events.now c.args.i c.requires.1 c.requires.0
-    (and_l (eqb ((events_in c.args.format c.args.events.now).kind c.args.i) 4) _ energy) h l)
+    (megawatts_fine c.args.case.format c.args.case.events.now c.args.i c.requires.1 c.requires.0
+    (and_l (eqb ((events_in c.args.case.format c.args.case.events.now).kind c.args.i) 4) _ energy) h l)
 
 pub sum_tenths-sum-requires : goal.sum_tenths-sum-requires
 unfolding terms_by
@@ -32,17 +32,17 @@ pub hour_make_ups-hours-requires : goal.hour_make_ups-hours-requires
 unfolding terms_by event_at
 hour_make_ups-hours-requires c =
     let energy : let a = c.args in
-    (eqb ((events_in a.format a.events.now).kind a.i) 4 && eqb ((events_in a.format a.events.now).component a.i) 0) ≡ true = rw c.event_at-event.ensures at c.if-kind-component.true in
+    (eqb ((events_in a.case.format a.case.events.now).kind a.i) 4 && eqb ((events_in a.case.format a.case.events.now).component a.i) 0) ≡ true = rw c.event_at-event.ensures at c.if-kind-component.true in
     let small : MegawattsFine c.event_cells-cells.result.now = λ h l. rw c.event_cells-cells.ensures.0
-    (megawatts_fine c.args.format c.args.events.now c.args.i c.requires.1 c.requires.0
-    (and_l (eqb ((events_in c.args.format c.args.events.now).kind c.args.i) 4) _ energy) h l) in
+    (megawatts_fine c.args.case.format c.args.case.events.now c.args.i c.requires.1 c.requires.0
+    (and_l (eqb ((events_in c.args.case.format c.args.case.events.now).kind c.args.i) 4) _ energy) h l) in
     (c.event_cells-cells.ensures.1, small)
 
 pub returns-then-kind-component : goal.returns-then-kind-component
 unfolding terms_by event_at
 returns-then-kind-component c =
     let energy : let a = c.args in
-    (eqb ((events_in a.format a.events.now).kind a.i) 4 && eqb ((events_in a.format a.events.now).component a.i) 0) ≡ true = rw c.event_at-event.ensures at c.if-kind-component.true in
+    (eqb ((events_in a.case.format a.case.events.now).kind a.i) 4 && eqb ((events_in a.case.format a.case.events.now).component a.i) 0) ≡ true = rw c.event_at-event.ensures at c.if-kind-component.true in
     rw (energy, c.hour_make_ups-hours.ensures, c.sum_tenths-sum.ensures.0, c.event_cells-cells.ensures.0)
 
 pub returns : goal.returns

@@ -3,54 +3,45 @@ use native.Mathlib.Omega.{arith}
 use borrow.Author.Tests.{lt-ltb, le-ltb}
 use Rattle.casefile.specs.Decode.{decode}
 use Rattle.casefile.proofs.RecordLaws.{count_is}
+use Rattle.limits.proofs.RefusalLaws.{refusal_not_0}
 use Rattle.limits.specs.Refusal.{refusal, most_rows}
 use Rattle.limits.specs.StageChecked.{AcceptedFile}
 use Rattle.conduct.proofs.FileLaws.{has_section, header_long}
 use Rattle.make_up_terms.proofs.MakeUpLaws.{refused_is, working_full, working_is, outside_is}
 use Rattle.make_up_terms.proofs.make_up_working.make_up_working.Goals as goal
 
-fine : (c : goal.Else-number-ne0) → let a = c.args in refusal a.file.now a.correction.now (most_rows a.file.now) ≡ 0
-fine c = sym c.check_into-number.ensures.value ∙ c.if-number-ne0.false
-
-accepted : (c : goal.Else-number-ne0) → AcceptedFile c.args.file.now
-accepted c = record { correction = c.args.correction.now; rows_length = most_rows c.args.file.now; accepted = fine c }
-
-pub returns-then-number-ne0 : goal.returns-then-number-ne0
-returns-then-number-ne0 c =
+pub returns-in-Err : goal.returns-in-Err
+returns-in-Err c =
     let a = c.args in
-    c.refused_make_up.ensures ∙ refused_is a.file.now a.correction.now _ _ c.check_into-number.ensures.value c.if-number-ne0.true
-
-pub section-events-requires : goal.section-events-requires
-section-events-requires c = has_section _ (accepted c) 3 (omega arith)
-
-pub format_of-requires : goal.format_of-requires
-format_of-requires c =
-    let fine : let a = c.args in refusal a.file.now a.correction.now (most_rows a.file.now) ≡ 0 = sym c.check_into-number.ensures.value ∙ c.if-number-ne0.false in
-    let accepted : AcceptedFile c.args.file.now = record { correction = c.args.correction.now; rows_length = most_rows c.args.file.now; accepted = fine } in
-    header_long _ accepted
+    c.refused_make_up.ensures ∙ refused_is a.file.now a.correction.now _ _ (c.from.ensures ∙ c.in-Err.ensures.value) (λ z. refusal_not_0 _ (sym c.from.ensures ∙ z))
 
 pub working_at-requires : goal.working_at-requires
 working_at-requires c =
-    let counted : c.event_count.result ≡ (decode c.args.file.now).events.count = c.event_count.ensures ∙ count_is _ c.args.file.now _ c.format_of.ensures c.section-events.ensures in
-    let fine : let a = c.args in refusal a.file.now a.correction.now (most_rows a.file.now) ≡ 0 = sym c.check_into-number.ensures.value ∙ c.if-number-ne0.false in
+    let counted : c.event_count.result ≡ (decode c.args.file.now).events.count = c.event_count.ensures ∙ count_is _ c.args.file.now _ c.of-case.ensures.format c.of-case.ensures.events in
+    let fine : let a = c.args in refusal a.file.now a.correction.now (most_rows a.file.now) ≡ 0 = sym c.in_default.ensures.value in
     let accepted : AcceptedFile c.args.file.now = record { correction = c.args.correction.now; rows_length = most_rows c.args.file.now; accepted = fine } in
-    let h = c.check_into-number.ensures.handed_on c.if-number-ne0.false in
+    let h = c.in_default.ensures.handed_on in
     record { accepted_file = (accepted, omega (arith, c.if-event-event_count.true)); places_found = h.placed; levels_found = h.levelled }
 
 pub returns-then-event-event_count : goal.returns-then-event-event_count
 returns-then-event-event_count c =
-    let counted : c.event_count.result ≡ (decode c.args.file.now).events.count = c.event_count.ensures ∙ count_is _ c.args.file.now _ c.format_of.ensures c.section-events.ensures in
-    let fine : let a = c.args in refusal a.file.now a.correction.now (most_rows a.file.now) ≡ 0 = sym c.check_into-number.ensures.value ∙ c.if-number-ne0.false in
+    let counted : c.event_count.result ≡ (decode c.args.file.now).events.count = c.event_count.ensures ∙ count_is _ c.args.file.now _ c.of-case.ensures.format c.of-case.ensures.events in
+    let fine : let a = c.args in refusal a.file.now a.correction.now (most_rows a.file.now) ≡ 0 = sym c.in_default.ensures.value in
     let a = c.args in
-    let h = c.check_into-number.ensures.handed_on c.if-number-ne0.false in
+    let h = c.in_default.ensures.handed_on in
     c.working_at.ensures
     ∙ working_full a.file.now a.correction.now a.event _ (h.corrected _ (omega (arith, c.if-event-event_count.true)))
     ∙ working_is a.file.now a.correction.now a.event fine (lt-ltb a.event (decode a.file.now).events.count (omega (arith, c.if-event-event_count.true)))
 
 pub returns : goal.returns
 returns c =
-    let counted : c.event_count.result ≡ (decode c.args.file.now).events.count = c.event_count.ensures ∙ count_is _ c.args.file.now _ c.format_of.ensures c.section-events.ensures in
-    let fine : let a = c.args in refusal a.file.now a.correction.now (most_rows a.file.now) ≡ 0 = sym c.check_into-number.ensures.value ∙ c.if-number-ne0.false in
+    let counted : c.event_count.result ≡ (decode c.args.file.now).events.count = c.event_count.ensures ∙ count_is _ c.args.file.now _ c.of-case.ensures.format c.of-case.ensures.events in
+    let fine : let a = c.args in refusal a.file.now a.correction.now (most_rows a.file.now) ≡ 0 = sym c.in_default.ensures.value in
     let a = c.args in
     c.refused_make_up-2.ensures
     ∙ outside_is a.file.now a.correction.now a.event fine (le-ltb a.event (decode a.file.now).events.count (omega (arith, c.if-event-event_count.false)))
+
+pub of-case-requires : goal.of-case-requires
+of-case-requires c =
+    let a : AcceptedFile c.args.file.now = record { correction = c.args.correction.now; rows_length = most_rows c.args.file.now; accepted = sym c.in_default.ensures.value } in
+    record { units = has_section _ a 0 (omega arith); references = has_section _ a 1 (omega arith); past = has_section _ a 2 (omega arith); events = has_section _ a 3 (omega arith) }

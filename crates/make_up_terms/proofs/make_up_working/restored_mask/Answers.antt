@@ -10,14 +10,14 @@ pub returns-then-restores : goal.returns-then-restores
 unfolding restored_by event_at
 returns-then-restores c =
     let asked : let a = c.args in
-    c.restores.result ≡ restores ((events_in a.format a.events.now).component a.i) a.level a.correct = rw c.event_at-event.ensures at c.restores.ensures in
+    c.restores.result ≡ restores ((events_in a.case.format a.case.events.now).component a.i) a.level a.correct = rw c.event_at-event.ensures at c.restores.ensures in
     let a = c.args in
     rw (sym asked ∙ c.if-restores.true, c.passing_hours.ensures, c.failing_with-failing.ensures)
-    (restored_mask a.format a.units.now a.events.now a.place a.correct a.mitigated a.i)
+    (restored_mask a.case.format a.case.units.now a.case.events.now a.place a.correct a.mitigated a.i)
 
 pub returns : goal.returns
 unfolding restored_by event_at
 returns c =
     let asked : let a = c.args in
-    c.restores.result ≡ restores ((events_in a.format a.events.now).component a.i) a.level a.correct = rw c.event_at-event.ensures at c.restores.ensures in
+    c.restores.result ≡ restores ((events_in a.case.format a.case.events.now).component a.i) a.level a.correct = rw c.event_at-event.ensures at c.restores.ensures in
     rw (sym asked ∙ c.if-restores.false)

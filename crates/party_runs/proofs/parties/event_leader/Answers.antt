@@ -6,11 +6,6 @@ pub returns-then-kind-eq4 : goal.returns-then-kind-eq4
 unfolding event_at
 returns-then-kind-eq4 c = leader_bid _ _ _ (rw c.event_at-event.ensures at c.if-kind-eq4.true)
 
-pub leader-requires : goal.leader-requires
-unfolding event_at
-leader-requires c =
-    (c.requires.run_start.reached, c.requires.in_range.1)
-
 pub returns : goal.returns
 unfolding event_at
 returns c =

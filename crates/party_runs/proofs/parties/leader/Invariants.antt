@@ -1,4 +1,4 @@
-use Prim.Native.Nat.{◌≤◌, ◌-◌}
+use Prim.Native.Nat.{◌-◌}
 use mathlib.Core.Path.{◌≡◌}
 use Rattle.binary.specs.Lists.{first_from}
 use Rattle.party_runs.specs.StageParties.{same_group}
@@ -6,7 +6,4 @@ use Rattle.party_runs.proofs.parties.leader.Given as goal
 
 abbrev pub invariant-loop-j : goal.invariant-loop-j
 invariant-loop-j l =
-    (l.j ≤ l.i) × (first_from (l.i - l.j) l.j (same_group l.groups l.i) ≡ first_from (l.i - l.start) l.start (same_group l.groups l.i))
-
-abbrev pub decreases-loop-j : goal.decreases-loop-j
-decreases-loop-j l = l.i - l.j
+    first_from (l.i - l.j) l.j (same_group l.groups l.i) ≡ first_from (l.i - l.start) l.start (same_group l.groups l.i)

@@ -1,4 +1,4 @@
-use Prim.Native.Nat.{◌≤◌, ◌-◌}
+use Prim.Native.Nat.{◌-◌}
 use mathlib.Core.Path.{◌≡◌}
 use lib.ListN.{length}
 use Rattle.binary.specs.Lists.{Holds}
@@ -9,8 +9,4 @@ use Rattle.party_runs.proofs.parties.party_leaders.Given as goal
 
 abbrev pub invariant-loop-i : goal.invariant-loop-i
 invariant-loop-i l =
-    (l.i ≤ (events_in l.format l.events).count) × (length l.table ≡ most_events) × RunStart (events_in l.format l.events) (l.i - 1) l.start
-    × Holds l.i l.table (leader_in (events_in l.format l.events) l.groups)
-
-abbrev pub decreases-loop-i : goal.decreases-loop-i
-decreases-loop-i l = (events_in l.format l.events).count - l.i
+    (length l.table ≡ most_events) × RunStart (events_in l.case.format l.case.events.now) (l.i - 1) l.start × Holds l.i l.table (leader_in (events_in l.case.format l.case.events.now) l.groups)

@@ -1,16 +1,23 @@
-use borrow.Author.Tests.{le-leb, lt-leb}
+use borrow.Author.Tests.{leb-false}
+use mathlib.Core.Path.{sym, ◌∙◌}
 use Rattle.calls.specs.Answers.{answer, figure_of}
+use Rattle.calls.proofs.AnswerLaws.{refused_by, ok_if}
 use Rattle.penalty_calls.specs.SanctionCalls.{period_of_answer}
 use Rattle.penalty_calls.proofs.sanction_calls.period_of.Goals as goal
 
-pub returns-then-day-ge-DAYS : goal.returns-then-day-ge-DAYS
+pub returns-in_err-refuse_if : goal.returns-in_err-refuse_if
 unfolding period_of_answer answer figure_of
-returns-then-day-ge-DAYS c = rw (le-leb _ _ c.if-day-ge-DAYS.true)
+returns-in_err-refuse_if c =
+    let e = refused_by _ _ _ _ (sym c.refuse_if.ensures ∙ c.in_err-refuse_if.was) c.from_residual.ensures.1 in
+    rw (e.1, e.0)
 
-pub period_of-period-requires : goal.period_of-period-requires
-unfolding period_of_answer answer figure_of
-period_of-period-requires c = c.if-day-ge-DAYS.false
+pub period_of-requires : goal.period_of-requires
+period_of-requires c =
+    let fine = ok_if _ _ _ (sym c.refuse_if.ensures ∙ c.in_ok-refuse_if.was) in
+    leb-false _ _ fine
 
 pub returns : goal.returns
 unfolding period_of_answer answer figure_of
-returns c = rw (lt-leb _ _ c.if-day-ge-DAYS.false, c.period_of-period.ensures)
+returns c =
+    let fine = ok_if _ _ _ (sym c.refuse_if.ensures ∙ c.in_ok-refuse_if.was) in
+    rw (c.from.ensures, c.period_of.ensures, fine)

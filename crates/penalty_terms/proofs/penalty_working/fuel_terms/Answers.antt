@@ -25,18 +25,18 @@ pub fuel_charge-x-requires : goal.fuel_charge-x-requires
 unfolding fuel_in fuel_of no_fuel
 fuel_charge-x-requires c =
     let small : SmallDay c.party_day-day.result = rw c.party_day-day.ensures
-    (day_small c.args.format c.args.events.now c.args.leaders.now _ c.args.row (c.requires.of_fuel c.if-kind-ne3.false).0 c.requires.in_range.2 _ (le_refl _) c.requires.in_range.1) in
+    (day_small c.args.case.format c.args.case.events.now c.args.leaders.now _ c.args.row (c.requires.of_fuel c.if-kind-ne3.false).0 c.requires.in_range.2 _ (le_refl _) c.requires.in_range.1) in
     let p = c.requires in
-    ((p.of_fuel c.if-kind-ne3.false).1, small.gain_small, small.loss_small, rw c.difference-t.ensures (omega (arith, small.rise_small)))
+    ((p.of_fuel c.if-kind-ne3.false).1, small.gain_small, small.loss_small, rw c.saturating_sub-t.ensures (omega (arith, small.rise_small)))
 
 pub returns : goal.returns
 unfolding fuel_in fuel_of no_fuel
 returns c =
     rw (
-      c.difference-2.ensures,
-      c.difference.ensures,
+      c.saturating_sub-2.ensures,
+      c.saturating_sub.ensures,
       c.fuel_charge-x.ensures.0,
-      c.difference-t.ensures,
+      c.saturating_sub-t.ensures,
       c.party_day-day.ensures,
       eq-eqb _ 3 c.if-kind-ne3.false,
     )

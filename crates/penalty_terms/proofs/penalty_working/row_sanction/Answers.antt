@@ -18,38 +18,34 @@ use Rattle.penalty_terms.proofs.penalty_working.row_sanction.Goals as goal
 -- the sanction of the turn's row
 turned : (c : goal.After-sanction_at-sanction) → c.sanction_at-sanction.result ≡ sanction_of (decode c.args.file.now) c.loop-i.i
 turned c =
-    let formatted : c.format_of-format.result ≡ format_in c.args.file.now = c.format_of-format.ensures in
-    let past_of : c.section-past.result.now ≡ section_of c.args.file.now 2 = c.section-past.ensures in
-    let events_of : c.section-events.result.now ≡ section_of c.args.file.now 3 = c.section-events.ensures in
+    let formatted : c.of-case.result.format ≡ format_in c.args.file.now = c.of-case.ensures.format in
+    let past_of : c.of-case.result.past.now ≡ section_of c.args.file.now 2 = c.of-case.ensures.past in
+    let events_of : c.of-case.result.events.now ≡ section_of c.args.file.now 3 = c.of-case.ensures.events in
     let below : c.loop-i.i < (decode c.args.file.now).events.count = omega (arith, c.loop-i-test.true, c.requires.accepted_file.1) in
-    row_found c.args.file.now c.requires.accepted_file.0 _ _ _ c.requires.found_masks _ _ _ formatted past_of events_of _ _ _ below c.loop-i.invariant.2
+    row_found c.args.file.now c.requires.accepted_file.0 _ _ _ c.requires.found_masks _ _ _ formatted past_of events_of _ _ _ below c.loop-i.invariant.1
     c.sanction_at-sanction.ensures
 
-pub format_of-format-requires : goal.format_of-format-requires
-format_of-format-requires c = header_long _ c.requires.accepted_file.0
-
-pub section-past-requires : goal.section-past-requires
-section-past-requires c = has_section _ c.requires.accepted_file.0 2 (omega arith)
-
-pub section-events-requires : goal.section-events-requires
-section-events-requires c = has_section _ c.requires.accepted_file.0 3 (omega arith)
+pub of-case-requires : goal.of-case-requires
+of-case-requires c =
+    let a = c.requires.accepted_file.0 in
+    record { units = has_section _ a 0 (omega arith); references = has_section _ a 1 (omega arith); past = has_section _ a 2 (omega arith); events = has_section _ a 3 (omega arith) }
 
 pub loop-i-init : goal.loop-i-init
-loop-i-init c = (omega arith, refl, (λ j q. absurd (let z : ⊥ = omega arith in z)))
+loop-i-init c = (refl, (λ j q. absurd (let z : ⊥ = omega arith in z)))
 
 pub sanction_at-sanction-requires : goal.sanction_at-sanction-requires
 sanction_at-sanction-requires c =
-    let formatted : c.format_of-format.result ≡ format_in c.args.file.now = c.format_of-format.ensures in
-    let events_of : c.section-events.result.now ≡ section_of c.args.file.now 3 = c.section-events.ensures in
+    let formatted : c.of-case.result.format ≡ format_in c.args.file.now = c.of-case.ensures.format in
+    let events_of : c.of-case.result.events.now ≡ section_of c.args.file.now 3 = c.of-case.ensures.events in
     let few : (decode c.args.file.now).events.count ≤ most_events = let f = c.args.file.now in
     let q = count_is _ f _ formatted events_of in
     let n = file_few f c.requires.accepted_file.0 _ _ _ formatted refl events_of in
     omega arith in
-    let past_of : c.section-past.result.now ≡ section_of c.args.file.now 2 = c.section-past.ensures in
+    let past_of : c.of-case.result.past.now ≡ section_of c.args.file.now 2 = c.of-case.ensures.past in
     let ready : (i : ℕ) → i < (decode c.args.file.now).events.count →
-    let format = c.format_of-format.result in
-    let events = c.section-events.result.now in
-    ((i < (events_in format events).count) × ((events_in format events).count ≤ most_events) × ((past_in c.section-past.result.now).count ≤ most_past))
+    let format = c.of-case.result.format in
+    let events = c.of-case.result.events.now in
+    ((i < (events_in format events).count) × ((events_in format events).count ≤ most_events) × ((past_in c.of-case.result.past.now).count ≤ most_past))
     × Sound format events c.args.leaders.now = λ i b. let f = c.args.file.now in
     let a = c.requires.accepted_file.0 in
     let q = count_is _ f _ formatted events_of in (
@@ -63,8 +59,8 @@ sanction_at-sanction-requires c =
 pub offset_bounds-penalties-i : goal.offset_bounds-penalties-i
 offset_bounds-penalties-i c =
     let below : c.loop-i.i < (decode c.args.file.now).events.count = omega (arith, c.loop-i-test.true, c.requires.accepted_file.1) in
-    let formatted : c.format_of-format.result ≡ format_in c.args.file.now = c.format_of-format.ensures in
-    let events_of : c.section-events.result.now ≡ section_of c.args.file.now 3 = c.section-events.ensures in
+    let formatted : c.of-case.result.format ≡ format_in c.args.file.now = c.of-case.ensures.format in
+    let events_of : c.of-case.result.events.now ≡ section_of c.args.file.now 3 = c.of-case.ensures.events in
     let few : (decode c.args.file.now).events.count ≤ most_events = let f = c.args.file.now in
     let q = count_is _ f _ formatted events_of in
     let n = file_few f c.requires.accepted_file.0 _ _ _ formatted refl events_of in
@@ -75,8 +71,8 @@ offset_bounds-penalties-i c =
 pub bounds-penalties-i : goal.bounds-penalties-i
 bounds-penalties-i c =
     let below : c.loop-i.i < (decode c.args.file.now).events.count = omega (arith, c.loop-i-test.true, c.requires.accepted_file.1) in
-    let formatted : c.format_of-format.result ≡ format_in c.args.file.now = c.format_of-format.ensures in
-    let events_of : c.section-events.result.now ≡ section_of c.args.file.now 3 = c.section-events.ensures in
+    let formatted : c.of-case.result.format ≡ format_in c.args.file.now = c.of-case.ensures.format in
+    let events_of : c.of-case.result.events.now ≡ section_of c.args.file.now 3 = c.of-case.ensures.events in
     let few : (decode c.args.file.now).events.count ≤ most_events = let f = c.args.file.now in
     let q = count_is _ f _ formatted events_of in
     let n = file_few f c.requires.accepted_file.0 _ _ _ formatted refl events_of in
@@ -84,50 +80,34 @@ bounds-penalties-i c =
     let inside : c.loop-i.i < 200 = omega (arith, below, few) in
     inside
 
-pub overflow_add-i : goal.overflow_add-i
-overflow_add-i c =
-    let below : c.loop-i.i < (decode c.args.file.now).events.count = omega (arith, c.loop-i-test.true, c.requires.accepted_file.1) in
-    let formatted : c.format_of-format.result ≡ format_in c.args.file.now = c.format_of-format.ensures in
-    let events_of : c.section-events.result.now ≡ section_of c.args.file.now 3 = c.section-events.ensures in
-    let few : (decode c.args.file.now).events.count ≤ most_events = let f = c.args.file.now in
-    let q = count_is _ f _ formatted events_of in
-    let n = file_few f c.requires.accepted_file.0 _ _ _ formatted refl events_of in
-    omega arith in
-    let inside : c.loop-i.i < 200 = omega (arith, below, few) in
-    omega arith
-
-pub loop-i-smaller : goal.loop-i-smaller
-loop-i-smaller c = omega (arith, c.loop-i-test.true)
-
 pub loop-i-preserved : goal.loop-i-preserved
 loop-i-preserved c =
     let below : c.loop-i.i < (decode c.args.file.now).events.count = omega (arith, c.loop-i-test.true, c.requires.accepted_file.1) in
-    let formatted : c.format_of-format.result ≡ format_in c.args.file.now = c.format_of-format.ensures in
-    let events_of : c.section-events.result.now ≡ section_of c.args.file.now 3 = c.section-events.ensures in
+    let formatted : c.of-case.result.format ≡ format_in c.args.file.now = c.of-case.ensures.format in
+    let events_of : c.of-case.result.events.now ≡ section_of c.args.file.now 3 = c.of-case.ensures.events in
     let few : (decode c.args.file.now).events.count ≤ most_events = let f = c.args.file.now in
     let q = count_is _ f _ formatted events_of in
     let n = file_few f c.requires.accepted_file.0 _ _ _ formatted refl events_of in
     omega arith in
     let inside : c.loop-i.i < 200 = omega (arith, below, few) in (
-      omega (arith, c.loop-i-test.true),
-      length-set c.loop-i.penalties c.loop-i.i c.sanction_at-sanction.result.penalty ∙ c.loop-i.invariant.1,
-      holds_more c.loop-i.i c.loop-i.penalties (penalty (decode c.args.file.now)) _ (omega (arith, c.loop-i.invariant.1)) c.loop-i.invariant.2
+      length-set c.loop-i.penalties c.loop-i.i c.sanction_at-sanction.result.penalty ∙ c.loop-i.invariant.0,
+      holds_more c.loop-i.i c.loop-i.penalties (penalty (decode c.args.file.now)) _ (omega (arith, c.loop-i.invariant.0)) c.loop-i.invariant.1
           (ap (λ (s : Sanction). s.penalty) (turned c)),
     )
 
 pub sanction_at-requires : goal.sanction_at-requires
 sanction_at-requires c =
-    let formatted : c.format_of-format.result ≡ format_in c.args.file.now = c.format_of-format.ensures in
-    let events_of : c.section-events.result.now ≡ section_of c.args.file.now 3 = c.section-events.ensures in
+    let formatted : c.of-case.result.format ≡ format_in c.args.file.now = c.of-case.ensures.format in
+    let events_of : c.of-case.result.events.now ≡ section_of c.args.file.now 3 = c.of-case.ensures.events in
     let few : (decode c.args.file.now).events.count ≤ most_events = let f = c.args.file.now in
     let q = count_is _ f _ formatted events_of in
     let n = file_few f c.requires.accepted_file.0 _ _ _ formatted refl events_of in
     omega arith in
-    let past_of : c.section-past.result.now ≡ section_of c.args.file.now 2 = c.section-past.ensures in
+    let past_of : c.of-case.result.past.now ≡ section_of c.args.file.now 2 = c.of-case.ensures.past in
     let ready : (i : ℕ) → i < (decode c.args.file.now).events.count →
-    let format = c.format_of-format.result in
-    let events = c.section-events.result.now in
-    ((i < (events_in format events).count) × ((events_in format events).count ≤ most_events) × ((past_in c.section-past.result.now).count ≤ most_past))
+    let format = c.of-case.result.format in
+    let events = c.of-case.result.events.now in
+    ((i < (events_in format events).count) × ((events_in format events).count ≤ most_events) × ((past_in c.of-case.result.past.now).count ≤ most_past))
     × Sound format events c.args.leaders.now = λ i b. let f = c.args.file.now in
     let a = c.requires.accepted_file.0 in
     let q = count_is _ f _ formatted events_of in (
@@ -139,9 +119,9 @@ sanction_at-requires c =
 
 pub returns : goal.returns
 returns c =
-    let formatted : c.format_of-format.result ≡ format_in c.args.file.now = c.format_of-format.ensures in
-    let past_of : c.section-past.result.now ≡ section_of c.args.file.now 2 = c.section-past.ensures in
-    let events_of : c.section-events.result.now ≡ section_of c.args.file.now 3 = c.section-events.ensures in
-    let e : c.loop-i.i ≡ c.args.row = omega (arith, c.loop-i.invariant.0, c.loop-i-test.false) in
+    let formatted : c.of-case.result.format ≡ format_in c.args.file.now = c.of-case.ensures.format in
+    let past_of : c.of-case.result.past.now ≡ section_of c.args.file.now 2 = c.of-case.ensures.past in
+    let events_of : c.of-case.result.events.now ≡ section_of c.args.file.now 3 = c.of-case.ensures.events in
+    let e : c.loop-i.i ≡ c.args.row = omega (arith, c.loop-i-test.false) in
     row_found c.args.file.now c.requires.accepted_file.0 _ _ _ c.requires.found_masks _ _ _ formatted past_of events_of _ _ _ c.requires.accepted_file.1
-    (subst (λ (n : ℕ). Holds n c.loop-i.penalties (penalty (decode c.args.file.now))) e c.loop-i.invariant.2) c.sanction_at.ensures
+    (subst (λ (n : ℕ). Holds n c.loop-i.penalties (penalty (decode c.args.file.now))) e c.loop-i.invariant.1) c.sanction_at.ensures

@@ -9,7 +9,4 @@ use Rattle.penalty_terms.proofs.penalty_working.row_sanction.Given as goal
 
 abbrev pub invariant-loop-i : goal.invariant-loop-i
 invariant-loop-i l =
-    (l.i ≤ l.row) × (length l.penalties ≡ most_events) × Holds l.i l.penalties (penalty (decode l.file))
-
-abbrev pub decreases-loop-i : goal.decreases-loop-i
-decreases-loop-i l = l.row - l.i
+    (length l.penalties ≡ most_events) × Holds l.i l.penalties (penalty (decode l.file))

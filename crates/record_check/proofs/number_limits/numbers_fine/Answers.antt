@@ -8,20 +8,20 @@ use Rattle.record_check.proofs.number_limits.numbers_fine.Goals as goal
 
 pub record_numbers_fine-requires : goal.record_numbers_fine-requires
 unfolding event_numbers_fine numbers_fine events_in first_widths
-record_numbers_fine-requires c = rw c.widths_of-w.ensures.0 (let f = fits c.args.format in search rules)
+record_numbers_fine-requires c = rw c.widths_of-w.ensures.0 (let f = fits c.args.case.format in search rules)
 
 pub returns-then-not-record_numbers_fine : goal.returns-then-not-record_numbers_fine
 unfolding event_numbers_fine numbers_fine events_in first_widths unit_numbers_fine units_in
 returns-then-not-record_numbers_fine c =
     let of-units : let s = c.args in
-    c.record_numbers_fine.result ≡ unit_numbers_fine s.format s.units.now = rw (c.record_numbers_fine.ensures, c.widths_of-w.ensures.0) in
+    c.record_numbers_fine.result ≡ unit_numbers_fine s.case.format s.case.units.now = rw (c.record_numbers_fine.ensures, c.widths_of-w.ensures.0) in
     rw (sym of-units ∙ c.if-not-record_numbers_fine.true)
 
 pub returns-then-not-reference_numbers_fine : goal.returns-then-not-reference_numbers_fine
 unfolding event_numbers_fine numbers_fine events_in first_widths unit_numbers_fine units_in
 returns-then-not-reference_numbers_fine c =
     let of-units : let s = c.args in
-    c.record_numbers_fine.result ≡ unit_numbers_fine s.format s.units.now = rw (c.record_numbers_fine.ensures, c.widths_of-w.ensures.0) in
+    c.record_numbers_fine.result ≡ unit_numbers_fine s.case.format s.case.units.now = rw (c.record_numbers_fine.ensures, c.widths_of-w.ensures.0) in
     rw (
       sym of-units ∙ c.if-not-record_numbers_fine.false,
       sym c.reference_numbers_fine.ensures ∙ c.if-not-reference_numbers_fine.true,
@@ -31,13 +31,13 @@ pub record_numbers_fine-requires-2 : goal.record_numbers_fine-requires-2
 unfolding event_numbers_fine numbers_fine events_in first_widths
 record_numbers_fine-requires-2 c =
     rw c.widths_of-w.ensures.0
-    (let f = fits c.args.format in search rules)
+    (let f = fits c.args.case.format in search rules)
 
 pub returns : goal.returns
 unfolding event_numbers_fine numbers_fine events_in first_widths unit_numbers_fine units_in
 returns c =
     let of-units : let s = c.args in
-    c.record_numbers_fine.result ≡ unit_numbers_fine s.format s.units.now = rw (c.record_numbers_fine.ensures, c.widths_of-w.ensures.0) in
+    c.record_numbers_fine.result ≡ unit_numbers_fine s.case.format s.case.units.now = rw (c.record_numbers_fine.ensures, c.widths_of-w.ensures.0) in
     rw (
       sym of-units ∙ c.if-not-record_numbers_fine.false,
       sym c.reference_numbers_fine.ensures ∙ c.if-not-reference_numbers_fine.false,

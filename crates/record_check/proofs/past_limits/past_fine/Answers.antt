@@ -1,21 +1,19 @@
-use mathlib.Core.Path.{◌≡◌}
+use Prim.Native.Nat.{ℕ}
 use native.Mathlib.Omega.{arith}
-use Rattle.binary.proofs.BoundedLaws.{all_none, all_more}
+use mathlib.Core.Path.{◌≡◌, refl, ap, ◌∙◌}
+use borrow.Author.Rules.{rules}
+use borrow.Author.Tests.{tests}
+use Rattle.std.proofs.lemmas.Iterator.{YieldsList-from_range}
+use Rattle.binary.specs.Bounded.{all_to}
 use Rattle.casefile.specs.Decode.{past_in}
-use Rattle.limits.specs.Refusal.{past_fine}
+use Rattle.limits.specs.Refusal.{entry_fine, past_fine}
+use Rattle.binary.proofs.ChainLaws.{all_in_range}
 use Rattle.record_check.proofs.past_limits.past_fine.Goals as goal
-
-pub loop-i-init : goal.loop-i-init
-unfolding past_fine
-loop-i-init c = (omega arith, all_none _)
-
-pub loop-i-preserved : goal.loop-i-preserved
-unfolding past_fine
-loop-i-preserved c = (omega arith, rw (c.loop-i.invariant.1, c.entry_fine-fine.ensures, all_more))
 
 pub returns : goal.returns
 unfolding past_fine
 returns c =
     let s = c.args in
-    let e : c.loop-i.i ≡ (past_in s.past.now).count = omega arith in
-    rw (c.loop-i.invariant.1, e)
+    let count : c.entry_count.result ≡ (past_in s.case.past.now).count = c.entry_count.ensures in
+    all_in_range (entry_fine s.case.past.now) c.entry_count.result _ _ _ _ (YieldsList-from_range 0 _ _ refl (omega arith)) c.all.ensures.ran (λ x b q k. search (rules, tests))
+    ∙ ap (λ (n : ℕ). all_to n (entry_fine s.case.past.now)) count

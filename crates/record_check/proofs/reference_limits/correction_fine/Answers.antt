@@ -10,7 +10,7 @@ pub returns-then-correction-eq0 : goal.returns-then-correction-eq0
 unfolding correction_fine
 returns-then-correction-eq0 c =
     let s = c.args in
-    none_fine s.format (units_in s.format s.units.now) s.correction.now c.if-correction-eq0.true
+    none_fine s.case.format (units_in s.case.format s.case.units.now) s.correction.now c.if-correction-eq0.true
 
 pub references_fine-requires : goal.references_fine-requires
 unfolding correction_fine
@@ -20,7 +20,7 @@ pub returns-then-size_fine : goal.returns-then-size_fine
 unfolding correction_fine
 returns-then-size_fine c =
     let sized : let s = c.args in
-    c.size_fine.result ≡ size_fine (length s.correction.now) (reference_width s.format) most_references = rw (c.size_fine.ensures, c.widths_of-w.ensures.0) in
+    c.size_fine.result ≡ size_fine (length s.correction.now) (reference_width s.case.format) most_references = rw (c.size_fine.ensures, c.widths_of-w.ensures.0) in
     let fine = sym sized ∙ c.if-size_fine.true in
     rw (c.references_fine.ensures, c.reference_numbers_fine-numbers.ensures, fine)
 
@@ -28,5 +28,5 @@ pub returns : goal.returns
 unfolding correction_fine
 returns c =
     let sized : let s = c.args in
-    c.size_fine.result ≡ size_fine (length s.correction.now) (reference_width s.format) most_references = rw (c.size_fine.ensures, c.widths_of-w.ensures.0) in
+    c.size_fine.result ≡ size_fine (length s.correction.now) (reference_width s.case.format) most_references = rw (c.size_fine.ensures, c.widths_of-w.ensures.0) in
     let small = sym sized ∙ c.if-size_fine.false in rw small

@@ -1,21 +1,19 @@
-use mathlib.Core.Path.{◌≡◌}
+use Prim.Native.Nat.{ℕ}
 use native.Mathlib.Omega.{arith}
-use Rattle.binary.proofs.BoundedLaws.{all_none, all_more}
+use mathlib.Core.Path.{◌≡◌, refl, ap, ◌∙◌}
+use borrow.Author.Rules.{rules}
+use borrow.Author.Tests.{tests}
+use Rattle.std.proofs.lemmas.Iterator.{YieldsList-from_range}
+use Rattle.binary.specs.Bounded.{all_to}
 use Rattle.casefile.specs.Decode.{units_in}
-use Rattle.limits.specs.Refusal.{units_fine}
+use Rattle.limits.specs.Refusal.{unit_fine, units_fine}
+use Rattle.binary.proofs.ChainLaws.{all_in_range}
 use Rattle.record_check.proofs.unit_limits.units_fine.Goals as goal
-
-pub loop-i-init : goal.loop-i-init
-unfolding units_fine
-loop-i-init c = (omega arith, all_none _)
-
-pub loop-i-preserved : goal.loop-i-preserved
-unfolding units_fine
-loop-i-preserved c = (omega arith, rw (c.loop-i.invariant.1, c.unit_fine-fine.ensures, all_more))
 
 pub returns : goal.returns
 unfolding units_fine
 returns c =
     let s = c.args in
-    let e : c.loop-i.i ≡ (units_in s.format s.units.now).count = omega arith in
-    rw (c.loop-i.invariant.1, e)
+    let count : c.unit_count.result ≡ (units_in s.case.format s.case.units.now).count = c.unit_count.ensures.0 in
+    all_in_range (unit_fine s.case.format s.case.units.now) c.unit_count.result _ _ _ _ (YieldsList-from_range 0 _ _ refl (omega arith)) c.all.ensures.ran (λ x b q k. search (rules, tests))
+    ∙ ap (λ (n : ℕ). all_to n (unit_fine s.case.format s.case.units.now)) count

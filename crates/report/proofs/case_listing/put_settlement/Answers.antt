@@ -12,4 +12,4 @@ returns c =
     let p = c.put_lines-at.ensures in
     let q = c.put_totals.ensures in
     let a = c.args in
-    (then {s = lines_to a.format a.n (events_in a.format a.events.now) a.rows.now} p.0 q.0, omega (arith, p.1, q.1))
+    (then {s = lines_to a.case.format a.n (events_in a.case.format a.case.events.now) a.rows.now} p.0 q.0, omega (arith, p.1, q.1))

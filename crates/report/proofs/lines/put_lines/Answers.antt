@@ -13,12 +13,11 @@ pub loop-i-preserved : goal.loop-i-preserved
 loop-i-preserved c =
     let l = c.loop-i in
     let a = c.args in
-    let event = same_text (ap event_text c.event_at-event.ensures ∙ event_text_is (events_in a.format a.events.now) l.i) c.put_event-next.ensures.0 in
+    let event = same_text (ap event_text c.event_at-event.ensures ∙ event_text_is (events_in a.case.format a.case.events.now) l.i) c.put_event-next.ensures.0 in
     let row = same_text (ap row_fields c.record_at-row.ensures.0) c.put_row-at.ensures.0 in (
-      omega arith,
-      omega (arith, c.put_event-next.ensures.1, c.put_row-at.ensures.1, l.invariant.1),
-      omega (arith, put_size event, put_size row, l.invariant.2),
-      same_text (sym (lines_more a.format l.i (events_in a.format a.events.now) a.rows.now)) (then l.invariant.3 (then event row)),
+      omega (arith, c.put_event-next.ensures.1, c.put_row-at.ensures.1, l.invariant.0),
+      omega (arith, put_size event, put_size row, l.invariant.1),
+      same_text (sym (lines_more a.case.format l.i (events_in a.case.format a.case.events.now) a.rows.now)) (then l.invariant.2 (then event row)),
     )
 
 pub returns : goal.returns
@@ -26,7 +25,7 @@ returns c =
     let l = c.loop-i in
     let a = c.args in
     let e : l.i ≡ a.n = omega arith in
-    (same_text (ap (λ (k : ℕ). lines_to a.format k (events_in a.format a.events.now) a.rows.now) e) l.invariant.3, omega (arith, l.invariant.1))
+    (same_text (ap (λ (k : ℕ). lines_to a.case.format k (events_in a.case.format a.case.events.now) a.rows.now) e) l.invariant.2, omega (arith, l.invariant.0))
 
 pub loop-i-init : goal.loop-i-init
-loop-i-init c = (omega arith, omega arith, search rules, same_text (sym (lines_none _ _ _)) (nothing _ _))
+loop-i-init c = (omega arith, search rules, same_text (sym (lines_none _ _ _)) (nothing _ _))

@@ -3,4 +3,4 @@ use Rattle.sanctions.proofs.dispatch.hour_revenue.Goals as goal
 
 pub returns : goal.returns
 unfolding hour_revenue
-returns c = rw (c.choose_u32.ensures, c.bit_of-flagged.ensures, c.cell_at-cell.ensures)
+returns c = rw (c.choose.ensures, c.bit_of-flagged.ensures, c.cell_at-cell.ensures)

@@ -15,20 +15,20 @@ none x y f e = let z = sum_none f in omega arith
 
 pub overflow_mul-gain : goal.overflow_mul-gain
 unfolding energy_of energy_in
-overflow_mul-gain c = omega (arith, c.wide-gain.ensures.1)
+overflow_mul-gain c = omega (arith, c.from-gain.ensures)
 
 pub overflow_mul-loss : goal.overflow_mul-loss
 unfolding energy_of energy_in
-overflow_mul-loss c = omega (arith, c.wide-loss.ensures.1)
+overflow_mul-loss c = omega (arith, c.from-loss.ensures)
 
 pub loop-h-init : goal.loop-h-init
 unfolding energy_of energy_in
 loop-h-init c =
-    let g = c.wide-gain.ensures.0 ∙ c.positive_part.ensures in
-    let l = c.wide-loss.ensures.0 ∙ c.negative_part.ensures in
+    let g = c.from-gain.ensures ∙ c.positive_part.ensures in
+    let l = c.from-loss.ensures ∙ c.negative_part.ensures in
     let p = positive_part_holds.small c.args.q in
     let n = negative_part_holds.small c.args.q in
-    (omega arith, omega arith, omega arith, none _ _ _ g, none _ _ _ l)
+    (omega arith, omega arith, none _ _ _ g, none _ _ _ l)
 
 pub overflow_add-gain : goal.overflow_add-gain
 unfolding energy_of energy_in
@@ -58,9 +58,8 @@ loop-h-preserved c =
     let l = c.loop-h in (
       omega arith,
       omega arith,
-      omega arith,
-      rw (l.invariant.3, c.hour_energy-hour.ensures.0, sum_more, add_assoc),
-      rw (l.invariant.4, c.hour_energy-hour.ensures.1, sum_more, add_assoc),
+      rw (l.invariant.2, c.hour_energy-hour.ensures.0, sum_more, add_assoc),
+      rw (l.invariant.3, c.hour_energy-hour.ensures.1, sum_more, add_assoc),
     )
 
 pub returns : goal.returns
@@ -68,4 +67,4 @@ unfolding energy_of energy_in
 returns c =
     let l = c.loop-h in
     let e : l.h ≡ most_hours = omega arith in
-    rw (l.invariant.3, l.invariant.4, e)
+    rw (l.invariant.2, l.invariant.3, e)

@@ -23,16 +23,16 @@ pub fuel_penalty-penalty-requires : goal.fuel_penalty-penalty-requires
 unfolding event_at fuel_row multiplier_at party_penalty
 fuel_penalty-penalty-requires c =
     let small : SmallDay c.party_day-sums.result = rw c.party_day-sums.ensures
-    (day_small c.args.format c.args.events.now c.args.leaders.now _ c.args.i c.requires.2 c.requires.3 _ (le_refl _) c.requires.1) in
+    (day_small c.args.case.format c.args.case.events.now c.args.leaders.now _ c.args.i c.requires.2 c.requires.3 _ (le_refl _) c.requires.1) in
     let few : c.multiplier_after-multiplier.result ≤ 3 = rw c.multiplier_after-multiplier.ensures (after_small _) in
-    (few, small.gain_small, small.loss_small, rw c.difference-tcc.ensures (omega arith))
+    (few, small.gain_small, small.loss_small, rw c.saturating_sub-tcc.ensures (omega arith))
 
 pub returns : goal.returns
 unfolding event_at fuel_row multiplier_at party_penalty
 returns c =
     rw (
       c.fuel_penalty-penalty.ensures,
-      c.difference-tcc.ensures,
+      c.saturating_sub-tcc.ensures,
       c.party_day-sums.ensures,
       c.multiplier_after-multiplier.ensures,
       c.prior_past-outside.ensures,

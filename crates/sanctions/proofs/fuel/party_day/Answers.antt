@@ -11,7 +11,7 @@ run_end-end-requires c = record { in_range = c.requires.0; runs_together = c.req
 pub loop-j-init : goal.loop-j-init
 loop-j-init c =
     let a = c.run_end-end.ensures.after in
-    (omega arith, day_none c.args.format c.args.events.now c.args.leaders.now _ _ c.requires.2 c.requires.3 c.requires.0)
+    day_none c.args.case.format c.args.case.events.now c.args.leaders.now _ _ c.requires.2 c.requires.3 c.requires.0
 
 pub party_share-share-requires : goal.party_share-share-requires
 party_share-share-requires c =
@@ -23,11 +23,11 @@ overflow_add-gain c =
     let next : let l = c.loop-j in
     let a = c.args in
     plus (record { gain = l.gain; loss = l.loss; rise = l.rise; fall = l.fall }) c.party_share-share.result
-    ≡ party_day a.format a.events.now a.leaders.now a.mask a.i (l.j + 1) = day_more c.args.format c.args.events.now c.args.leaders.now _ c.args.i c.requires.2 c.requires.3 _ _ _ c.loop-j.invariant.1 c.party_share-share.ensures in
+    ≡ party_day a.case.format a.case.events.now a.leaders.now a.mask a.i (l.j + 1) = day_more c.args.case.format c.args.case.events.now c.args.leaders.now _ c.args.i c.requires.2 c.requires.3 _ _ _ c.loop-j.invariant c.party_share-share.ensures in
     let small : let l = c.loop-j in
     SmallDay (plus (record { gain = l.gain; loss = l.loss; rise = l.rise; fall = l.fall }) c.party_share-share.result) = let t = c.loop-j-test.true in
     let w = c.run_end-end.ensures.within in
-    rw next (day_small c.args.format c.args.events.now c.args.leaders.now _ c.args.i c.requires.2 c.requires.3 _ (omega arith) (omega arith)) in
+    rw next (day_small c.args.case.format c.args.case.events.now c.args.leaders.now _ c.args.i c.requires.2 c.requires.3 _ (omega arith) (omega arith)) in
     omega arith
 
 pub overflow_add-loss : goal.overflow_add-loss
@@ -35,11 +35,11 @@ overflow_add-loss c =
     let next : let l = c.loop-j in
     let a = c.args in
     plus (record { gain = l.gain; loss = l.loss; rise = l.rise; fall = l.fall }) c.party_share-share.result
-    ≡ party_day a.format a.events.now a.leaders.now a.mask a.i (l.j + 1) = day_more c.args.format c.args.events.now c.args.leaders.now _ c.args.i c.requires.2 c.requires.3 _ _ _ c.loop-j.invariant.1 c.party_share-share.ensures in
+    ≡ party_day a.case.format a.case.events.now a.leaders.now a.mask a.i (l.j + 1) = day_more c.args.case.format c.args.case.events.now c.args.leaders.now _ c.args.i c.requires.2 c.requires.3 _ _ _ c.loop-j.invariant c.party_share-share.ensures in
     let small : let l = c.loop-j in
     SmallDay (plus (record { gain = l.gain; loss = l.loss; rise = l.rise; fall = l.fall }) c.party_share-share.result) = let t = c.loop-j-test.true in
     let w = c.run_end-end.ensures.within in
-    rw next (day_small c.args.format c.args.events.now c.args.leaders.now _ c.args.i c.requires.2 c.requires.3 _ (omega arith) (omega arith)) in
+    rw next (day_small c.args.case.format c.args.case.events.now c.args.leaders.now _ c.args.i c.requires.2 c.requires.3 _ (omega arith) (omega arith)) in
     omega arith
 
 pub overflow_add-rise : goal.overflow_add-rise
@@ -47,11 +47,11 @@ overflow_add-rise c =
     let next : let l = c.loop-j in
     let a = c.args in
     plus (record { gain = l.gain; loss = l.loss; rise = l.rise; fall = l.fall }) c.party_share-share.result
-    ≡ party_day a.format a.events.now a.leaders.now a.mask a.i (l.j + 1) = day_more c.args.format c.args.events.now c.args.leaders.now _ c.args.i c.requires.2 c.requires.3 _ _ _ c.loop-j.invariant.1 c.party_share-share.ensures in
+    ≡ party_day a.case.format a.case.events.now a.leaders.now a.mask a.i (l.j + 1) = day_more c.args.case.format c.args.case.events.now c.args.leaders.now _ c.args.i c.requires.2 c.requires.3 _ _ _ c.loop-j.invariant c.party_share-share.ensures in
     let small : let l = c.loop-j in
     SmallDay (plus (record { gain = l.gain; loss = l.loss; rise = l.rise; fall = l.fall }) c.party_share-share.result) = let t = c.loop-j-test.true in
     let w = c.run_end-end.ensures.within in
-    rw next (day_small c.args.format c.args.events.now c.args.leaders.now _ c.args.i c.requires.2 c.requires.3 _ (omega arith) (omega arith)) in
+    rw next (day_small c.args.case.format c.args.case.events.now c.args.leaders.now _ c.args.i c.requires.2 c.requires.3 _ (omega arith) (omega arith)) in
     omega arith
 
 pub overflow_add-fall : goal.overflow_add-fall
@@ -59,11 +59,11 @@ overflow_add-fall c =
     let next : let l = c.loop-j in
     let a = c.args in
     plus (record { gain = l.gain; loss = l.loss; rise = l.rise; fall = l.fall }) c.party_share-share.result
-    ≡ party_day a.format a.events.now a.leaders.now a.mask a.i (l.j + 1) = day_more c.args.format c.args.events.now c.args.leaders.now _ c.args.i c.requires.2 c.requires.3 _ _ _ c.loop-j.invariant.1 c.party_share-share.ensures in
+    ≡ party_day a.case.format a.case.events.now a.leaders.now a.mask a.i (l.j + 1) = day_more c.args.case.format c.args.case.events.now c.args.leaders.now _ c.args.i c.requires.2 c.requires.3 _ _ _ c.loop-j.invariant c.party_share-share.ensures in
     let small : let l = c.loop-j in
     SmallDay (plus (record { gain = l.gain; loss = l.loss; rise = l.rise; fall = l.fall }) c.party_share-share.result) = let t = c.loop-j-test.true in
     let w = c.run_end-end.ensures.within in
-    rw next (day_small c.args.format c.args.events.now c.args.leaders.now _ c.args.i c.requires.2 c.requires.3 _ (omega arith) (omega arith)) in
+    rw next (day_small c.args.case.format c.args.case.events.now c.args.leaders.now _ c.args.i c.requires.2 c.requires.3 _ (omega arith) (omega arith)) in
     omega arith
 
 pub loop-j-preserved : goal.loop-j-preserved
@@ -71,12 +71,12 @@ loop-j-preserved c =
     let next : let l = c.loop-j in
     let a = c.args in
     plus (record { gain = l.gain; loss = l.loss; rise = l.rise; fall = l.fall }) c.party_share-share.result
-    ≡ party_day a.format a.events.now a.leaders.now a.mask a.i (l.j + 1) = day_more c.args.format c.args.events.now c.args.leaders.now _ c.args.i c.requires.2 c.requires.3 _ _ _ c.loop-j.invariant.1 c.party_share-share.ensures in
-    (omega arith, next)
+    ≡ party_day a.case.format a.case.events.now a.leaders.now a.mask a.i (l.j + 1) = day_more c.args.case.format c.args.case.events.now c.args.leaders.now _ c.args.i c.requires.2 c.requires.3 _ _ _ c.loop-j.invariant c.party_share-share.ensures in
+    next
 
 pub returns : goal.returns
 returns c =
     let l = c.loop-j in
     let e : l.j ≡ c.run_end-end.result = omega arith in
-    l.invariant.1 ∙ ap (party_day c.args.format c.args.events.now c.args.leaders.now c.args.mask c.args.i) e
-    ∙ day_whole c.args.format c.args.events.now c.args.leaders.now _ _ c.requires.2 c.requires.3 _ c.run_end-end.ensures
+    l.invariant ∙ ap (party_day c.args.case.format c.args.case.events.now c.args.leaders.now c.args.mask c.args.i) e
+    ∙ day_whole c.args.case.format c.args.case.events.now c.args.leaders.now _ _ c.requires.2 c.requires.3 _ c.run_end-end.ensures

@@ -13,7 +13,7 @@ unfolding event_at party_share led_by energy_of
 event_energy-e-requires c = (
   c.event_cells-cells.ensures.1,
   rw c.event_cells-cells.ensures.0
-      (led_amounts c.args.format c.args.events.now c.args.leaders.now _ _ c.requires.2 c.requires.3 c.requires.0 c.if-leaders-j.false),
+      (led_amounts c.args.case.format c.args.case.events.now c.args.leaders.now _ _ c.requires.2 c.requires.3 c.requires.0 c.if-leaders-j.false),
 )
 
 pub returns : goal.returns
@@ -21,9 +21,9 @@ unfolding event_at party_share led_by energy_of
 returns c =
     rw (
       eq-eqb _ _ c.if-leaders-j.false,
-      c.wide-fall.ensures.0,
+      c.from-fall.ensures,
       c.negative_part.ensures,
-      c.wide-rise.ensures.0,
+      c.from-rise.ensures,
       c.positive_part.ensures,
       c.event_energy-e.ensures,
       c.event_cells-cells.ensures.0,

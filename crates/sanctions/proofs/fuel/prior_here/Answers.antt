@@ -1,15 +1,14 @@
-use mathlib.Core.Path.{◌≡◌}
+use mathlib.Core.Path.{refl}
 use native.Mathlib.Omega.{arith}
-use Rattle.binary.proofs.BoundedLaws.{any_none, any_more}
+use borrow.Author.Rules.{rules}
+use borrow.Author.Tests.{tests}
+use Rattle.std.proofs.lemmas.Iterator.{YieldsList-from_range}
+use Rattle.binary.proofs.ChainLaws.{any_in_range}
+use Rattle.sanctions.specs.StageTables.{fuel_row_counts}
 use Rattle.sanctions.proofs.fuel.prior_here.Goals as goal
-
-pub loop-j-init : goal.loop-j-init
-loop-j-init c = (omega arith, any_none _)
-
-pub loop-j-preserved : goal.loop-j-preserved
-loop-j-preserved c = (omega arith, rw (c.loop-j.invariant.1, c.is_prior-any.ensures, any_more))
 
 pub returns : goal.returns
 returns c =
-    let e : c.loop-j.j ≡ c.args.i = omega arith in
-    rw (c.loop-j.invariant.1, e)
+    let a = c.args in
+    any_in_range (fuel_row_counts a.case.format a.case.events.now a.groups.now a.penalties.now a.day a.group) a.i _ _ _ _ (YieldsList-from_range 0 _ _ refl (omega arith))
+    c.any.ensures.ran (λ x b q k. search (rules, tests))

@@ -1,16 +1,19 @@
-use mathlib.Core.Path.{◌≡◌}
+use Prim.Native.Nat.{ℕ}
 use native.Mathlib.Omega.{arith}
-use Rattle.binary.proofs.BoundedLaws.{any_none, any_more}
+use mathlib.Core.Path.{◌≡◌, refl, ap, ◌∙◌}
+use borrow.Author.Rules.{rules}
+use borrow.Author.Tests.{tests}
+use Rattle.std.proofs.lemmas.Iterator.{YieldsList-from_range}
+use Rattle.binary.specs.Bounded.{any_to}
+use Rattle.binary.proofs.ChainLaws.{any_in_range}
 use Rattle.casefile.specs.Decode.{past_in}
+use Rattle.sanctions.specs.StageTables.{fuel_entry_counts}
 use Rattle.sanctions.proofs.fuel.prior_past.Goals as goal
-
-pub loop-j-init : goal.loop-j-init
-loop-j-init c = (omega arith, any_none _)
-
-pub loop-j-preserved : goal.loop-j-preserved
-loop-j-preserved c = (omega arith, rw (c.loop-j.invariant.1, c.is_prior_entry-any.ensures, any_more))
 
 pub returns : goal.returns
 returns c =
-    let e : c.loop-j.j ≡ (past_in c.args.past.now).count = omega arith in
-    rw (c.loop-j.invariant.1, e)
+    let a = c.args in
+    let count : c.entry_count.result ≡ (past_in a.case.past.now).count = c.entry_count.ensures in
+    any_in_range (fuel_entry_counts a.case.past.now a.day a.group) c.entry_count.result _ _ _ _ (YieldsList-from_range 0 _ _ refl (omega arith))
+    c.any.ensures.ran (λ x b q k. search (rules, tests))
+    ∙ ap (λ (n : ℕ). any_to n (fuel_entry_counts a.case.past.now a.day a.group)) count

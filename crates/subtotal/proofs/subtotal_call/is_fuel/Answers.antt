@@ -11,11 +11,11 @@ event_at-event-requires c = omega (arith, c.if-i-event_count.true, c.event_count
 pub returns-then-i-event_count : goal.returns-then-i-event_count
 returns-then-i-event_count c =
     let a = c.args in
-    let l : a.i < (events_in a.format a.events.now).count = omega (arith, c.if-i-event_count.true, c.event_count.ensures) in
+    let l : a.i < (events_in a.case.format a.case.events.now).count = omega (arith, c.if-i-event_count.true, c.event_count.ensures) in
     rw (lt-ltb _ _ l, kind_here _ _ _ _ c.event_at-event.ensures)
 
 pub returns : goal.returns
 returns c =
     let a = c.args in
-    let l : (events_in a.format a.events.now).count ≤ a.i = omega (arith, c.if-i-event_count.false, c.event_count.ensures) in
+    let l : (events_in a.case.format a.case.events.now).count ≤ a.i = omega (arith, c.if-i-event_count.false, c.event_count.ensures) in
     rw (le-ltb _ _ l)

@@ -3,4 +3,4 @@ use Rattle.tariff.proofs.conduct_tests.group_limit.Goals as goal
 
 pub returns : goal.returns
 unfolding group_limit
-returns c = rw c.choose_u64.ensures
+returns c = rw c.choose.ensures

@@ -1,11 +1,6 @@
-use native.Mathlib.Omega.{arith}
 use Rattle.tariff.specs.ConductTests.{increase}
 use Rattle.tariff.proofs.conduct_tests.increase.Goals as goal
 
-pub returns-then-reference-a : goal.returns-then-reference-a
+pub returns : goal.returns
 unfolding increase
-returns-then-reference-a c = rw (← c.positive_part-a.ensures)
-
-pub returns-else-reference-a : goal.returns-else-reference-a
-unfolding increase
-returns-else-reference-a c = rw (← c.positive_part-a.ensures) (omega arith)
+returns c = rw (c.saturating_sub.ensures, c.positive_part.ensures)

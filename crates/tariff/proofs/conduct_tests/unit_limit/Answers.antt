@@ -3,4 +3,4 @@ use Rattle.tariff.proofs.conduct_tests.unit_limit.Goals as goal
 
 pub returns : goal.returns
 unfolding unit_limit
-returns c = rw c.choose_u32.ensures
+returns c = rw c.choose.ensures

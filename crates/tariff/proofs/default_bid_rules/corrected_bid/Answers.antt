@@ -3,4 +3,4 @@ use Rattle.tariff.proofs.default_bid_rules.corrected_bid.Goals as goal
 
 pub returns : goal.returns
 unfolding corrected_bid
-returns c = rw (c.choose_u32.ensures, c.restores.ensures, c.default_bid-kept.ensures, c.choose_u32-restored.ensures, c.lesser-low.ensures)
+returns c = rw (c.choose.ensures, c.restores.ensures, c.default_bid-kept.ensures, c.choose-restored.ensures, c.lesser-low.ensures)

@@ -3,4 +3,4 @@ use Rattle.tariff.proofs.default_bid_rules.default_bid.Goals as goal
 
 pub returns : goal.returns
 unfolding default_bid
-returns c = rw (c.choose_u32.ensures, c.lesser-low.ensures, c.greater-high.ensures)
+returns c = rw (c.choose.ensures, c.lesser-low.ensures, c.greater-high.ensures)

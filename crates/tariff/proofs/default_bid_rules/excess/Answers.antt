@@ -13,7 +13,7 @@ overflow_cast-result c =
             arith,
             positive_lt 32 a.x,
             negative_le 32 a.y (omega arith),
-            c.difference.ensures,
+            c.saturating_sub.ensures,
             c.negative_part.ensures,
             c.positive_part.ensures,
           );
@@ -21,4 +21,4 @@ overflow_cast-result c =
 
 pub returns : goal.returns
 unfolding excess
-returns c = rw (c.difference.ensures, c.negative_part-2.ensures, c.positive_part-2.ensures, c.negative_part.ensures, c.positive_part.ensures)
+returns c = rw (c.saturating_sub.ensures, c.negative_part-2.ensures, c.positive_part-2.ensures, c.negative_part.ensures, c.positive_part.ensures)

@@ -4,12 +4,7 @@ use Rattle.binary.proofs.BoundedLaws.{first_none, first_more}
 use Rattle.tariff.proofs.default_bid_rules.first_hour.Goals as goal
 
 pub loop-h-init : goal.loop-h-init
-loop-h-init c = (omega arith, first_none _)
+loop-h-init c = first_none _
 
 pub loop-h-preserved : goal.loop-h-preserved
-loop-h-preserved c = (omega arith, rw (c.choose_usize-first.ensures, c.bit_of-hit.ensures, c.loop-h.invariant.1, first_more))
-
-pub returns : goal.returns
-returns c =
-    let e : c.loop-h.h ≡ c.args.n = omega arith in
-    rw (c.loop-h.invariant.1, e)
+loop-h-preserved c = rw (c.choose-first.ensures, c.bit_of-hit.ensures, c.loop-h.invariant, first_more)

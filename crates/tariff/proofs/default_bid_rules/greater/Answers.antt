@@ -3,4 +3,4 @@ use Rattle.tariff.proofs.default_bid_rules.greater.Goals as goal
 
 pub returns : goal.returns
 unfolding greater
-returns c = rw (c.choose_u32.ensures, c.at_most.ensures)
+returns c = rw (c.choose.ensures, c.at_most.ensures)

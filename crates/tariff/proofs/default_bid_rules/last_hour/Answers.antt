@@ -4,12 +4,7 @@ use Rattle.binary.proofs.BoundedLaws.{last_none, last_more}
 use Rattle.tariff.proofs.default_bid_rules.last_hour.Goals as goal
 
 pub loop-h-init : goal.loop-h-init
-loop-h-init c = (omega arith, last_none _)
+loop-h-init c = last_none _
 
 pub loop-h-preserved : goal.loop-h-preserved
-loop-h-preserved c = (omega arith, rw (c.choose_usize-last.ensures, c.bit_of.ensures, c.loop-h.invariant.1, last_more))
-
-pub returns : goal.returns
-returns c =
-    let e : c.loop-h.h ≡ c.args.n = omega arith in
-    rw (c.loop-h.invariant.1, e)
+loop-h-preserved c = rw (c.choose-last.ensures, c.bit_of.ensures, c.loop-h.invariant, last_more)

@@ -3,4 +3,4 @@ use Rattle.tariff.proofs.default_bid_rules.make_up.Goals as goal
 
 pub returns : goal.returns
 unfolding make_up
-returns c = rw (c.choose_u64.ensures, c.cents.ensures)
+returns c = rw (c.choose.ensures, c.cents.ensures)

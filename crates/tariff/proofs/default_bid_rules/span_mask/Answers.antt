@@ -10,4 +10,4 @@ run_end-requires c = omega (arith, first_bound c.args.n (bit_of c.args.hits), c.
 
 pub returns : goal.returns
 unfolding span_mask spanned
-returns c = rw (c.hours_between.ensures, c.larger-end.ensures, c.run_end.ensures, c.last_hour-last.ensures, c.first_hour-first.ensures)
+returns c = rw (c.hours_between.ensures, c.max-end.ensures, c.run_end.ensures, c.last_hour-last.ensures, c.first_hour-first.ensures)

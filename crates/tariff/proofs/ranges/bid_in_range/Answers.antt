@@ -3,4 +3,4 @@ use Rattle.tariff.proofs.ranges.bid_in_range.Goals as goal
 
 pub returns : goal.returns
 unfolding bid_in_range
-returns c = rw (c.choose_bool.ensures, c.choose_u32.ensures, c.is_within-signed.ensures)
+returns c = rw (c.choose-2.ensures, c.choose.ensures, c.is_within-signed.ensures)

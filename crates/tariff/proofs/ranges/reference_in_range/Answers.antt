@@ -3,4 +3,4 @@ use Rattle.tariff.proofs.ranges.reference_in_range.Goals as goal
 
 pub returns : goal.returns
 unfolding reference_in_range
-returns c = rw c.choose_u32.ensures
+returns c = rw c.choose.ensures

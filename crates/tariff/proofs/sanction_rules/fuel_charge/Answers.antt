@@ -24,4 +24,4 @@ overflow_mul-m-2 c = omega (arith, down c)
 
 pub returns : goal.returns
 unfolding fuel_charge
-returns c = (c.difference.ensures, omega (arith, c.difference.ensures, up c.before))
+returns c = (c.saturating_sub.ensures, omega (arith, c.saturating_sub.ensures, up c.before))

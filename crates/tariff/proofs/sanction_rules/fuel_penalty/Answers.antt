@@ -7,10 +7,6 @@ pub returns-then-x-lt-LEAST_CHARGE : goal.returns-then-x-lt-LEAST_CHARGE
 unfolding fuel_penalty
 returns-then-x-lt-LEAST_CHARGE c = rw (← c.fuel_charge-x.ensures.0, lt-ltb c.fuel_charge-x.result least_charge (omega (arith, c.if-x-lt-LEAST_CHARGE.true)))
 
-pub cents-requires : goal.cents-requires
-unfolding fuel_penalty
-cents-requires c = (omega arith, omega (arith, c.fuel_charge-x.ensures.1))
-
 pub returns : goal.returns
 unfolding fuel_penalty
 returns c = rw (c.cents.ensures, ← c.fuel_charge-x.ensures.0, le-ltb c.fuel_charge-x.result least_charge (omega (arith, c.if-x-lt-LEAST_CHARGE.false)))

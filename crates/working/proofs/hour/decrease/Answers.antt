@@ -3,4 +3,4 @@ use Rattle.working.proofs.hour.decrease.Goals as goal
 
 pub returns : goal.returns
 unfolding decrease
-returns c = rw (c.difference.ensures, c.positive_part-a.ensures, c.negative_part-below.ensures)
+returns c = rw (c.saturating_sub.ensures, c.positive_part-a.ensures, c.negative_part-below.ensures)

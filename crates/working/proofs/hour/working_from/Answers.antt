@@ -3,4 +3,4 @@ use Rattle.working.proofs.hour.working_from.Goals as goal
 
 pub returns : goal.returns
 unfolding working_from
-returns c = rw (c.choose_u64.ensures, c.choose_u32.ensures, c.decrease-down.ensures, c.increase-up.ensures, c.comparisons_for-comparisons.ensures)
+returns c = rw (c.choose-2.ensures, c.choose.ensures, c.decrease-down.ensures, c.increase-up.ensures, c.comparisons_for-comparisons.ensures)

@@ -1,0 +1,5 @@
+use Rattle.binary.proofs.ByteLaws.{value_add}
+use Rattle.binary.proofs.bytes.U32LittleEndian.read.Goals as goal
+
+pub returns : goal.returns
+returns c = simp (c.from-2.ensures, c.from.ensures, c.load-high.ensures, c.load-low.ensures, value_add 2 2)

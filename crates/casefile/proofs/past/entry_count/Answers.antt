@@ -1,6 +1,0 @@
-use Rattle.casefile.specs.Decode.{past_in}
-use Rattle.casefile.proofs.past.entry_count.Goals as goal
-
-pub returns : goal.returns
-unfolding past_in
-returns c = rw c.count_of.ensures

@@ -1,6 +1,0 @@
-use Rattle.casefile.specs.Decode.{entry_spare_fine}
-use Rattle.casefile.proofs.past.entry_spare_fine.Goals as goal
-
-pub returns : goal.returns
-unfolding entry_spare_fine
-returns c = rw (c.load_u16-spare.ensures, c.entry_record-entry.ensures.0)
