@@ -6,7 +6,8 @@ use mathlib.Core.Path.{◌≡◌, refl, sym, ap, ap₂, subst, ◌∙◌}
 use native.Mathlib.Omega.{arith}
 use lib.Dec.{ltb, eqb}
 use borrow.Author.Tests.{ne_eqb}
-use Rattle.std.proofs.Common.{Option, Some, None, Ok, Err, cond}
+use Rattle.std.proofs.Common.{Option, Some, None, Result, Ok, Err, cond}
+use Rattle.limits.specs.Numbers.{refusal_number}
 use Rattle.limits.specs.StageRefusal.{events_in_calendar}
 use Rattle.limits.specs.declared.refusal.Refusal.{Refusal}
 use Rattle.limits.specs.declared.refusal.Refusal.TheVariants.{EventFields}
@@ -120,15 +121,26 @@ unfolding event_at
 read_dated format s i e same = ap (λ (x : Event). has_period x.day x.period) same
 
 -- the order of one event more
-pub order_turn : (key : ℕ → ℕ) (i last k : ℕ) (rising : Bool) → rising ≡ all_to i (rises key) → (0 < i → last ≡ key (i - 1)) → k ≡ key i
+pub rising_turn : (key : ℕ → ℕ) (i last k : ℕ) (rising : Bool) → rising ≡ all_to i (rises key) → (0 < i → last ≡ key (i - 1)) → k ≡ key i
     → (rising && (eqb i 0 || ltb last k)) ≡ all_to (i + 1) (rises key)
 unfolding rises
-order_turn key i last k rising f before e =
+rising_turn key i last k rising f before e =
     ap₂ ◌&&◌ f (above i before ∙ ap (λ (x : ℕ). eqb i 0 || ltb (key (i - 1)) x) e) ∙ sym (all_more i (rises key))
   where
     above : (j : ℕ) → (0 < j → last ≡ key (j - 1)) → (eqb j 0 || ltb last k) ≡ (eqb j 0 || ltb (key (j - 1)) k)
     above zero l = refl
     above (suc j) l = ap (λ (x : ℕ). eqb (suc j) 0 || ltb x k) (l (omega arith))
+
+-- the same of the number that it is refused with
+pub order_turn : (key : ℕ → ℕ) (i last k order : ℕ) → order ≡ unless (all_to i (rises key)) 11 0 → (0 < i → last ≡ key (i - 1)) → k ≡ key i
+    → unless (eqb i 0 || ltb last k) 11 order ≡ unless (all_to (i + 1) (rises key)) 11 0
+order_turn key i last k order f before e =
+    rw f (either (all_to i (rises key)) (eqb i 0 || ltb last k)) ∙ ap (λ (t : Bool). unless t 11 0) (rising_turn key i last k (all_to i (rises key)) refl before e)
+  where
+    either : (a b : Bool) → unless b 11 (unless a 11 0) ≡ unless (a && b) 11 0
+    either true b = refl
+    either false true = refl
+    either false false = refl
 
 -- ---- what one look at each event finds
 
@@ -148,3 +160,20 @@ pub read : (format : Format) (s : List ℕ) (o : EventOrder) → Ok o ≡ order_
     → (events_fine format s ≡ true) × (o ≡ record { dated = events_in_calendar (events_in format s); rising = order_fine (events_in format s) })
 unfolding order_of
 read format s o h = order_found _ _ o h
+
+-- the number of the first of limits 10, 19 and 11 that the events break, of themselves alone
+abbrev pub order_number : Result EventOrder Refusal → ℕ
+order_number (Ok o) = unless o.dated 19 (unless o.rising 11 0)
+order_number (Err r) = refusal_number r
+
+pub order_numbered : (format : Format) (s : List ℕ)
+    → order_number (order_of format s)
+    ≡ unless (events_fine format s) 10 (unless (events_in_calendar (events_in format s)) 19 (unless (order_fine (events_in format s)) 11 0))
+unfolding order_of
+order_numbered format s = go (events_fine format s)
+  where
+    go : (b : Bool)
+        → order_number (cond b (Ok (record { dated = events_in_calendar (events_in format s); rising = order_fine (events_in format s) })) (Err EventFields))
+        ≡ unless b 10 (unless (events_in_calendar (events_in format s)) 19 (unless (order_fine (events_in format s)) 11 0))
+    go true = refl
+    go false = refl

@@ -8,7 +8,7 @@ use Rattle.casefile.specs.Decode.{events_in, amounts_in}
 use Rattle.limits.specs.StageRefusal.{events_in_calendar}
 use Rattle.limits.specs.Refusal.{event_fine, events_fine, event_key, order_fine}
 use Rattle.event_check.specs.StageReading.{order_of}
-use Rattle.event_check.proofs.EventLaws.{readable, unreadable, read_day, read_unit, read_key, read_dated, order_turn}
+use Rattle.event_check.proofs.EventLaws.{readable, unreadable, read_day, read_unit, read_key, read_dated, rising_turn}
 use Rattle.event_check.proofs.event_limits.order_refusal.Goals as goal
 
 pub loop-i-init : goal.loop-i-init
@@ -46,7 +46,7 @@ loop-i-preserved c =
     let k : c.event_key-key.result ≡ event_key (events_in a.case.format s) l.i = c.event_key-key.ensures ∙ read_key a.case.format s l.i _ t.1 in
     let q : l.i + 1 - 1 ≡ l.i = omega arith in (
       rw (all_more, l.invariant.0) t.0,
-      order_turn (event_key (events_in a.case.format s)) l.i l.last c.event_key-key.result l.rising l.invariant.1 l.invariant.2 k,
+      rising_turn (event_key (events_in a.case.format s)) l.i l.last c.event_key-key.result l.rising l.invariant.1 l.invariant.2 k,
       λ z. rw q k,
       rw (l.invariant.3, c.has_period-dated.ensures, read_dated a.case.format s l.i _ t.1, all_more),
     )
