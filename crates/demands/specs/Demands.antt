@@ -11,7 +11,6 @@ use Rattle.sanctions.specs.Penalties.{total_penalty}
 use Rattle.default_bids.specs.Mitigation.{total_make_up}
 use Rattle.settlement.specs.Row.{row_of}
 use Rattle.settlement.specs.Settled.{answer_of, settlement_of, answer_of_settlement, rows_after}
-use Rattle.calls.specs.Answers.{refusal_of}
 use Rattle.calls.specs.declared.answers.Refusal.{Refusal}
 use Rattle.settlement.specs.declared.settle.Settled.{Settled}
 use Rattle.worse_conduct.specs.Changes.{Change, apply_all, TakesAll}
@@ -33,7 +32,7 @@ module _ (file correction rows : List ℕ) (answer : Result Settled Refusal) (af
     pub accepts : MeetsAll (limits file correction (length rows))
         → answer
         ≡ Ok (record { rows = (decode file).events.count; penalties = total_penalty (decode file); make_ups = total_make_up (decode file) (correct_in file correction) })
-    pub refuses : (m : ℕ) → DecidedBy (limits file correction (length rows)) m → answer ≡ Err (refusal_of m)
+    pub refuses : (m : ℕ) → DecidedBy (limits file correction (length rows)) m → answer ≡ Err (record { number = m })
     pub untouched : (m : ℕ) → DecidedBy (limits file correction (length rows)) m → after ≡ rows
 
   -- Demand 2. Where the case is accepted, the rows buffer is the row of each event as the documents state it, from the first event

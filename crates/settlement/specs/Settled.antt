@@ -7,7 +7,6 @@ use Rattle.limits.specs.Refusal.{refusal}
 use Rattle.sanctions.specs.Penalties.{total_penalty}
 use Rattle.default_bids.specs.Mitigation.{total_make_up}
 use Rattle.settlement.specs.Row.{rows_of}
-use Rattle.calls.specs.Answers.{number_of, refusal_of}
 use Rattle.calls.specs.declared.answers.Refusal.{Refusal}
 use Rattle.settlement.specs.declared.settle.Settled as settle
 
@@ -23,13 +22,13 @@ refused_answer n = record { number = n; row_count = 0; penalties = 0; make_ups =
 
 -- the number and the values of each of the call's answers
 abbrev pub answer_of_settlement : Result settle.Settled Refusal → SettlementAnswer
-answer_of_settlement (Err r) = refused_answer (number_of r)
+answer_of_settlement (Err r) = refused_answer r.number
 answer_of_settlement (Ok s) = record { number = 0; row_count = s.rows; penalties = s.penalties; make_ups = s.make_ups }
 
 -- the call's answer: a refusal exactly where the number is not 0
 unfoldable pub settlement_of : SettlementAnswer → Result settle.Settled Refusal
 settlement_of a =
-    cond (eqb a.number 0) (Ok (record { rows = a.row_count; penalties = a.penalties; make_ups = a.make_ups })) (Err (refusal_of a.number))
+    cond (eqb a.number 0) (Ok (record { rows = a.row_count; penalties = a.penalties; make_ups = a.make_ups })) (Err (record { number = a.number }))
 
 unfoldable pub accepted : (file correction : List ℕ) → SettlementAnswer
 accepted f k =

@@ -1,7 +1,6 @@
-use mathlib.Core.Path.{◌≡◌, ap, ◌∙◌, sym}
+use mathlib.Core.Path.{◌≡◌, ◌∙◌, sym}
 use native.Mathlib.Omega.{arith}
 use lib.ListN.{length}
-use Rattle.std.proofs.Common.{Err}
 use Rattle.limits.specs.Refusal.{refusal}
 use Rattle.limits.proofs.RefusalLaws.{refusal_not_0}
 use Rattle.limits.proofs.AcceptedLaws as case
