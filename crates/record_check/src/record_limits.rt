@@ -11,6 +11,7 @@ use casefile::case::Case;
 use limits::refusal::Refusal;
 
 // Held to these limits, in checking order; of the events to that of their numbers alone.
+#[tactic(auto, unfolding(limits::specs::StageRefusal::records_refusal))]
 pub fn records_refusal(case: Case, correction: &[u8]) -> Result<(), Refusal>
     ensures { number_in result ≡ records_refusal case.entry.format case.entry.units.now case.entry.references.now correction.now case.entry.past.now case.entry.events.now 0 }
 {

@@ -93,6 +93,7 @@ pub fn withheld_fails(a: u32, capability: u32, s: u32, g: u32, tight: bool) -> R
 }
 
 // Whether undelivered megawatts fail the conduct test; rate is the unit's response rate.
+#[tactic(auto, using(calls::proofs::AnswerLaws::ok_if, calls::proofs::AnswerLaws::verdict_given), unfolding(crate::specs::ConductCalls::dispatch_answer, calls::specs::Answers::answer, calls::specs::Answers::verdict_of, calls::specs::Answers::bit))]
 pub fn dispatch_fails(a: u32, rate: u32, s: u32, tight: bool) -> Result<bool, Refusal>
     ensures { result ≡ verdict_of (dispatch_answer a rate s tight) }
 {
