@@ -6,15 +6,14 @@ use mathlib.Core.Path.{◌≡◌, refl, sym, ap, ap₂, subst, ◌∙◌}
 use native.Mathlib.Omega.{arith}
 use lib.Dec.{ltb, eqb}
 use borrow.Author.Tests.{ne_eqb}
-use Rattle.std.proofs.Common.{Option, Some, None, Result, Ok, Err, cond}
-use Rattle.limits.specs.Numbers.{refusal_number}
+use Rattle.std.proofs.Common.{Option, Some, None, Ok, Err, cond}
 use Rattle.limits.specs.StageRefusal.{events_in_calendar}
 use Rattle.limits.specs.declared.refusal.Refusal.{Refusal}
 use Rattle.limits.specs.declared.refusal.Refusal.TheVariants.{EventFields}
 use Rattle.event_check.specs.declared.event_limits.EventOrder.{EventOrder}
 use Rattle.binary.specs.Bounded.{all_to}
 use Rattle.binary.specs.Lists.{Bytes}
-use Rattle.binary.proofs.BoundedLaws.{all_more, all_true}
+use Rattle.binary.proofs.BoundedLaws.{all_more, all_true, all_false}
 use Rattle.calendar.specs.Periods.{has_period}
 use Rattle.tariff.specs.Ranges.{highest_day}
 use Rattle.casefile.specs.declared.layout.Format.{Format}
@@ -26,7 +25,7 @@ use Rattle.casefile.specs.StageRead.{cell_of, event_at}
 use Rattle.casefile.specs.declared.events.Event.{Event}
 use Rattle.limits.specs.Refusal.{event_numbers_fine, rises, fields_fine, cell_fine, hour_fine, event_fine, events_fine, order_fine, event_key, within_capability, unless}
 use Rattle.limits.proofs.RangeLaws.{event_range, number_lt}
-use Rattle.event_check.specs.StageReading.{cell_fine_at, amount_within, key_of, number_of, read_if, read_event, order_of}
+use Rattle.event_check.specs.StageReading.{cell_fine_at, amount_within, key_of, number_of, read_if, read_event, order_of, order_number}
 
 -- ---- the cells, read in the part where they begin
 
@@ -98,6 +97,20 @@ pub unreadable : (format : Format) (s : List ℕ) (i : ℕ) → read_event forma
 unfolding read_event
 unreadable format s i h = unreadable_of _ _ h
 
+-- an event that can't be read refuses all of them
+unreadable_among : (format : Format) (s : List ℕ) (i : ℕ) → i < (events_in format s).count → read_event format s i ≡ None → events_fine format s ≡ false
+unfolding events_fine
+unreadable_among format s i p h =
+    all_false (events_in format s).count i (event_fine (events_in format s) (amounts_in format s)) p (unreadable format s i h)
+
+pub order_unreadable : (format : Format) (s : List ℕ) (i : ℕ) → i < (events_in format s).count → read_event format s i ≡ None → Err EventFields ≡ order_of format s
+unfolding order_of
+order_unreadable format s i p h = rw (unreadable_among format s i p h)
+
+pub number_unreadable : (format : Format) (s : List ℕ) (i : ℕ) → i < (events_in format s).count → read_event format s i ≡ None
+    → 10 ≡ unless (events_fine format s) 10 (unless (events_in_calendar (events_in format s)) 19 (unless (order_fine (events_in format s)) 11 0))
+number_unreadable format s i p h = rw (unreadable_among format s i p h)
+
 -- ---- from one limit to the next
 
 pub read_day : (format : Format) (s : List ℕ) (i : ℕ) (e : Event) → event_fine (events_in format s) (amounts_in format s) i ≡ true → e ≡ event_at (events_in format s) i → e.day ≤ highest_day
@@ -120,27 +133,36 @@ pub read_dated : (format : Format) (s : List ℕ) (i : ℕ) (e : Event) → e �
 unfolding event_at
 read_dated format s i e same = ap (λ (x : Event). has_period x.day x.period) same
 
--- the order of one event more
-pub rising_turn : (key : ℕ → ℕ) (i last k : ℕ) (rising : Bool) → rising ≡ all_to i (rises key) → (0 < i → last ≡ key (i - 1)) → k ≡ key i
-    → (rising && (eqb i 0 || ltb last k)) ≡ all_to (i + 1) (rises key)
+both_rise : (a b : Bool) → unless b 11 (unless a 11 0) ≡ unless (a && b) 11 0
+both_rise true b = refl
+both_rise false true = refl
+both_rise false false = refl
+
+-- the order of one event more, by the number that the events are refused with
+pub order_turn : (key : ℕ → ℕ) (i last k order : ℕ) → order ≡ unless (all_to i (rises key)) 11 0 → (0 < i → last ≡ key (i - 1)) → k ≡ key i
+    → unless (eqb i 0 || ltb last k) 11 order ≡ unless (all_to (i + 1) (rises key)) 11 0
 unfolding rises
-rising_turn key i last k rising f before e =
-    ap₂ ◌&&◌ f (above i before ∙ ap (λ (x : ℕ). eqb i 0 || ltb (key (i - 1)) x) e) ∙ sym (all_more i (rises key))
+order_turn key i last k order f before e =
+    ap₂ (λ (t : Bool) (x : ℕ). unless t 11 x) (above i before ∙ ap (λ (x : ℕ). eqb i 0 || ltb (key (i - 1)) x) e) f
+    ∙ both_rise (all_to i (rises key)) (rises key i)
+    ∙ ap (λ (t : Bool). unless t 11 0) (sym (all_more i (rises key)))
   where
     above : (j : ℕ) → (0 < j → last ≡ key (j - 1)) → (eqb j 0 || ltb last k) ≡ (eqb j 0 || ltb (key (j - 1)) k)
     above zero l = refl
     above (suc j) l = ap (λ (x : ℕ). eqb (suc j) 0 || ltb x k) (l (omega arith))
 
--- the same of the number that it is refused with
-pub order_turn : (key : ℕ → ℕ) (i last k order : ℕ) → order ≡ unless (all_to i (rises key)) 11 0 → (0 < i → last ≡ key (i - 1)) → k ≡ key i
-    → unless (eqb i 0 || ltb last k) 11 order ≡ unless (all_to (i + 1) (rises key)) 11 0
-order_turn key i last k order f before e =
-    rw f (either (all_to i (rises key)) (eqb i 0 || ltb last k)) ∙ ap (λ (t : Bool). unless t 11 0) (rising_turn key i last k (all_to i (rises key)) refl before e)
+-- the same of whether they rise, which the number tells
+pub rising_turn : (key : ℕ → ℕ) (i last k : ℕ) (rising : Bool) → rising ≡ all_to i (rises key) → (0 < i → last ≡ key (i - 1)) → k ≡ key i
+    → (rising && (eqb i 0 || ltb last k)) ≡ all_to (i + 1) (rises key)
+rising_turn key i last k rising f before e =
+    told (rising && (eqb i 0 || ltb last k)) (all_to (i + 1) (rises key))
+    (sym (both_rise rising (eqb i 0 || ltb last k)) ∙ order_turn key i last k (unless rising 11 0) (ap (λ (t : Bool). unless t 11 0) f) before e)
   where
-    either : (a b : Bool) → unless b 11 (unless a 11 0) ≡ unless (a && b) 11 0
-    either true b = refl
-    either false true = refl
-    either false false = refl
+    told : (a b : Bool) → unless a 11 0 ≡ unless b 11 0 → a ≡ b
+    told true true h = refl
+    told true false h = cc
+    told false true h = cc
+    told false false h = refl
 
 -- ---- what one look at each event finds
 
@@ -160,11 +182,6 @@ pub read : (format : Format) (s : List ℕ) (o : EventOrder) → Ok o ≡ order_
     → (events_fine format s ≡ true) × (o ≡ record { dated = events_in_calendar (events_in format s); rising = order_fine (events_in format s) })
 unfolding order_of
 read format s o h = order_found _ _ o h
-
--- the number of the first of limits 10, 19 and 11 that the events break, of themselves alone
-abbrev pub order_number : Result EventOrder Refusal → ℕ
-order_number (Ok o) = unless o.dated 19 (unless o.rising 11 0)
-order_number (Err r) = refusal_number r
 
 pub order_numbered : (format : Format) (s : List ℕ)
     → order_number (order_of format s)

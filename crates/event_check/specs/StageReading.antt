@@ -4,7 +4,8 @@ use Rattle.casefile.specs.declared.layout.Format.{Format}
 use Rattle.casefile.specs.Decode.{events_in, amounts_in}
 use Rattle.casefile.specs.declared.events.Event.{Event}
 use Rattle.casefile.specs.StageRead.{cell_of, event_at}
-use Rattle.limits.specs.Refusal.{cell_fine, event_fine, events_fine, order_fine}
+use Rattle.limits.specs.Refusal.{cell_fine, event_fine, events_fine, order_fine, unless}
+use Rattle.limits.specs.Numbers.{refusal_number}
 use Rattle.limits.specs.StageRefusal.{events_in_calendar}
 use Rattle.limits.specs.declared.refusal.Refusal.{Refusal}
 use Rattle.limits.specs.declared.refusal.Refusal.TheVariants.{EventFields}
@@ -38,3 +39,8 @@ read_event format s i = read_if (event_fine (events_in format s) (amounts_in for
 unfoldable pub order_of : Format → (events : List ℕ) → Result EventOrder Refusal
 order_of format s =
     cond (events_fine format s) (Ok (record { dated = events_in_calendar (events_in format s); rising = order_fine (events_in format s) })) (Err EventFields)
+
+-- the number of the first of limits 10, 19 and 11 that the events break, of themselves alone
+abbrev pub order_number : Result EventOrder Refusal → ℕ
+order_number (Ok o) = unless o.dated 19 (unless o.rising 11 0)
+order_number (Err r) = refusal_number r

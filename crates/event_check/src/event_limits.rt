@@ -8,8 +8,9 @@ ghost use Rattle.casefile.specs.Lookup.{correct_references, reads_correct, bid_l
 ghost use Rattle.casefile.specs.Sections.{units_of, events_of};
 ghost use Rattle.limits.specs.StageLookup.{UnitsInOrder, InOrder, level_in, correct_level};
 ghost use Rattle.limits.specs.Numbers.{number_in};
-ghost use Rattle.limits.specs.Refusal.{event_numbers_fine, quantities_fine, fields_fine, event_fine, events_listed, amount_fine, amounts_fine, references_found, unless as unless_of};
-ghost use Rattle.event_check.specs.StageReading.{key_of, number_of, read_event, order_of};
+ghost use Rattle.limits.specs.Refusal.{event_numbers_fine, quantities_fine, fields_fine, event_fine, events_fine, events_listed, amount_fine, amounts_fine, order_fine, references_found, unless as unless_of};
+ghost use Rattle.limits.specs.StageRefusal.{events_in_calendar};
+ghost use Rattle.event_check.specs.StageReading.{key_of, number_of, read_event, order_of, order_number};
 ghost use Rattle.event_check.specs.StageFound.{event_place, EventLevels};
 
 use crate::cell_limits::{amounts_within, cells_fine};
@@ -110,10 +111,14 @@ pub struct EventOrder {
     pub rising: bool,
 }
 
-// One look at each event: refused where one can't be read.
+// One look at each event: refused where one can't be read. Its number is 10 there, else 19 where a day or a period is not the calendar's,
+// else 11 where one is out of order, else 0.
+#[tactic(auto, using(crate::proofs::EventLaws::order_unreadable, crate::proofs::EventLaws::number_unreadable))]
 pub fn order_refusal(case: Case) -> Result<EventOrder, Refusal>
     requires { event_numbers_fine case.format case.events.now ≡ true }
-    ensures { result ≡ order_of case.entry.format case.entry.events.now }
+    ensures value { result ≡ order_of case.entry.format case.entry.events.now }
+    ensures number { order_number result ≡ unless_of (events_fine case.entry.format case.entry.events.now) 10
+        (unless_of (events_in_calendar (events_of case.entry)) 19 (unless_of (order_fine (events_of case.entry)) 11 0)) }
 {
     let mut dated = true;
     let mut rising = true;

@@ -13,19 +13,19 @@ pub returns-in_err-order : goal.returns-in_err-order
 unfolding fields_refusal
 returns-in_err-order c =
     let s = c.args in
-    let u = unread s.case.format s.case.events.now _ (sym c.in_err-order.was ∙ c.order_refusal.ensures) in
+    let u = unread s.case.format s.case.events.now _ (sym c.in_err-order.was ∙ c.order_refusal.ensures.value) in
     rw u.0 (err_number _ _ c.from_residual.ensures.1 ∙ ap refusal_number u.1)
 
 pub calendar_refusal-requires : goal.calendar_refusal-requires
 calendar_refusal-requires c =
     let s = c.args in
-    ap (λ (x : EventOrder). x.dated) (read s.case.format s.case.events.now _ (sym c.in_ok-order.was ∙ c.order_refusal.ensures)).1
+    ap (λ (x : EventOrder). x.dated) (read s.case.format s.case.events.now _ (sym c.in_ok-order.was ∙ c.order_refusal.ensures.value)).1
 
 pub returns-in_err-calendar_refusal : goal.returns-in_err-calendar_refusal
 unfolding fields_refusal
 returns-in_err-calendar_refusal c =
     let s = c.args in
-    let o = read s.case.format s.case.events.now _ (sym c.in_ok-order.was ∙ c.order_refusal.ensures) in
+    let o = read s.case.format s.case.events.now _ (sym c.in_ok-order.was ∙ c.order_refusal.ensures.value) in
     let broken = c.in_err-calendar_refusal.ensures in
     rw o.0
     (err_number _ _ c.from_residual-in_err-calendar_refusal.ensures.1
@@ -37,7 +37,7 @@ pub returns-then-order : goal.returns-then-order
 unfolding fields_refusal
 returns-then-order c =
     let s = c.args in
-    let o = read s.case.format s.case.events.now _ (sym c.in_ok-order.was ∙ c.order_refusal.ensures) in
+    let o = read s.case.format s.case.events.now _ (sym c.in_ok-order.was ∙ c.order_refusal.ensures.value) in
     let d = passed (days_fine (past_in s.case.past.now) (events_in s.case.format s.case.events.now)) 17 _ (sym c.in_ok-calendar_refusal.ensures) in
     let p = passed (periods_fine (past_in s.case.past.now) (events_in s.case.format s.case.events.now)) 18 _ d.1 in
     let rising : order_fine (events_in s.case.format s.case.events.now) ≡ true = sym (ap (λ (x : EventOrder). x.rising) o.1) ∙ c.if-order.true in
@@ -47,7 +47,7 @@ pub returns : goal.returns
 unfolding fields_refusal
 returns c =
     let s = c.args in
-    let o = read s.case.format s.case.events.now _ (sym c.in_ok-order.was ∙ c.order_refusal.ensures) in
+    let o = read s.case.format s.case.events.now _ (sym c.in_ok-order.was ∙ c.order_refusal.ensures.value) in
     let d = passed (days_fine (past_in s.case.past.now) (events_in s.case.format s.case.events.now)) 17 _ (sym c.in_ok-calendar_refusal.ensures) in
     let p = passed (periods_fine (past_in s.case.past.now) (events_in s.case.format s.case.events.now)) 18 _ d.1 in
     let rising : order_fine (events_in s.case.format s.case.events.now) ≡ false = sym (ap (λ (x : EventOrder). x.rising) o.1) ∙ c.if-order.false in

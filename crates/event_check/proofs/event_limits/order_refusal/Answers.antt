@@ -1,29 +1,20 @@
 use Prim.Native.Nat.{◌+◌, ◌-◌}
 use mathlib.Core.Bool.{true}
-use mathlib.Core.Path.{◌≡◌, sym, ◌∙◌}
+use mathlib.Core.Path.{◌≡◌, sym, ap, ◌∙◌}
 use native.Mathlib.Omega.{arith}
+use Rattle.std.proofs.Common.{Ok}
 use Rattle.binary.specs.Bounded.{all_to}
-use Rattle.binary.proofs.BoundedLaws.{all_none, all_more, all_false}
+use Rattle.binary.proofs.BoundedLaws.{all_none, all_more}
 use Rattle.casefile.specs.Decode.{events_in, amounts_in}
 use Rattle.limits.specs.StageRefusal.{events_in_calendar}
 use Rattle.limits.specs.Refusal.{event_fine, events_fine, event_key, order_fine}
-use Rattle.event_check.specs.StageReading.{order_of}
-use Rattle.event_check.proofs.EventLaws.{readable, unreadable, read_day, read_unit, read_key, read_dated, rising_turn}
+use Rattle.event_check.specs.StageReading.{order_of, order_number}
+use Rattle.event_check.proofs.EventLaws.{readable, read_day, read_unit, read_key, read_dated, rising_turn, order_numbered}
 use Rattle.event_check.proofs.event_limits.order_refusal.Goals as goal
 
 pub loop-i-init : goal.loop-i-init
 unfolding order_of events_fine order_fine events_in_calendar
 loop-i-init c = (sym (all_none _), all_none _, λ z. absurd (omega arith), all_none _)
-
-pub returns-in_default : goal.returns-in_default
-unfolding order_of events_fine order_fine events_in_calendar
-returns-in_default c =
-    let l = c.loop-i in
-    let a = c.args in
-    let s = a.case.events.now in
-    rw
-    (all_false (events_in a.case.format s).count l.i (event_fine (events_in a.case.format s) (amounts_in a.case.format s)) (omega arith)
-    (unreadable a.case.format s l.i (sym c.read_event.ensures.0 ∙ c.in_default.is)))
 
 pub event_key-key-requires : goal.event_key-key-requires
 unfolding order_of events_fine order_fine events_in_calendar
@@ -59,4 +50,5 @@ returns c =
     let s = a.case.events.now in
     let e : l.i ≡ (events_in a.case.format s).count = omega arith in
     let f : all_to (events_in a.case.format s).count (event_fine (events_in a.case.format s) (amounts_in a.case.format s)) ≡ true = rw e at l.invariant.0 in
-    rw (l.invariant.1, l.invariant.3, e, f)
+    let value : Ok (record { dated = l.dated; rising = l.rising }) ≡ order_of a.case.format s = rw (l.invariant.1, l.invariant.3, e, f) in
+    record { value = value; number = ap order_number value ∙ order_numbered a.case.format s }

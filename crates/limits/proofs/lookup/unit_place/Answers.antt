@@ -2,10 +2,11 @@ use mathlib.Core.Path.{◌≡◌, sym, ◌∙◌}
 use mathlib.Core.Bool.{true, false}
 use native.Mathlib.Omega.{arith}
 use borrow.Author.Tests.{eq-eqb, ne_eqb}
+use lib.Dec.{eqb}
 use Rattle.casefile.specs.Decode.{units_in}
-use Rattle.casefile.specs.Lookup.{is_listed}
+use Rattle.casefile.specs.Lookup.{is_listed, place_of}
 use Rattle.limits.specs.StageLookup.{place_in}
-use Rattle.limits.proofs.SearchLaws.{listed_at, listed_none, unit_place}
+use Rattle.limits.proofs.SearchLaws.{listed_at, listed_none, placed_at}
 use Rattle.limits.proofs.lookup.unit_place.Goals as goal
 
 pub unit_from-at-requires : goal.unit_from-at-requires
@@ -15,9 +16,11 @@ pub returns-then-listed : goal.returns-then-listed
 unfolding place_in
 returns-then-listed c =
     let u = units_in c.args.case.format c.args.case.units.now in
-    let listed : is_listed u c.args.number ≡ true =
-    sym (listed_at u c.args.number c.requires c.unit_from-at.result c.unit_from-at.ensures (omega arith)) ∙ eq-eqb _ _ (rw c.unit_number.ensures at c.if-listed.true) in
-    rw (listed, unit_place u c.args.number c.requires c.unit_from-at.result c.unit_from-at.ensures listed)
+    let at = c.unit_from-at.result in
+    let same : eqb (u.number at) c.args.number ≡ true = eq-eqb _ _ (rw c.unit_number.ensures at c.if-listed.true) in
+    let listed : is_listed u c.args.number ≡ true = sym (listed_at u c.args.number c.requires at c.unit_from-at.ensures (omega arith)) ∙ same in
+    let place : at ≡ place_of u c.args.number = rw same at (placed_at u c.args.number c.requires at c.unit_from-at.ensures (omega arith)) in
+    rw (listed, ← place)
 
 pub returns-else-listed : goal.returns-else-listed
 unfolding place_in
