@@ -1,6 +1,6 @@
 // Tests, sums, masks and rows over the numbers below a bound, of what a closure answers for each.
 ghost use Rattle.std.specs.Prelude.{◌≡◌, ℕ, Bool, ◌*◌, ◌^◌, ◌<◌, ◌≤◌, ◌++◌, drop, length, slice_index_or};
-ghost use Rattle.binary.specs.Bounded.{all_to, sum_to, mask_to};
+ghost use Rattle.binary.specs.Bounded.{all_to, any_to, sum_to, mask_to};
 ghost use Rattle.binary.specs.Lists.{list_to};
 ghost use Rattle.binary.specs.StageClosures.{CallableTo, Computes, StaysWithin};
 
@@ -16,6 +16,18 @@ pub fn all_to<F: Fn(usize) -> bool>(n: usize, test: F) -> bool
         all = all & test(i);
     }
     all
+}
+
+// Whether some number below n passes. Each is asked, as above, where `(0..n).any(test)` ends at the first that passes.
+pub fn any_to<F: Fn(usize) -> bool>(n: usize, test: F) -> bool
+    requires { CallableTo n (F.pre test) }
+    ensures { (p : ℕ → Bool) → Computes n (F.post test) p → result ≡ any_to n p }
+{
+    let mut any = false;
+    for i in 0..n {
+        any = any | test(i);
+    }
+    any
 }
 
 // The terms of the numbers below n, added: each is at most `most`, so that the sum fits.

@@ -1,8 +1,7 @@
 -- What the sections of a case file hold, read by its format: the struct that the readers take.
-use Rattle.std.specs.Prelude.{ℕ}
 use Rattle.casefile.specs.declared.case.Case.{Case}
-use Rattle.casefile.specs.Case.{Units, References, Past, Events}
-use Rattle.casefile.specs.Decode.{units_in, references_in, past_in, events_in, amounts_in}
+use Rattle.casefile.specs.Case.{Units, Past, Events}
+use Rattle.casefile.specs.Decode.{units_in, past_in, events_in}
 
 abbrev pub units_of : Case → Units
 units_of c = units_in c.format c.units.now

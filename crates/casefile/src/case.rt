@@ -18,6 +18,29 @@ pub struct Case<'a> {
 }
 
 impl<'a> Case<'a> {
+    // The case of sections that lie anywhere: nothing is asked of them.
+    pub fn of_sections(
+        format: Format,
+        units: &'a [u8],
+        references: &'a [u8],
+        past: &'a [u8],
+        events: &'a [u8],
+    ) -> Case<'a>
+        ensures format { result.format ≡ format }
+        ensures units { result.units.now ≡ units.now }
+        ensures references { result.references.now ≡ references.now }
+        ensures past { result.past.now ≡ past.now }
+        ensures events { result.events.now ≡ events.now }
+    {
+        Case {
+            format,
+            units,
+            references,
+            past,
+            events,
+        }
+    }
+
     // The case of a file: each section a stretch of the file itself.
     pub fn of(file: &'a [u8]) -> Case<'a>
         requires units { HasSection file.now 0 }
@@ -30,12 +53,12 @@ impl<'a> Case<'a> {
         ensures past { result.past.now ≡ section_of file.now 2 }
         ensures events { result.events.now ≡ section_of file.now 3 }
     {
-        Case {
-            format: format_of(file),
-            units: section(file, 0),
-            references: section(file, 1),
-            past: section(file, 2),
-            events: section(file, 3),
-        }
+        Case::of_sections(
+            format_of(file),
+            section(file, 0),
+            section(file, 1),
+            section(file, 2),
+            section(file, 3),
+        )
     }
 }

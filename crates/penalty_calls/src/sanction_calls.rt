@@ -6,7 +6,7 @@ ghost use Rattle.tariff.specs.DefaultBidRules.{day_hours};
 ghost use Rattle.calls.specs.Answers.{verdict_of, figure_of};
 ghost use Rattle.penalty_calls.specs.SanctionCalls.{bad_hours, amount_at, bad_revenues, revenue_at, multiplier_answer, withheld_penalty_answer, dispatch_penalty_answer, fuel_penalty_answer, fuel_day_answer, period_of_answer, period_answer};
 
-use binary::bounded::sum_to;
+use binary::bounded::{any_to, sum_to};
 use binary::numbers::product;
 use binary::words::Word;
 use calendar::{periods, table};
@@ -33,8 +33,9 @@ fn bad_hours(a: &[u32], b: &[u32]) -> bool
     if n != b.len() {
         return true;
     }
-    let any = (0..n).any(|h| (ranges::HIGHEST_CAPABILITY < a[h])
-        | !b[h].is_within(ranges::HIGHEST_PRICE));
+    let any = any_to(n, |h| {
+        (ranges::HIGHEST_CAPABILITY < a[h]) | !b[h].is_within(ranges::HIGHEST_PRICE)
+    });
     (ranges::HOURS < n) | any
 }
 
@@ -60,7 +61,7 @@ pub fn withheld_penalty(multiplier: u8, a: &[u32], b: &[u32]) -> Result<u64, Ref
 fn bad_revenues(b: &[u32]) -> bool
     ensures { result ≡ bad_revenues b.now }
 {
-    let any = (0..b.len()).any(|h| ranges::HIGHEST_REVENUE < b[h]);
+    let any = any_to(b.len(), |h| ranges::HIGHEST_REVENUE < b[h]);
     (ranges::HOURS < b.len()) | any
 }
 

@@ -1,4 +1,4 @@
-use Rattle.std.proofs.Common.{arith, ◌≡◌}
+use Rattle.std.proofs.Common.{◌≡◌}
 use Rattle.binary.proofs.BoundedLaws.{all_none, all_more}
 use Rattle.binary.proofs.bounded.all_to.Goals as goal
 
