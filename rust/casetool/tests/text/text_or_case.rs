@@ -207,9 +207,10 @@ fn utf_16_is_named() {
     assert_eq!((ran.status, ran.text().ends_with(hint)), (1, true));
 }
 
-/// That a text is refused with this number, and where: the line after the number's.
-fn refused(number: u8, text: &str, place: &str) {
-    let path = file_with("text-or-case.refused", text.as_bytes());
+/// That a text is refused with this number, and where: the line after the number's. The file is the test's own, since tests
+/// run side by side.
+fn refused(file: &str, number: u8, text: &str, place: &str) {
+    let path = file_with(&format!("text-or-case.{file}"), text.as_bytes());
     for arguments in [
         &["check"][..],
         &["settle"],
@@ -252,7 +253,7 @@ fn a_refusal_of_a_record_has_its_line_and_column() {
             "FILE: line 4, column 19: past, record 0 (group 7, dispatch, Real-Time): kind is 2 (dispatch); expected 1 (withheld) or 3 (fuel)",
         ),
     ] {
-        refused(number, &text, place);
+        refused("record", number, &text, place);
     }
 }
 
@@ -287,7 +288,7 @@ fn a_refusal_of_an_event_has_its_line_and_column() {
             "FILE: line 4, column 17: event 0 (day 8000, bids, Day-Ahead, unit 12, energy): the references have none for unit 12, component energy",
         ),
     ] {
-        refused(number, &text, place);
+        refused("event", number, &text, place);
     }
 }
 
@@ -296,6 +297,7 @@ fn a_field_that_was_left_out_has_the_line_of_its_record() {
     // Two equal events are told apart by no field: the last that they have in common is the component, which is not there.
     let events = format!("{WITHHELD} 12\n  {WITHHELD} 12\n");
     refused(
+        "left-out",
         11,
         &format!("order as-written\nunit 12 group 7 area no capability 1\n{events}"),
         "FILE: line 4, column 3: event 1 (day 8000, withheld, Day-Ahead, unit 12): the same as event 0; events have to rise strictly by day, kind, market, unit, component",
@@ -329,7 +331,7 @@ fn a_refusal_of_a_day_or_a_period_has_its_line_and_column() {
             "FILE: line 4, column 11: event 0 (day 36525, withheld, Day-Ahead, unit 12): day is 36,525 (1 January 2100); expected 0 to 36,524 (31 December 2099)",
         ),
     ] {
-        refused(number, &text, place);
+        refused("day", number, &text, place);
     }
 }
 
